@@ -1,0 +1,4 @@
+pub mod TestLaws
+pub mod RangeLaws
+pub mod LoopLaws
+pub mod CountLaws

@@ -1,0 +1,100 @@
+-- A loop that tests the numbers from i to e - 1 in turn: what its next turn, its early end and its end say of `every` and `lowest`,
+-- and what these two say of each number.
+use Prim.Native.Nat.{ℕ, zero, suc, _+_, _-_, _≤_, _<_}
+use mathlib.Core.Path.{_≡_, refl, sym, _∙_}
+use mathlib.Core.Bool.{Bool, true, false, _&&_}
+use native.Mathlib.Omega.{arith}
+use native.Mathlib.Decide.{ℕ-discrete}
+use native.Mathlib.Nat.{add-zero}
+use native.Mathlib.Numerals.{add-one}
+use Rattle.basics.specs.Choice.{_when_else_}
+use Rattle.basics.specs.Ranges.{one, count, every, lowest}
+use Rattle.basics.proofs.TestLaws.{by-cases, and-left, and-right, and-of}
+
+module _ (P : ℕ → Bool) (e i : ℕ) where
+  module _ (h : i < e) where
+    one-more : e - i ≡ suc (e - (i + 1))
+    one-more = omega arith
+
+    pub every-next : P i ≡ true → every P i (e - i) ≡ every P (i + 1) (e - (i + 1))
+    unfolding every
+    every-next t = rw (one-more, t)
+
+    pub every-stop : P i ≡ false → every P i (e - i) ≡ false
+    unfolding every
+    every-stop t = rw (one-more, t)
+
+    pub lowest-next : P i ≡ false → lowest P i (e - i) ≡ lowest P (i + 1) (e - (i + 1))
+    unfolding lowest
+    lowest-next t = rw (one-more, t)
+
+    pub lowest-stop : P i ≡ true → lowest P i (e - i) ≡ i
+    unfolding lowest
+    lowest-stop t = rw (one-more, t)
+
+  module _ (h : e ≤ i) where
+    none-left : e - i ≡ 0
+    none-left = omega arith
+
+    pub every-end : every P i (e - i) ≡ true
+    unfolding every
+    every-end = rw none-left
+
+    pub lowest-end : lowest P i (e - i) ≡ i
+    unfolding lowest
+    lowest-end = rw none-left
+
+module _ (P : ℕ → Bool) where
+  -- each number from i to i + n is i or after it
+  next : (Q : ℕ → Type 0) (n i p : ℕ) → i ≤ p → p < i + suc n → (p ≡ i → Q p) → (i + 1 ≤ p → p < i + 1 + n → Q p) → Q p
+  next Q n i p a b y m = go (ℕ-discrete p i)
+    where
+      go : Dec (p ≡ i) → Q p
+      go (yes e) = y e
+      go (no d) = m (omega arith) (omega arith)
+
+  pub every-at : (i n : ℕ) → every P i n ≡ true → (p : ℕ) → i ≤ p → p < i + n → P p ≡ true
+  unfolding every
+  every-at i zero h p a b = absurd (omega arith)
+  every-at i (suc n) h p a b =
+      next (λ p. P p ≡ true) n i p a b (λ e. rw e (and-left (P i) (every P (i + 1) n) h))
+      (λ c d. every-at (i + 1) n (and-right (P i) (every P (i + 1) n) h) p c d)
+
+  pub every-of : (i n : ℕ) → ((p : ℕ) → i ≤ p → p < i + n → P p ≡ true) → every P i n ≡ true
+  unfolding every
+  every-of i zero h = refl
+  every-of i (suc n) h = and-of (h i (omega arith) (omega arith)) (every-of (i + 1) n (λ p a b. h p (omega arith) (omega arith)))
+
+  -- the lowest lies in the range or at its end
+  pub lowest-range : (a n : ℕ) → (a ≤ lowest P a n) × (lowest P a n ≤ a + n)
+  unfolding lowest
+  lowest-range a zero = (omega arith, omega arith)
+  lowest-range a (suc n) =
+      by-cases (P a) (λ e. rw (e, lowest) (omega arith, omega arith))
+      (λ e. rw (e, lowest) (omega (arith, lowest-range (a + 1) n .0), omega (arith, lowest-range (a + 1) n .1)))
+
+  -- none before it passes
+  pub lowest-least : (a n i : ℕ) → a ≤ i → i < lowest P a n → P i ≡ false
+  unfolding lowest
+  lowest-least a zero i h k = absurd (omega arith)
+  lowest-least a (suc n) i h k =
+      by-cases (P a) (λ e. absurd (omega (arith, rw (e, lowest) at k)))
+      (λ e. next (λ p. P p ≡ false) (lowest P (a + 1) n) a i h (omega (arith, rw (e, lowest) at k)) (λ t. rw t e) (λ c d. lowest-least (a + 1) n i c (rw (e, lowest) at k)))
+
+  -- it passes, where it is not the end
+  pub lowest-passes : (a n : ℕ) → lowest P a n < a + n → P (lowest P a n) ≡ true
+  unfolding lowest
+  lowest-passes a zero h = absurd (omega arith)
+  lowest-passes a (suc n) h =
+      by-cases (P a) (λ e. rw (e, lowest) e) (λ e. rw (e, lowest) (lowest-passes (a + 1) n (omega (arith, rw (e, lowest) at h))))
+
+-- a loop that counts
+pub count-next : (P : ℕ → Bool) (i : ℕ) → count P (i + 1) ≡ count P i + one (P i)
+unfolding count
+count-next P i = rw (add-one i)
+
+pub count-more : (P : ℕ → Bool) (i n : ℕ) → n ≡ count P i → P i ≡ true → n + 1 ≡ count P (i + 1)
+count-more P i n h t = rw (count-next P i, t, h)
+
+pub count-same : (P : ℕ → Bool) (i n : ℕ) → n ≡ count P i → P i ≡ false → n ≡ count P (i + 1)
+count-same P i n h t = rw (count-next P i, t, add-zero, h)

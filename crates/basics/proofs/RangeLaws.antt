@@ -1,0 +1,55 @@
+-- Laws of a range of numbers, and of a function changed on a range.
+use Prim.Native.Nat.{ℕ, zero, suc, _+_, _-_, _≤_, _<_}
+use mathlib.Core.Path.{_≡_, refl}
+use mathlib.Core.Bool.{Bool, true, false, _&&_}
+use native.Mathlib.Omega.{arith}
+use lib.Dec.{leb, ltb}
+use borrow.Author.Tests.{ltb-true, leb-true, lt-ltb, le-ltb, le-leb, lt-leb}
+use Rattle.basics.specs.Choice.{_when_else_}
+use Rattle.basics.specs.Ranges.{inside, over}
+use Rattle.basics.proofs.TestLaws.{by-cases, when-cases, and-left, and-right}
+
+pub inside-first : (a n i : ℕ) → inside a n i ≡ true → a ≤ i
+unfolding inside
+inside-first a n i h = leb-true a i (and-left (leb a i) (ltb (i - a) n) h)
+
+pub inside-end : (a n i : ℕ) → inside a n i ≡ true → i < a + n
+unfolding inside
+inside-end a n i h = omega (arith, ltb-true (i - a) n (and-right (leb a i) (ltb (i - a) n) h), inside-first a n i h)
+
+pub inside-yes : (a n i : ℕ) → a ≤ i → i < a + n → inside a n i ≡ true
+unfolding inside
+inside-yes a n i h k = simp (le-leb a i h, lt-ltb (i - a) n (omega arith))
+
+pub inside-below : (a n i : ℕ) → i < a → inside a n i ≡ false
+unfolding inside
+inside-below a n i h = simp (lt-leb a i h)
+
+pub inside-past : (a n i : ℕ) → a + n ≤ i → inside a n i ≡ false
+unfolding inside
+inside-past a n i h = simp (le-leb a i (omega arith), le-ltb (i - a) n (omega arith))
+
+-- a function changed on a range: a number is one of the n from a on, or it is as it was
+pub over-cases {ℓ ℓ′} : {A : Type ℓ} (P : A → Type ℓ′) (a n : ℕ) (g f : ℕ → A) (i : ℕ) → (inside a n i ≡ true → P (g i)) → P (f i) → P (over a n g f i)
+unfolding over
+over-cases P a n g f i new old = when-cases P (inside a n i) new (λ _. old)
+
+-- the same, where being outside helps
+pub over-split {ℓ ℓ′} : {A : Type ℓ} (P : A → Type ℓ′) (a n : ℕ) (g f : ℕ → A) (i : ℕ)
+    → (inside a n i ≡ true → P (g i)) → (inside a n i ≡ false → P (f i)) → P (over a n g f i)
+unfolding over
+over-split P a n g f i new old = when-cases P (inside a n i) new old
+
+-- two functions changed on one range
+pub over-both {ℓ ℓ′ ℓ″} : {A : Type ℓ} {B : Type ℓ′} (R : A → B → Type ℓ″) (a n : ℕ) (g f : ℕ → A) (g′ f′ : ℕ → B) (i : ℕ)
+    → R (g i) (g′ i) → R (f i) (f′ i) → R (over a n g f i) (over a n g′ f′ i)
+unfolding over
+over-both R a n g f g′ f′ i new old = by-cases (inside a n i) (λ e. rw e new) (λ e. rw e old)
+
+pub over-in {ℓ} : {A : Type ℓ} (a n : ℕ) (g f : ℕ → A) (i : ℕ) → inside a n i ≡ true → over a n g f i ≡ g i
+unfolding over
+over-in a n g f i e = rw e
+
+pub over-out {ℓ} : {A : Type ℓ} (a n : ℕ) (g f : ℕ → A) (i : ℕ) → inside a n i ≡ false → over a n g f i ≡ f i
+unfolding over
+over-out a n g f i e = rw e
