@@ -1,0 +1,86 @@
+-- From no refusal to what an accepted request meets.
+use Prim.Native.Nat.{ℕ, zero, suc, _+_, _-_, _≤_, _<_}
+use mathlib.Core.Path.{_≡_, refl}
+use mathlib.Core.Bool.{Bool, true, false, not, _&&_, _||_}
+use native.Mathlib.Omega.{arith}
+use lib.Dec.{leb, ltb, eqb}
+use borrow.Author.Tests.{leb-true, ltb-false, eqb-true, eqb-false, not-false}
+use Rattle.basics.specs.Choice.{_when_else_}
+use Rattle.basics.proofs.TestLaws.{by-cases, passed, and-left, and-right, and-not-right, or-left, or-right}
+use Rattle.basics.proofs.LoopLaws.{lowest-range, lowest-passes, lowest-least, every-at}
+use Rattle.interface.specs.declared.request.Request.{Request}
+use Rattle.interface.specs.Requests.{_is_, Open, Map, Write, Snapshot, pageOf, needsSnapshot}
+use Rattle.interface.specs.Slots.{Slots, isMapped, rightsAt, areas, allAre, gapAt, lowestGap}
+use Rattle.interface.specs.Limits.{within}
+use Rattle.interface.specs.Outcome.{firstOf, shareAfter}
+use Rattle.interface.specs.Refusals.{View, refusal, slotsThen, chargeThen}
+use Rattle.interface.specs.Accepted.{Accepted}
+
+-- the lowest gap is at most 64, and what is below 64 is a gap
+pub gap-range : (f : Slots) (n : ℕ) → lowestGap f n ≤ 64
+unfolding lowestGap
+gap-range f n = omega (arith, lowest-range (gapAt f n) 0 64 .1)
+
+pub gap-some : (f : Slots) (n : ℕ) → eqb (lowestGap f n) 64 ≡ false → lowestGap f n < 64
+gap-some f n h = omega (arith, gap-range f n, eqb-false (lowestGap f n) 64 h)
+
+pub gap-found : (f : Slots) (n : ℕ) → lowestGap f n < 64 → gapAt f n (lowestGap f n) ≡ true
+unfolding lowestGap
+gap-found f n h = lowest-passes (gapAt f n) 0 64 (omega arith)
+
+pub gap-lowest : (f : Slots) (n i : ℕ) → i < lowestGap f n → gapAt f n i ≡ false
+unfolding lowestGap
+gap-lowest f n i h = lowest-least (gapAt f n) 0 64 i (omega arith) h
+
+pub gap-fits : (f : Slots) (n : ℕ) → lowestGap f n < 64 → lowestGap f n + n ≤ 64
+gap-fits f n h = omega (arith, leb-true n (64 - lowestGap f n) (and-left (leb n (64 - lowestGap f n)) _ (gap-found f n h)))
+
+pub accepted : (v : View) (q : Request) → refusal v q ≡ 0 → Accepted v q
+unfolding refusal
+accepted v q e =
+    let r2 = passed 1 _ _ e in
+    let r4 = passed 3 _ _ (r2 .1) in
+    let r5 = passed 4 _ _ (r4 .1) in
+    let r6 = passed 5 _ _ (r5 .1) in
+    let r7 = passed 6 _ _ (r6 .1) in
+    let r8 = passed 7 _ _ (r7 .1) in
+    let r9 = passed 8 _ _ (r8 .1) in
+    let r10 = passed 9 _ _ (r9 .1) in
+    let r11 = passed 10 _ _ (r10 .1) in
+    let r12 = passed 11 _ _ (r11 .1) in
+    let r13 = passed 12 _ _ (r12 .1) in
+    let r14 = passed 13 _ _ (r13 .1) in
+    record {
+      coded = not-false _ (r2 .0);
+      inRow = ltb-false 3 (q .sandbox) (or-left _ _ (r4 .0));
+      opened = λ o. not-false _ (and-not-right (not (q is Open)) _ (or-right (ltb 3 (q .sandbox)) _ (r4 .0)) (rw o));
+      closed = λ o. and-not-right (q is Open) (v .opened) (r5 .0) o;
+      inLimits = not-false _ (r6 .0);
+      untaken = and-not-right (q is Snapshot) _ (r7 .0);
+      taken = λ o. not-false _ (and-not-right (needsSnapshot q) _ (r8 .0) o);
+      mapped = not-false _ (r9 .0);
+      free = λ o n. not-false _ (and-not-right (q is Map && not (eqb (q .p1) 64)) _ (r10 .0) (rw (o, n)));
+      hasGap = λ o n. gap-some (v .slots) (q .p2) (and-not-right (q is Map && eqb (q .p1) 64) _ (r11 .0) (rw (o, n)));
+      writable = λ o. eqb-true _ 3 (not-false _ (and-not-right (q is Write) _ (r12 .0) o));
+      pooled = λ o. ltb-false _ _ (and-not-right (q is Open) _ (or-left _ _ (r13 .0)) o);
+      charged = ltb-false _ _ (or-right (q is Open && ltb (v .frames) (v .shares + q .p1)) _ (r13 .0));
+      inAreas = ltb-false 8 _ (r14 .0);
+    }
+
+-- the pages of a map end at page 63 at the latest
+pub map-fits : (v : View) (q : Request) → Accepted v q → q .code ≡ Map → firstOf (v .slots) q + q .p2 ≤ 64
+unfolding firstOf within
+map-fits v q a e =
+    let isMap : (q is Map) ≡ true = rw e in
+    by-cases (eqb (q .p1) 64)
+    (λ t. rw (t, firstOf) (gap-fits (v .slots) (q .p2) (a .hasGap isMap t)))
+    (λ t. rw (t, firstOf) (let w = rw (e, t) at (a .inLimits) in leb-true _ 64 (search (and-left, and-right))))
+
+-- and they are unmapped before it
+pub map-unmapped : (v : View) (q : Request) → Accepted v q → q .code ≡ Map → allAre false (v .slots) (firstOf (v .slots) q) (q .p2) ≡ true
+unfolding firstOf
+map-unmapped v q a e =
+    let isMap : (q is Map) ≡ true = rw e in
+    by-cases (eqb (q .p1) 64)
+    (λ t. rw (t, firstOf) (and-right (leb (q .p2) (64 - lowestGap (v .slots) (q .p2))) _ (gap-found (v .slots) (q .p2) (a .hasGap isMap t))))
+    (λ t. rw (t, firstOf) (a .free isMap t))

@@ -1,0 +1,8 @@
+-- In reading order.
+pub mod Answers
+pub mod Requests
+pub mod Slots
+pub mod Limits
+pub mod Outcome
+pub mod Refusals
+pub mod Accepted

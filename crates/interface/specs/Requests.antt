@@ -1,0 +1,61 @@
+-- The calls by their codes, and what a request names.
+use Prim.Native.Nat.{ℕ, _/_, _%_}
+use mathlib.Core.Bool.{Bool, _&&_}
+use lib.Dec.{leb, eqb}
+use Rattle.basics.specs.Choice.{_when_else_}
+use Rattle.interface.specs.declared.page.ImagePageNo.{ImagePageNo}
+use Rattle.interface.specs.declared.page.Backing.{Backing}
+use Rattle.interface.specs.declared.page.Backing.the-variants.{Anonymous, Image}
+use Rattle.interface.specs.declared.request.Request.{Request}
+
+-- "The calls", numbered as there
+abbrev pub Open : ℕ
+Open = 1
+
+abbrev pub Map : ℕ
+Map = 2
+
+abbrev pub Unmap : ℕ
+Unmap = 3
+
+abbrev pub Protect : ℕ
+Protect = 4
+
+abbrev pub Read : ℕ
+Read = 5
+
+abbrev pub Write : ℕ
+Write = 6
+
+abbrev pub Snapshot : ℕ
+Snapshot = 7
+
+abbrev pub Rewind : ℕ
+Rewind = 8
+
+abbrev pub Report : ℕ
+Report = 9
+
+-- the request is this call
+infix 50 _is_
+abbrev pub _is_ : Request → ℕ → Bool
+q is c = eqb (q .code) c
+
+-- "call code not 1 to 9"
+abbrev pub isCall : Request → Bool
+isCall q = leb 1 (q .code) && leb (q .code) 9
+
+-- the page and the place in it of an address: "a page has 256 bytes"
+abbrev pub pageOf : Request → ℕ
+pageOf q = q .p1 / 256
+
+abbrev pub offsetOf : Request → ℕ
+offsetOf q = q .p1 % 256
+
+-- "p3 backing, 0 anonymous, 1 image; p4 first image page"
+abbrev pub backingOf : Request → Backing
+backingOf q = Anonymous when eqb (q .p3) 0 else Image (record { 0 = q .p4 })
+
+-- the calls that are refused without a snapshot
+abbrev pub needsSnapshot : Request → Bool
+needsSnapshot q = q is Rewind

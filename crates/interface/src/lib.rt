@@ -1,0 +1,6 @@
+// What the machine and its callers speak of: requests, answers, refusals, limits, and what a page is.
+// It promises document 01's number and value for each answer, and one table of refusals (specs/Refusal) that every machine decides by.
+// It stands on `basics` alone.
+pub mod answer;
+pub mod page;
+pub mod request;
