@@ -1,1 +1,5 @@
+pub mod SlotLaws
+pub mod KindLaws
 pub mod AcceptedLaws
+pub mod ChargeLaws
+pub mod RowLaws

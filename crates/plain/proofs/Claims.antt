@@ -1,0 +1,46 @@
+-- What is claimed of the plain machine (specs/Claims), proved.
+use Prim.Native.Nat.{ℕ}
+use mathlib.Core.Path.{_≡_}
+use mathlib.Core.Bool.{Bool, true}
+use mathlib.Core.List.{List, [], _∷_}
+use Rattle.interface.specs.declared.request.Request.{Request}
+use Rattle.interface.specs.Slots.{isMapped, copied}
+use Rattle.plain.specs.Machine.{Given, Core, Kept, Plain, fresh, copySlots, after, afterAll}
+use Rattle.plain.specs.Lists.{upTo, Rewound}
+use Rattle.plain.specs.Claims.{TwoLists, RewoundIsRestored, Holds, Reads, Always}
+use Rattle.plain.specs.Cases.{cases, allGiven}
+use Rattle.plain.proofs.CaseLaws.{starred-cases}
+use Rattle.plain.proofs.TwoListsLaws.{two-lists}
+use Rattle.plain.proofs.RewoundLaws.{rewound-restored}
+use Rattle.plain.proofs.KeptLaws.{holds-fresh, holds-after, frames-suffice, next-write, next-rewind}
+use Rattle.plain.proofs.ReadLaws.{reads-fresh, reads-after}
+
+-- the starred cases get their answers
+pub claim-cases : allGiven cases ≡ true
+claim-cases = starred-cases
+
+-- two lists tell a rewound sandbox the same
+pub claim-two-lists : (g : Given) → TwoLists g
+claim-two-lists = two-lists
+
+-- a rewound sandbox is as it was copied
+pub claim-rewound : (g : Given) → RewoundIsRestored g
+claim-rewound g s qs r = rewound-restored g s qs r
+
+always-of : (g : Given) (p : Plain) → Holds g p → ((s : ℕ) → Reads g (p s)) → Always g p
+always-of g p h r = record {
+  holds = h;
+  reads = r;
+  covered = λ s. frames-suffice (p s) (h .each s);
+  nextWrite = next-write g p h;
+  nextRewind = next-rewind g p h;
+}
+
+always-all : (g : Given) (qs : List Request) (p : Plain) → Holds g p → ((s : ℕ) → Reads g (p s)) → Always g (afterAll g p qs)
+unfolding afterAll
+always-all g [] p h r = always-of g p h r
+always-all g (q ∷ qs) p h r = always-all g qs (after g p q) (holds-after g p q h) (reads-after g p q h r)
+
+-- the limits, what pages read, and the next write and rewind, after every list
+pub claim-always : (g : Given) (qs : List Request) → Always g (upTo g qs)
+claim-always g qs = always-all g qs fresh (holds-fresh g) (reads-fresh g)

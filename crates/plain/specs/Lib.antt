@@ -1,0 +1,5 @@
+-- In reading order: the machine, lists of requests, what is claimed, the starred cases.
+pub mod Machine
+pub mod Lists
+pub mod Claims
+pub mod Cases
