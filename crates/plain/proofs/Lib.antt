@@ -5,3 +5,4 @@ pub mod RewoundLaws
 pub mod KeptLaws
 pub mod ReadLaws
 pub mod Claims
+pub mod Corollaries

@@ -1,13 +1,14 @@
 -- What is claimed of the plain machine, for every list from fresh. proofs/Claims proves each.
 use Prim.Native.Nat.{ℕ, _+_, _/_, _≤_, _<_}
 use mathlib.Core.Path.{_≡_}
-use mathlib.Core.Bool.{Bool, true, false}
+use mathlib.Core.Bool.{Bool, true, false, _||_}
 use mathlib.Core.List.{List, [], _∷_, _++_}
 use mathlib.Core.Option.{Option, some, none}
+use lib.Dec.{eqb}
 use lib.ListN.{length}
 use Rattle.basics.specs.Ranges.{count}
 use Rattle.interface.specs.declared.request.Request.{Request}
-use Rattle.interface.specs.Requests.{Write, Snapshot, Rewind, pageOf}
+use Rattle.interface.specs.Requests.{_is_, Open, Read, Write, Snapshot, Rewind, Report, pageOf}
 use Rattle.interface.specs.Slots.{isMapped, isCommitted, isUncommitted, rightsAt, backingAt, areas, mappedPages, chargeOf, copied}
 use Rattle.interface.specs.Limits.{within}
 use Rattle.interface.specs.Refusals.{isTaken}
@@ -99,3 +100,22 @@ pub record Always (g : Given) (p : Plain) : Type 0 where
   pub covered : (s : ℕ) → Covered (p s)
   pub nextWrite : NextWrite g p
   pub nextRewind : NextRewind g p
+
+-- ---- what people quote
+
+-- a refused call changes nothing
+abbrev pub RefusedChangesNothing : Given → Type 0
+RefusedChangesNothing g = (p : Plain) (q : Request) → eqb (numberAt g p q) 0 ≡ false → after g p q ≡ p
+
+-- reads and reports change nothing
+abbrev pub ReadsChangeNothing : Given → Type 0
+ReadsChangeNothing g = (p : Plain) (q : Request) → (q is Read || q is Report) ≡ true → after g p q ≡ p
+
+-- rewinding twice is rewinding once
+abbrev pub RewindTwice : Given → Type 0
+RewindTwice g = (qs : List Request) (q : Request) → (q is Rewind) ≡ true → after g (after g (upTo g qs) q) q ≡ after g (upTo g qs) q
+
+-- only open can be refused because of another sandbox: any other call is refused alike where its own sandbox is alike
+abbrev pub OnlyOpenMeetsOthers : Given → Type 0
+OnlyOpenMeetsOthers g =
+    (p p′ : Plain) (q : Request) → (q is Open) ≡ false → p (q .sandbox) .core ≡ p′ (q .sandbox) .core → numberAt g p q ≡ numberAt g p′ q

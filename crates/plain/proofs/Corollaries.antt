@@ -1,0 +1,82 @@
+-- Small theorems that people quote (specs/Claims), proved.
+use Prim.Native.Nat.{ℕ, _+_, _≤_}
+use mathlib.Core.Path.{_≡_, refl, sym, ap, _∙_, fun-ext}
+use mathlib.Core.Bool.{Bool, true, false, _&&_, _||_}
+use mathlib.Core.List.{List}
+use lib.Dec.{eqb}
+use borrow.Author.Tests.{eqb-true, eq-eqb}
+use Rattle.basics.specs.Choice.{_when_else_}
+use Rattle.basics.proofs.TestLaws.{by-cases, when-cases, both-ways, and-left, and-right, and-of}
+use Rattle.interface.specs.declared.request.Request.{Request}
+use Rattle.interface.specs.Requests.{_is_, Open, Read, Rewind, Report}
+use Rattle.interface.specs.Slots.{isMapped, isCommitted, copied}
+use Rattle.interface.specs.Outcome.{slotsAfter, copyAfter}
+use Rattle.interface.specs.Refusals.{refusal}
+use Rattle.interface.proofs.AcceptedLaws.{accepted}
+use Rattle.plain.specs.Machine.{Given, Core, Traces, Kept, Plain, copySlots, copyBytes, viewOf, shares, bytesAfter, frontAfter, backAfter, copiedBackAfter, coreAfter, keptAfter, put, numberAt, after}
+use Rattle.plain.specs.Lists.{upTo}
+use Rattle.plain.specs.Claims.{Keeps, Reads, RefusedChangesNothing, ReadsChangeNothing, RewindTwice, OnlyOpenMeetsOthers}
+use Rattle.plain.proofs.Claims.{claim-always}
+
+pub refused-changes-nothing : (g : Given) → RefusedChangesNothing g
+unfolding after
+refused-changes-nothing g p q e = rw e
+
+-- a sandbox put back as it was
+put-same : (s : ℕ) (p : Plain) → put s (p s) p ≡ p
+put-same s p = fun-ext λ t. by-cases (eqb s t) (λ e. rw (e, eqb-true s t e)) (λ e. rw e)
+
+-- an accepted request that changes no field
+idle : (g : Given) (p : Plain) (q : Request) → (numberAt g p q ≡ 0 → keptAfter g q (p (q .sandbox)) ≡ p (q .sandbox)) → after g p q ≡ p
+unfolding after
+idle g p q h =
+    when-cases (λ (x : Plain). x ≡ p) (eqb (numberAt g p q) 0) (λ e. ap (λ (k : Kept). put (q .sandbox) k p) (h (eqb-true _ 0 e)) ∙ put-same (q .sandbox) p) (λ _. refl)
+
+opened-already : (g : Given) (p : Plain) (q : Request) → numberAt g p q ≡ 0 → (q is Open) ≡ false → true ≡ p (q .sandbox) .core .opened
+opened-already g p q n o = sym (accepted _ q n .opened o)
+
+read-or-report : (q : Request) (c : ℕ) → q .code ≡ c → eqb c Open ≡ false → (q is Open) ≡ false
+read-or-report q c e n = rw e n
+
+pub reads-change-nothing : (g : Given) → ReadsChangeNothing g
+unfolding slotsAfter bytesAfter copyAfter frontAfter backAfter copiedBackAfter
+reads-change-nothing g p q e =
+    idle g p q (λ n.
+    by-cases (q is Read)
+    (λ r. let opened = opened-already g p q n (read-or-report q Read (eqb-true _ _ r) refl) in rw (eqb-true (q .code) Read r, opened))
+    (λ r. let report = eqb-true (q .code) Report (rw r at e) in let opened = opened-already g p q n (read-or-report q Report report refl) in rw (report, opened)))
+
+pub only-open-meets-others : (g : Given) → OnlyOpenMeetsOthers g
+unfolding refusal
+only-open-meets-others g p p′ q o e = rw (o, e)
+
+-- what an accepted request leaves of its sandbox
+accepted-kept : (g : Given) (p : Plain) (q : Request) → numberAt g p q ≡ 0 → after g p q (q .sandbox) ≡ keptAfter g q (p (q .sandbox))
+unfolding after
+accepted-kept g p q n = rw (n, eq-eqb (q .sandbox) (q .sandbox) refl)
+
+-- a front that stays at a rewind stays at the next: its page is committed in the snapshot too
+front-stays : (g : Given) (k : Kept) → Keeps k → Reads g k → (i : ℕ)
+    → (k .traces .front i && isCommitted (k .core .pages .slots i) && isCommitted (copied (copySlots (k .core)) i)) ≡ (k .traces .front i && isCommitted (k .core .pages .slots i))
+front-stays g k h r i =
+    both-ways _ _ (λ e. and-left (k .traces .front i && isCommitted (k .core .pages .slots i)) _ e)
+    (λ e. and-of e (r .marked i (h .committedIn i (and-right (k .traces .front i) _ e))))
+
+rewound-kept : (g : Given) (q : Request) (k : Kept) → Keeps k → Reads g k → q .code ≡ Rewind → keptAfter g q (keptAfter g q k) ≡ keptAfter g q k
+unfolding slotsAfter bytesAfter copyAfter frontAfter backAfter copiedBackAfter
+rewound-kept g q k h r e =
+    rw e
+    (ap
+    (λ (front : ℕ → Bool). record {
+      core = record { opened = true; share = k .core .share; pages = record { slots = copied (copySlots (k .core)); bytes = copyBytes (k .core .copy) }; copy = k .core .copy };
+      traces = record { front = front; back = k .traces .copiedBack; copiedBack = k .traces .copiedBack };
+    })
+    (fun-ext (λ i. front-stays g k h r i)))
+
+pub rewind-twice : (g : Given) → RewindTwice g
+rewind-twice g qs q e =
+    let p = upTo g qs in
+    let always = claim-always g qs in
+    by-cases (eqb (numberAt g p q) 0)
+    (λ n. idle g (after g p q) q (λ _. rw (accepted-kept g p q (eqb-true _ 0 n)) (rewound-kept g q (p (q .sandbox)) (always .holds .each (q .sandbox)) (always .reads (q .sandbox)) (eqb-true (q .code) Rewind e))))
+    (λ n. ap (λ (x : Plain). after g x q) (refused-changes-nothing g p q n))
