@@ -2,3 +2,4 @@ pub mod TestLaws
 pub mod RangeLaws
 pub mod LoopLaws
 pub mod CountLaws
+pub mod ListLaws

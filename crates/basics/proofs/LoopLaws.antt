@@ -1,13 +1,12 @@
 -- A loop that tests the numbers from i to e - 1 in turn: what its next turn, its early end and its end say of `every` and `lowest`,
 -- and what these two say of each number.
 use Prim.Native.Nat.{ℕ, zero, suc, _+_, _-_, _≤_, _<_}
-use mathlib.Core.Path.{_≡_, refl, sym, _∙_}
-use mathlib.Core.Bool.{Bool, true, false, _&&_}
+use mathlib.Core.Path.{_≡_, refl}
+use mathlib.Core.Bool.{Bool, true, false}
 use native.Mathlib.Omega.{arith}
 use native.Mathlib.Decide.{ℕ-discrete}
 use native.Mathlib.Nat.{add-zero}
 use native.Mathlib.Numerals.{add-one}
-use Rattle.basics.specs.Choice.{_when_else_}
 use Rattle.basics.specs.Ranges.{one, count, every, lowest}
 use Rattle.basics.proofs.TestLaws.{by-cases, and-left, and-right, and-of}
 

@@ -1,5 +1,5 @@
 -- A choice by a test, as a line of a table.
-use mathlib.Core.Bool.{Bool, true, false, not}
+use mathlib.Core.Bool.{Bool, true, false, not, _||_}
 
 -- x when c else y: a line of a table, and the lines below it
 infixr 10 _when_else_
@@ -14,5 +14,4 @@ same false b = not b
 
 -- b holds wherever a does
 abbrev pub implies : Bool → Bool → Bool
-implies true b = b
-implies false b = true
+implies a b = not a || b

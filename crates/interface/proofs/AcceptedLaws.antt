@@ -1,19 +1,18 @@
 -- From no refusal to what an accepted request meets.
-use Prim.Native.Nat.{ℕ, zero, suc, _+_, _-_, _≤_, _<_}
-use mathlib.Core.Path.{_≡_, refl}
-use mathlib.Core.Bool.{Bool, true, false, not, _&&_, _||_}
+use Prim.Native.Nat.{ℕ, _+_, _-_, _≤_, _<_}
+use mathlib.Core.Path.{_≡_}
+use mathlib.Core.Bool.{true, false, not, _&&_}
 use native.Mathlib.Omega.{arith}
 use lib.Dec.{leb, ltb, eqb}
 use borrow.Author.Tests.{leb-true, ltb-false, eqb-true, eqb-false, not-false}
-use Rattle.basics.specs.Choice.{_when_else_}
 use Rattle.basics.proofs.TestLaws.{by-cases, passed, and-left, and-right, and-not-right, or-left, or-right}
-use Rattle.basics.proofs.LoopLaws.{lowest-range, lowest-passes, lowest-least, every-at}
+use Rattle.basics.proofs.LoopLaws.{lowest-range, lowest-passes, lowest-least}
 use Rattle.interface.specs.declared.request.Request.{Request}
-use Rattle.interface.specs.Requests.{_is_, Open, Map, Write, Snapshot, pageOf, needsSnapshot}
-use Rattle.interface.specs.Slots.{Slots, isMapped, rightsAt, areas, allAre, gapAt, lowestGap}
+use Rattle.interface.specs.Requests.{_is_, Open, Map, Write, Snapshot, needsSnapshot}
+use Rattle.interface.specs.Slots.{Slots, allAre, gapAt, lowestGap}
 use Rattle.interface.specs.Limits.{within}
-use Rattle.interface.specs.Outcome.{firstOf, shareAfter}
-use Rattle.interface.specs.Refusals.{View, refusal, slotsThen, chargeThen}
+use Rattle.interface.specs.Outcome.{firstOf}
+use Rattle.interface.specs.Refusals.{View, refusal}
 use Rattle.interface.specs.Accepted.{Accepted}
 
 -- the lowest gap is at most 64, and what is below 64 is a gap

@@ -1,22 +1,30 @@
 -- The charge of what a call would leave, from the present charge: row 13 without counting the outcome anew.
-use Prim.Native.Nat.{ℕ, zero, suc, _+_, _-_, _*_, min, _≤_, _<_}
+use Prim.Native.Nat.{ℕ, zero, suc, _+_, _-_, _*_, min, _≤_}
 use mathlib.Core.Path.{_≡_, refl, ap, _∙_, fun-ext}
 use mathlib.Core.Bool.{Bool, true, false}
 use mathlib.Core.Option.{Option, some, none}
 use native.Mathlib.Omega.{arith}
-use lib.Dec.{leb, ltb}
+use lib.Dec.{ltb}
 use borrow.Author.Tests.{ltb-true, ltb-false}
-use Rattle.basics.specs.Choice.{_when_else_}
-use Rattle.basics.specs.Ranges.{one, count, inside, over}
+use Rattle.basics.specs.Ranges.{count, inside, over}
 use Rattle.basics.proofs.TestLaws.{by-cases}
 use Rattle.basics.proofs.RangeLaws.{inside-yes, inside-below, inside-past, over-cases}
-use Rattle.basics.proofs.CountLaws.{count-le, count-split, count-none}
+use Rattle.basics.proofs.CountLaws.{count-small, count-le, count-split, count-none}
 use Rattle.interface.specs.declared.page.Attributes.{Attributes}
 use Rattle.interface.specs.declared.page.Slot.{Slot}
-use Rattle.interface.specs.declared.page.Slot.the-variants.{Unmapped, Mapped}
+use Rattle.interface.specs.declared.page.Slot.the-variants.{Unmapped}
 use Rattle.interface.specs.Slots.{Slots, isMapped, isCommitted, isUncommitted, withRights, withCommitted, mappedPages, uncommittedPages, chargeOf, copied}
 use Rattle.interface.specs.Outcome.{pageOn}
 use Rattle.interface.proofs.SlotLaws.{mapped-rights, uncommitted-rights, mapped-commit, uncommitted-commit, uncommitted-not, one-mark, uncommitted-mapped, mark-split}
+
+-- at most 64 pages are counted
+pub mapped-small : (f : Slots) → mappedPages f ≤ 64
+unfolding mappedPages
+mapped-small f = count-small (λ i. isMapped (f i)) 64
+
+pub uncommitted-small : (f : Slots) → uncommittedPages f ≤ 64
+unfolding uncommittedPages
+uncommitted-small f = count-small (λ i. isUncommitted (f i)) 64
 
 -- how many of the n numbers from a on are below j
 inside-part : (a n j : ℕ) → count (inside a n) j + min a j ≡ min (a + n) j

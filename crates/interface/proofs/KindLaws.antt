@@ -1,7 +1,6 @@
 -- The kinds of request that change slots, bytes or marks, and the rest: what a proof by cases on the call goes through.
-use Prim.Native.Nat.{ℕ}
 use mathlib.Core.Path.{_≡_}
-use mathlib.Core.Bool.{Bool, true, false}
+use mathlib.Core.Bool.{false}
 use borrow.Author.Tests.{eqb-true}
 use Rattle.basics.proofs.TestLaws.{by-cases}
 use Rattle.interface.specs.declared.request.Request.{Request}

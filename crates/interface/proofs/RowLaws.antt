@@ -1,15 +1,13 @@
 -- Rows 13 and 14 where the limits hold already: which calls they can meet.
-use Prim.Native.Nat.{ℕ, _+_, _-_, _≤_, _<_}
-use mathlib.Core.Path.{_≡_, refl, sym, _∙_}
-use mathlib.Core.Bool.{Bool, true, false, false≢true}
+use Prim.Native.Nat.{ℕ, _-_, _≤_}
+use mathlib.Core.Path.{_≡_, sym}
+use mathlib.Core.Bool.{true, false, false≢true}
 use mathlib.Core.Option.{Option, some, none}
 use native.Mathlib.Omega.{arith}
-use lib.Dec.{ltb, eqb}
+use lib.Dec.{ltb}
 use borrow.Author.Tests.{le-ltb}
-use Rattle.basics.specs.Choice.{_when_else_}
 use Rattle.basics.specs.Ranges.{over}
-use Rattle.interface.specs.declared.page.Slot.{Slot}
-use Rattle.interface.specs.declared.page.Slot.the-variants.{Unmapped, Mapped}
+use Rattle.interface.specs.declared.page.Slot.the-variants.{Unmapped}
 use Rattle.interface.specs.declared.request.Request.{Request}
 use Rattle.interface.specs.Requests.{_is_, Open, Map, Unmap, Protect, Snapshot, Rewind}
 use Rattle.interface.specs.Slots.{Slots, isMapped, isCommitted, withRights, areas, chargeOf, copied}

@@ -1,7 +1,7 @@
 -- What an accepted request meets: no row of "Turned back" applies. (A consequence of `refusal`, proved in proofs/AcceptedLaws.)
-use Prim.Native.Nat.{ℕ, _+_, _≤_, _<_}
+use Prim.Native.Nat.{_+_, _≤_, _<_}
 use mathlib.Core.Path.{_≡_}
-use mathlib.Core.Bool.{Bool, true, false}
+use mathlib.Core.Bool.{true, false}
 use lib.Dec.{eqb}
 use Rattle.interface.specs.declared.request.Request.{Request}
 use Rattle.interface.specs.Requests.{_is_, Open, Map, Write, Snapshot, isCall, pageOf, needsSnapshot}

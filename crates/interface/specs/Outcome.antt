@@ -1,7 +1,7 @@
 -- What an accepted request leaves of a sandbox's slots, snapshot and share. Both machines, and rows 13 and 14, use these.
 use Prim.Native.Nat.{ℕ, _-_}
-use mathlib.Core.Bool.{Bool, true, false}
-use mathlib.Core.Option.{Option, some, none}
+use mathlib.Core.Bool.{false}
+use mathlib.Core.Option.{Option, some}
 use lib.Dec.{eqb}
 use Rattle.basics.specs.Choice.{_when_else_}
 use Rattle.basics.specs.Ranges.{over}

@@ -3,7 +3,6 @@ use Prim.Native.Nat.{ℕ, _/_, _%_}
 use mathlib.Core.Bool.{Bool, _&&_}
 use lib.Dec.{leb, eqb}
 use Rattle.basics.specs.Choice.{_when_else_}
-use Rattle.interface.specs.declared.page.ImagePageNo.{ImagePageNo}
 use Rattle.interface.specs.declared.page.Backing.{Backing}
 use Rattle.interface.specs.declared.page.Backing.the-variants.{Anonymous, Image}
 use Rattle.interface.specs.declared.request.Request.{Request}

@@ -5,10 +5,8 @@ use mathlib.Core.Option.{Option, some, none}
 use lib.Dec.{leb, eqb}
 use Rattle.basics.specs.Choice.{same}
 use Rattle.basics.specs.Ranges.{count, every, lowest}
-use Rattle.interface.specs.declared.page.ImagePageNo.{ImagePageNo}
 use Rattle.interface.specs.declared.page.Backing.{Backing}
 use Rattle.interface.specs.declared.page.Backing.the-variants.{Anonymous, Image}
-use Rattle.interface.specs.declared.page.Attributes.{Attributes}
 use Rattle.interface.specs.declared.page.Slot.{Slot}
 use Rattle.interface.specs.declared.page.Slot.the-variants.{Unmapped, Mapped}
 

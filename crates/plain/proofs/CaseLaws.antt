@@ -1,6 +1,6 @@
 -- The starred cases, by computation.
 use mathlib.Core.Path.{_≡_, refl}
-use mathlib.Core.Bool.{Bool, true}
+use mathlib.Core.Bool.{true}
 use Rattle.basics.specs.Ranges.{count, sum, every, lowest, inside, over}
 use Rattle.interface.specs.Slots.{follows, joins, areas, mappedPages, uncommittedPages, lowestGap, chargeOf}
 use Rattle.interface.specs.Limits.{within}

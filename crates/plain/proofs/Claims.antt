@@ -1,12 +1,12 @@
 -- What is claimed of the plain machine (specs/Claims), proved.
 use Prim.Native.Nat.{ℕ}
 use mathlib.Core.Path.{_≡_}
-use mathlib.Core.Bool.{Bool, true}
+use mathlib.Core.Bool.{true}
 use mathlib.Core.List.{List, [], _∷_}
 use Rattle.interface.specs.declared.request.Request.{Request}
-use Rattle.interface.specs.Slots.{isMapped, copied}
-use Rattle.plain.specs.Machine.{Given, Core, Kept, Plain, fresh, copySlots, after, afterAll}
-use Rattle.plain.specs.Lists.{upTo, Rewound}
+use Rattle.interface.specs.Slots.{copied}
+use Rattle.plain.specs.Machine.{Given, Plain, fresh, after, afterAll}
+use Rattle.plain.specs.Lists.{upTo}
 use Rattle.plain.specs.Claims.{TwoLists, RewoundIsRestored, Holds, Reads, Always}
 use Rattle.plain.specs.Cases.{cases, allGiven}
 use Rattle.plain.proofs.CaseLaws.{starred-cases}

@@ -1,19 +1,17 @@
 -- Small theorems that people quote (specs/Claims), proved.
-use Prim.Native.Nat.{ℕ, _+_, _≤_}
+use Prim.Native.Nat.{ℕ}
 use mathlib.Core.Path.{_≡_, refl, sym, ap, _∙_, fun-ext}
-use mathlib.Core.Bool.{Bool, true, false, _&&_, _||_}
-use mathlib.Core.List.{List}
+use mathlib.Core.Bool.{Bool, true, false, _&&_}
 use lib.Dec.{eqb}
 use borrow.Author.Tests.{eqb-true, eq-eqb}
-use Rattle.basics.specs.Choice.{_when_else_}
 use Rattle.basics.proofs.TestLaws.{by-cases, when-cases, both-ways, and-left, and-right, and-of}
 use Rattle.interface.specs.declared.request.Request.{Request}
 use Rattle.interface.specs.Requests.{_is_, Open, Read, Rewind, Report}
-use Rattle.interface.specs.Slots.{isMapped, isCommitted, copied}
+use Rattle.interface.specs.Slots.{isCommitted, copied}
 use Rattle.interface.specs.Outcome.{slotsAfter, copyAfter}
 use Rattle.interface.specs.Refusals.{refusal}
 use Rattle.interface.proofs.AcceptedLaws.{accepted}
-use Rattle.plain.specs.Machine.{Given, Core, Traces, Kept, Plain, copySlots, copyBytes, viewOf, shares, bytesAfter, frontAfter, backAfter, copiedBackAfter, coreAfter, keptAfter, put, numberAt, after}
+use Rattle.plain.specs.Machine.{Given, Kept, Plain, copySlots, copyBytes, bytesAfter, frontAfter, backAfter, copiedBackAfter, keptAfter, put, numberAt, after}
 use Rattle.plain.specs.Lists.{upTo}
 use Rattle.plain.specs.Claims.{Keeps, Reads, RefusedChangesNothing, ReadsChangeNothing, RewindTwice, OnlyOpenMeetsOthers}
 use Rattle.plain.proofs.Claims.{claim-always}

@@ -1,32 +1,28 @@
 -- What holds of every sandbox after every list: the charge and share limits, at most 8 areas, marks where they belong.
-use Prim.Native.Nat.{ℕ, zero, suc, _+_, _*_, _/_, _≤_, _<_}
-use mathlib.Core.Path.{_≡_, refl, sym, ap, _∙_}
-use mathlib.Core.Bool.{Bool, true, false, not, _&&_, _||_, false≢true}
-use mathlib.Core.Option.{Option, some, none, Option·map, Option·some-ne-none}
-use mathlib.Core.List.{List, [], _∷_}
+use Prim.Native.Nat.{ℕ, _+_, _≤_, _<_}
+use mathlib.Core.Path.{_≡_, refl, sym, ap}
+use mathlib.Core.Bool.{true, false, false≢true}
+use mathlib.Core.Option.{Option, some, none, Option·some-ne-none}
 use native.Mathlib.Omega.{arith}
-use lib.Dec.{leb, ltb, eqb}
-use lib.ListN.{length}
+use lib.Dec.{eqb}
 use borrow.Author.Tests.{eqb-true, eq-eqb, le-ltb, leb-true}
-use Rattle.basics.specs.Choice.{_when_else_}
-use Rattle.basics.specs.Ranges.{count, sum, over}
+use Rattle.basics.specs.Ranges.{sum}
 use Rattle.basics.proofs.TestLaws.{by-cases, when-cases, and-left, and-right, never}
 use Rattle.basics.proofs.RangeLaws.{inside-end, over-cases, over-both}
 use Rattle.basics.proofs.CountLaws.{count-none, sum-put}
-use Rattle.interface.specs.declared.page.Slot.{Slot}
-use Rattle.interface.specs.declared.page.Slot.the-variants.{Unmapped, Mapped}
+use Rattle.interface.specs.declared.page.Slot.the-variants.{Unmapped}
 use Rattle.interface.specs.declared.request.Request.{Request}
 use Rattle.interface.specs.Requests.{_is_, Open, Snapshot, Rewind, pageOf}
 use Rattle.interface.specs.Slots.{Slots, isMapped, isCommitted, withCommitted, areas, mappedPages, chargeOf, copied}
 use Rattle.interface.specs.Limits.{within}
-use Rattle.interface.specs.Outcome.{firstOf, slotsAfter, copyAfter, shareAfter}
-use Rattle.interface.specs.Refusals.{View, isTaken, allMapped, refusal}
+use Rattle.interface.specs.Outcome.{slotsAfter, copyAfter, shareAfter}
+use Rattle.interface.specs.Refusals.{isTaken, allMapped, refusal}
 use Rattle.interface.specs.Accepted.{Accepted}
-use Rattle.interface.proofs.SlotLaws.{mapped-rights, committed-rights, mapped-commit, committed-mapped, untaken-copied}
+use Rattle.interface.proofs.SlotLaws.{mapped-rights, committed-rights, mapped-commit, committed-mapped}
 use Rattle.interface.proofs.KindLaws.{Kind, kind, isMap, isUnmap, isProtect, isWrite, isSnapshot, isRewind, isOther}
 use Rattle.interface.proofs.AcceptedLaws.{accepted, map-fits}
 use Rattle.interface.proofs.ChargeLaws.{charge-covers}
-use Rattle.plain.specs.Machine.{Given, Pages, Core, Kept, Plain, fresh, closed, copySlots, frontAfter, backAfter, copiedBackAfter, keptAfter, pagesAfter, viewOf, shares, put, numberAt, after, afterAll}
+use Rattle.plain.specs.Machine.{Given, Kept, Plain, fresh, closed, copySlots, frontAfter, backAfter, copiedBackAfter, keptAfter, viewOf, shares, put, numberAt, after}
 use Rattle.plain.specs.Claims.{Keeps, Holds, Covered, NextWrite, NextRewind}
 
 -- the slots of the copy that an accepted request leaves

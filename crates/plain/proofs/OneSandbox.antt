@@ -1,11 +1,10 @@
 -- A request and one sandbox: it leaves the others as they were, and what it does to its own core and answers, the value of a report apart,
 -- comes from that core alone.
-use Prim.Native.Nat.{ℕ, _+_}
-use mathlib.Core.Path.{_≡_, refl, sym, ap, _∙_}
-use mathlib.Core.Bool.{Bool, true, false, not, _&&_, _||_}
-use mathlib.Core.List.{List, [], _∷_}
-use mathlib.Core.Option.{Option, some, none}
-use lib.Dec.{ltb, eqb}
+use Prim.Native.Nat.{ℕ}
+use mathlib.Core.Path.{_≡_, refl}
+use mathlib.Core.Bool.{true, false, not}
+use mathlib.Core.Option.{some}
+use lib.Dec.{eqb}
 use borrow.Author.Tests.{eqb-true, eq-eqb}
 use Rattle.basics.specs.Choice.{_when_else_}
 use Rattle.basics.proofs.TestLaws.{by-cases, when-cases}
@@ -13,7 +12,7 @@ use Rattle.interface.specs.declared.request.Request.{Request}
 use Rattle.interface.specs.Answers.{Answered}
 use Rattle.interface.specs.Requests.{_is_, Open, Snapshot, Rewind}
 use Rattle.interface.specs.Outcome.{slotsAfter, copyAfter}
-use Rattle.interface.specs.Refusals.{View, refusal}
+use Rattle.interface.specs.Refusals.{refusal}
 use Rattle.interface.specs.Accepted.{Accepted}
 use Rattle.interface.proofs.AcceptedLaws.{accepted}
 use Rattle.plain.specs.Machine.{Given, Pages, Core, Kept, Plain, viewOf, shares, bytesAfter, coreAfter, keptAfter, mayTell, numberAt, coreValue, answer, after}

@@ -1,10 +1,9 @@
 -- What a page has whose front or back mark is missing, after every list.
 use Prim.Native.Nat.{ℕ}
 use mathlib.Core.Path.{_≡_, refl, _∙_, fun-ext}
-use mathlib.Core.Bool.{Bool, true, false, _||_, false≢true}
+use mathlib.Core.Bool.{true, false, _||_, false≢true}
 use lib.Dec.{eqb}
 use borrow.Author.Tests.{eqb-true}
-use Rattle.basics.specs.Choice.{_when_else_}
 use Rattle.basics.proofs.TestLaws.{by-cases, when-cases, or-left, or-right}
 use Rattle.basics.proofs.RangeLaws.{over-cases, over-both}
 use Rattle.interface.specs.declared.request.Request.{Request}
@@ -16,9 +15,8 @@ use Rattle.interface.specs.Accepted.{Accepted}
 use Rattle.interface.proofs.SlotLaws.{committed-rights, uncommitted-rights, backing-rights, mapped-commit, committed-commit, uncommitted-commit, backing-commit, uncommitted-mapped, uncommitted-of, one-mark, untaken-copied}
 use Rattle.interface.proofs.KindLaws.{Kind, kind, isMap, isUnmap, isProtect, isWrite, isSnapshot, isRewind, isOther}
 use Rattle.interface.proofs.AcceptedLaws.{accepted}
-use Rattle.plain.specs.Machine.{Given, Core, Kept, Plain, fresh, closed, copySlots, copyBytes, stored, backingByte, bytesAfter, frontAfter, backAfter, keptAfter, viewOf, shares, numberAt, after}
+use Rattle.plain.specs.Machine.{Given, Kept, Plain, fresh, copySlots, copyBytes, stored, backingByte, bytesAfter, frontAfter, backAfter, keptAfter, viewOf, shares, numberAt, after}
 use Rattle.plain.specs.Claims.{Keeps, Holds, Reads}
-use Rattle.plain.proofs.RewoundLaws.{taken-copy}
 
 module _ (g : Given) (q : Request) (k : Kept) (total : ℕ) (a : Accepted (viewOf g total (k .core)) q) (h : Keeps k) (r : Reads g k) where
   -- a write leaves the bytes of a page that has no front after it

@@ -1,8 +1,8 @@
 -- A rewound sandbox has exactly the snapshot's pages.
 use Prim.Native.Nat.{ℕ}
 use mathlib.Core.Path.{_≡_, refl}
-use mathlib.Core.Bool.{Bool, true, false≢true}
-use mathlib.Core.List.{List, [], _∷_, _++_}
+use mathlib.Core.Bool.{true, false≢true}
+use mathlib.Core.List.{List}
 use mathlib.Core.Option.{Option, some, none, Option·map}
 use borrow.Author.Tests.{eqb-true}
 use Rattle.interface.specs.declared.request.Request.{Request}
@@ -11,7 +11,7 @@ use Rattle.interface.specs.Outcome.{slotsAfter, copyAfter}
 use Rattle.interface.specs.Refusals.{isTaken}
 use Rattle.interface.proofs.AcceptedLaws.{accepted}
 use Rattle.plain.specs.Machine.{Given, Pages, Core, bytesAfter, coreAfter, copySlots}
-use Rattle.plain.specs.Lists.{upTo, Then, Rewound, back, still}
+use Rattle.plain.specs.Lists.{upTo, Rewound, back, still}
 use Rattle.plain.specs.Claims.{Restored}
 use Rattle.plain.proofs.TwoListsLaws.{then-core}
 

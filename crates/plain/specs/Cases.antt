@@ -1,13 +1,12 @@
 -- "Checked by hand (★: proved)": the starred cases as one table of rolls with their answers, without an image and with 128 frames.
 use Prim.Native.Nat.{ℕ}
-use mathlib.Core.Path.{_≡_}
 use mathlib.Core.Bool.{Bool, true, false, _&&_}
 use mathlib.Core.List.{List, [], _∷_}
 use lib.Dec.{eqb}
 use Rattle.interface.specs.declared.request.Request.{Request}
 use Rattle.interface.specs.Answers.{Answered}
 use Rattle.interface.specs.Requests.{Open, Map, Unmap, Read, Write, Snapshot, Rewind, Report}
-use Rattle.plain.specs.Machine.{Given, fresh, answers}
+use Rattle.plain.specs.Machine.{fresh, answers}
 
 -- a request with the answer that it is to get
 pub record Line : Type 0 where

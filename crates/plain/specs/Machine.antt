@@ -9,8 +9,7 @@ use Rattle.basics.specs.Choice.{_when_else_}
 use Rattle.basics.specs.Ranges.{count, sum, over}
 use Rattle.interface.specs.declared.page.Backing.{Backing}
 use Rattle.interface.specs.declared.page.Backing.the-variants.{Anonymous, Image}
-use Rattle.interface.specs.declared.page.Slot.{Slot}
-use Rattle.interface.specs.declared.page.Slot.the-variants.{Unmapped, Mapped}
+use Rattle.interface.specs.declared.page.Slot.the-variants.{Unmapped}
 use Rattle.interface.specs.declared.request.Request.{Request}
 use Rattle.interface.specs.Answers.{Answered}
 use Rattle.interface.specs.Requests.{_is_, Map, Unmap, Read, Write, Snapshot, Rewind, Report, pageOf, offsetOf, backingOf}

@@ -1,0 +1,13 @@
+use Rattle.interface.specs.Slots.{mappedPages}
+use Rattle.areas.proofs.area.Areas.mapped_pages.Statement.{statement}
+use Rattle.areas.proofs.area.Areas.mapped_pages.Tie as tie
+
+pages-requires : tie.Need-pages-requires
+pages-requires c κs = c .pre
+
+returns : tie.Need-returns
+unfolding mappedPages
+returns c = c .pages .ensures
+
+pub mapped-pages-spec : {M : Type 1} → statement M
+mapped-pages-spec = tie.close (tie.spec pages-requires returns)

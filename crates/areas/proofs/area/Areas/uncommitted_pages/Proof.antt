@@ -1,0 +1,13 @@
+use Rattle.interface.specs.Slots.{uncommittedPages}
+use Rattle.areas.proofs.area.Areas.uncommitted_pages.Statement.{statement}
+use Rattle.areas.proofs.area.Areas.uncommitted_pages.Tie as tie
+
+pages-requires : tie.Need-pages-requires
+pages-requires c κs = c .pre
+
+returns : tie.Need-returns
+unfolding uncommittedPages
+returns c = c .pages .ensures
+
+pub uncommitted-pages-spec : {M : Type 1} → statement M
+uncommitted-pages-spec = tie.close (tie.spec pages-requires returns)

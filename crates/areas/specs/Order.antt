@@ -1,0 +1,33 @@
+-- Slots in order: what well formed areas say of each page, and what a sensible change keeps.
+use Prim.Native.Nat.{ℕ}
+use mathlib.Core.Path.{_≡_}
+use mathlib.Core.Bool.{true}
+use Rattle.interface.specs.declared.page.Attributes.{Attributes}
+use Rattle.interface.specs.declared.page.Slot.{Slot}
+use Rattle.interface.specs.declared.page.Slot.the-variants.{Unmapped, Mapped}
+use Rattle.interface.specs.Slots.{Slots}
+use Rattle.interface.specs.Limits.{rightsOk}
+use Rattle.areas.specs.declared.pack.Change.{Change}
+use Rattle.areas.specs.declared.pack.Change.the-variants.{Map, Unmap, Protect, Commit}
+use Rattle.areas.specs.Formed.{ImagesExist}
+
+-- "rights 1 or 3", "image pages exist": of n pages from one with these attributes on
+pub record Sensible (images n : ℕ) (t : Attributes) : Type 0 where
+  pub rights : rightsOk (t .rights) ≡ true
+  pub image : ImagesExist images (t .backing) n
+
+-- a page that is not mapped is in order
+abbrev pub InOrder : ℕ → Slot → Type 0
+InOrder images Unmapped = Unit {0}
+InOrder images (Mapped t) = Sensible images 1 t
+
+-- every page is in order
+unfoldable pub AllInOrder : ℕ → Slots → Type 0
+AllInOrder images f = (page : ℕ) → InOrder images (f page)
+
+-- a change of n pages after which each of them is in order
+abbrev pub SensibleChange : ℕ → ℕ → Change → Type 0
+SensibleChange images n (Map t) = Sensible images n t
+SensibleChange images n Unmap = Unit {0}
+SensibleChange images n (Protect r) = rightsOk r ≡ true
+SensibleChange images n Commit = Unit {0}

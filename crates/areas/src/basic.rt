@@ -1,0 +1,30 @@
+// The words of `basics` that the code of this layer uses.
+ghost use mathlib.Core.Path.{_≡_};
+ghost use Rattle.basics.specs.Choice.{same};
+ghost use Rattle.basics.specs.Ranges.{one, inside};
+use interface::page::PageNo;
+
+// 1 for true, 0 for false.
+pub(crate) fn one(b: bool) -> u8
+    ensures { λ r. ⌜ r ≡ one b ⌝ }
+{
+    if b { 1 } else { 0 }
+}
+
+// Whether two tests have the same outcome.
+pub(crate) fn is_same(a: bool, b: bool) -> bool
+    ensures { λ r. ⌜ r ≡ same a b ⌝ }
+{
+    if a { b } else { !b }
+}
+
+// Whether the page is one of the n pages from first on.
+pub(crate) fn is_inside(first: PageNo, n: u8, page: PageNo) -> bool
+    ensures { λ r. ⌜ r ≡ inside (first .0) n (page .0) ⌝ }
+{
+    if first.0 <= page.0 {
+        page.0 - first.0 < n
+    } else {
+        false
+    }
+}

@@ -1,0 +1,6 @@
+pub mod SumLaws
+pub mod WordLaws
+pub mod OperatorLaws
+pub mod FrameLaws
+pub mod GreatestLaws
+pub mod ComplementLaws

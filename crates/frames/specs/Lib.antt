@@ -1,0 +1,3 @@
+-- In reading order.
+pub mod Word
+pub mod Frames

@@ -1,0 +1,147 @@
+// Held frames, 'marked one bit a frame', in two 64-bit words.
+// It promises: each method's outcome is a definition of specs/Frames.antt, which speaks of the mark of a frame by the frame's number.
+// Callers use the laws of these definitions, proofs/FrameLaws.antt (marks, counts) and proofs/GreatestLaws.antt, and never the bits.
+// It stands on `basics` alone.
+ghost use mathlib.Core.Path.{_≡_};
+ghost use Prim.Native.Nat.{_≤_, _<_};
+ghost use lib.Dec.{eqb};
+ghost use Rattle.basics.specs.Ranges.{one};
+ghost use Rattle.frames.specs.Word.{bit, putBit};
+ghost use Rattle.frames.specs.Frames.{held, mark, noneHeld, sameHeld, countHeld, greatest};
+
+// The number of a frame of the pool: no page number and no image page number.
+pub struct FrameNo(pub u8);
+
+// The marks of frames 0 to 63, and of 64 to 127.
+pub struct Held {
+    pub low: u64,
+    pub high: u64,
+}
+
+// A frame that is not held, where there is one.
+pub enum Free {
+    Frame(FrameNo),
+    None,
+}
+
+impl Held {
+    // No held frame.
+    pub fn none() -> Held
+        ensures { λ r. ⌜ r ≡ noneHeld ⌝ }
+    {
+        Held { low: 0, high: 0 }
+    }
+
+    // Whether a frame is held.
+    pub fn contains(self, frame: FrameNo) -> bool
+        requires { ⌜ frame .0 < 128 ⌝ }
+        ensures { λ r. ⌜ r ≡ eqb (held self (frame .0)) 1 ⌝ }
+    {
+        let n = frame.0;
+        if n < 64 {
+            has(self.low, n)
+        } else {
+            has(self.high, n - 64)
+        }
+    }
+
+    // The same marks, and this frame held.
+    pub fn with(self, frame: FrameNo) -> Held
+        requires { ⌜ frame .0 < 128 ⌝ }
+        ensures { λ r. ⌜ r ≡ mark self (frame .0) 1 ⌝ }
+    {
+        marked(self, frame, true)
+    }
+
+    // The same marks, and this frame not held.
+    pub fn without(self, frame: FrameNo) -> Held
+        requires { ⌜ frame .0 < 128 ⌝ }
+        ensures { λ r. ⌜ r ≡ mark self (frame .0) 0 ⌝ }
+    {
+        marked(self, frame, false)
+    }
+
+    // How many frames are held.
+    pub fn count(self) -> u8
+        ensures { λ r. ⌜ r ≡ countHeld self ⌝ }
+    {
+        u64::count_ones(self.low) as u8 + u64::count_ones(self.high) as u8
+    }
+
+    // The greatest frame of a pool of so many frames that is not held.
+    pub fn greatest_free(self, frames: u8) -> Free
+        requires { ⌜ frames ≤ 128 ⌝ }
+        ensures { λ r. ⌜ r ≡ greatest (held self) frames ⌝ }
+    {
+        if frames <= 64 {
+            return greatest_unset(self.low, frames);
+        }
+        let high = greatest_unset(self.high, frames - 64);
+        match high {
+            Free::Frame(f) => Free::Frame(FrameNo(64 + f.0)),
+            Free::None => greatest_unset(self.low, 64),
+        }
+    }
+
+    // Whether two have the same marks.
+    pub fn same(self, other: Held) -> bool
+        ensures { λ r. ⌜ r ≡ sameHeld self other ⌝ }
+    {
+        (self.low == other.low) & (self.high == other.high)
+    }
+}
+
+// The same marks, and this frame held or not.
+fn marked(marks: Held, frame: FrameNo, on: bool) -> Held
+    requires { ⌜ frame .0 < 128 ⌝ }
+    ensures { λ r. ⌜ r ≡ mark marks (frame .0) (one on) ⌝ }
+{
+    let n = frame.0;
+    if n < 64 {
+        Held {
+            low: put(marks.low, n, on),
+            high: marks.high,
+        }
+    } else {
+        Held {
+            low: marks.low,
+            high: put(marks.high, n - 64, on),
+        }
+    }
+}
+
+// Whether the bit at a place is set.
+fn has(word: u64, place: u8) -> bool
+    requires { ⌜ place < 64 ⌝ }
+    ensures { λ r. ⌜ r ≡ eqb (bit word place) 1 ⌝ }
+{
+    (word >> place) & 1 == 1
+}
+
+// The word with the bit at a place set, or not set.
+fn put(word: u64, place: u8, on: bool) -> u64
+    requires { ⌜ place < 64 ⌝ }
+    ensures { λ r. ⌜ r ≡ putBit word place (one on) ⌝ }
+{
+    if on {
+        word | (1u64 << place)
+    } else {
+        word & !(1u64 << place)
+    }
+}
+
+// The greatest of the low places, so many of them, whose bit is not set.
+fn greatest_unset(word: u64, places: u8) -> Free
+    requires { ⌜ places ≤ 64 ⌝ }
+    ensures { λ r. ⌜ r ≡ greatest (bit word) places ⌝ }
+{
+    if places == 0 {
+        return Free::None;
+    }
+    let free = !word & (0xffff_ffff_ffff_ffffu64 >> (64 - places));
+    if free == 0 {
+        return Free::None;
+    }
+    let zeros = u64::leading_zeros(free) as u8;
+    Free::Frame(FrameNo(63 - zeros))
+}

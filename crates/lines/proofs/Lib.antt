@@ -1,0 +1,4 @@
+pub mod PrintLaws
+pub mod FieldLaws
+pub mod LineLaws
+pub mod Examples

@@ -1,0 +1,4 @@
+-- In reading order.
+pub mod Prints
+pub mod Fields
+pub mod Lines

@@ -1,0 +1,18 @@
+-- The pass over the whole table is good, and its marks are those held.
+use borrow.Author.Needs.{needs}
+use Rattle.marks.specs.Marks.{marksb}
+use Rattle.marks.proofs.marks_match.Statement.{statement}
+use Rattle.marks.proofs.marks_match.Tie as tie
+
+marks-of-requires : tie.Need-marks-of-requires
+marks-of-requires c κs = search needs
+
+same-requires : tie.Need-same-requires
+same-requires c κs = search needs
+
+returns : tie.Need-returns
+unfolding marksb
+returns c = rw (c .before .same .ensures, c .before .before .before .marks-of .ensures)
+
+pub marks-match-spec : {M : Type 1} → statement M
+marks-match-spec = tie.close (tie.spec marks-of-requires same-requires returns)

@@ -1,0 +1,87 @@
+// The marks of the frames that the entries of a lent page table name, found by one pass over the entries; no pool.
+// It promises: whatever numbers the table holds, the pass says whether "entries name frames of the pool, no frame twice", and has the
+// marks of these frames. specs/Named.antt says what that means, proofs/MarkLaws.antt that the pass says it, and that it counts the entries
+// that name a frame.
+// It stands on `frames`, for the marks and the number of a frame.
+ghost use mathlib.Core.Path.{_≡_};
+ghost use Prim.Native.Nat.{_+_, _*_, _≤_, _<_};
+ghost use lib.ListN.{length};
+ghost use Rattle.frames.specs.Frames.{countHeld};
+ghost use Rattle.marks.specs.Marks.{addEntry, marksTo, from, marksb};
+use frames::FrameNo;
+use frames::Held;
+
+// What a pass over entries found: whether each names none or a frame of the pool, and none names a frame twice; and the marks of these frames.
+pub struct Marks {
+    pub good: bool,
+    pub held: Held,
+}
+
+impl Marks {
+    // The entries of the page table, and those of one sandbox.
+    pub const ENTRIES: usize = 512;
+
+    pub const SANDBOX_ENTRIES: usize = 128;
+
+    // One more entry, of a table over a pool of so many frames.
+    pub fn add(self, frames: u8, entry: u16) -> Marks
+        requires { ⌜ frames ≤ 128 ⌝ }
+        ensures { λ r. ⌜ r ≡ addEntry frames self entry ⌝ }
+    {
+        if entry == 0 {
+            return self;
+        }
+        let held = self.held;
+        if entry > frames as u16 {
+            return Marks {
+                good: false,
+                held: held,
+            };
+        }
+        let frame = FrameNo((entry - 1) as u8);
+        Marks {
+            good: !held.contains(frame) & self.good,
+            held: held.with(frame),
+        }
+    }
+}
+
+// Whether the marks are those of the frames that the table names, each a frame of the pool and named once.
+pub fn marks_match(held: Held, table: &[u16], frames: u8) -> bool
+    requires { ⌜ length (now table) ≡ 512 ⌝ }
+    requires { ⌜ frames ≤ 128 ⌝ }
+    ensures { λ r. ⌜ r ≡ marksb frames held (now (table .entry)) ⌝ }
+{
+    let found = marks_of(table, 0, Marks::ENTRIES, frames);
+    let marks = found.held;
+    found.good & marks.same(held)
+}
+
+// How many frames the entries of one sandbox name, by the count of their marks.
+pub fn frames_held(table: &[u16], sandbox: u8, frames: u8) -> u8
+    requires { ⌜ length (now table) ≡ 512 ⌝ }
+    requires { ⌜ sandbox < 4 ⌝ }
+    requires { ⌜ frames ≤ 128 ⌝ }
+    ensures { λ r. ⌜ r ≡ countHeld (marksTo frames (from (sandbox * 128) (now (table .entry))) 128 .held) ⌝ }
+{
+    let first = sandbox as usize * Marks::SANDBOX_ENTRIES;
+    let found = marks_of(table, first, Marks::SANDBOX_ENTRIES, frames);
+    let marks = found.held;
+    marks.count()
+}
+
+// The marks of the frames that a run of entries names.
+pub fn marks_of(table: &[u16], first: usize, entries: usize, frames: u8) -> Marks
+    requires { ⌜ first + entries ≤ length (now table) ⌝ }
+    requires { ⌜ frames ≤ 128 ⌝ }
+    ensures { λ r. ⌜ r ≡ marksTo frames (from first (now (table .entry))) entries ⌝ }
+{
+    let mut found = Marks {
+        good: true,
+        held: Held::none(),
+    };
+    for i in 0..entries {
+        found = found.add(frames, table[first + i]);
+    }
+    found
+}

@@ -1,0 +1,29 @@
+-- What is filled in is what was loaded.
+use borrow.Author.Needs.{needs}
+use Rattle.pool.proofs.copy_frame.Statement.{statement}
+use Rattle.pool.proofs.copy_frame.Tie as tie
+
+load-frame-requires : tie.Need-load-frame-requires
+load-frame-requires c κs = search needs
+
+slice-aggregate-fill-frame : tie.Need-slice-aggregate-fill-frame
+slice-aggregate-fill-frame c = search needs
+
+fill-frame-requires : tie.Need-fill-frame-requires
+fill-frame-requires c κs = search needs
+
+same-length : tie.Need-same-length
+same-length c = search needs
+
+returns : tie.Need-returns
+returns c = cc (c .before .before .fill-frame .ensures, c .before .before .before .before .before .load-frame .ensures)
+
+pub copy-frame-spec : {M : Type 1} → statement M
+copy-frame-spec =
+    tie.close
+    (tie.spec
+    load-frame-requires
+    slice-aggregate-fill-frame
+    fill-frame-requires
+    same-length
+    returns)

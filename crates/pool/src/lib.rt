@@ -1,0 +1,73 @@
+// The lent pool as frames of one page each, named by number.
+// It promises that a function which is given a frame to change leaves the pool it got with "one frame's 256 bytes of the pool"
+// replaced, and no other byte changed.
+// It stands on `pages`, to which the frame's part of the pool is lent on, and on `frames` for the number of a frame.
+ghost use mathlib.Core.Path.{_≡_};
+ghost use Prim.Native.Nat.{_+_, _*_, _≤_};
+ghost use lib.ListN.{length, getD, set};
+ghost use Rattle.pages.specs.Parts.{zeros, frame, setFrame};
+use frames::FrameNo;
+use pages::Page;
+
+// Frame `f` becomes zero bytes.
+pub fn clear_frame(pool: &mut [u8], f: FrameNo)
+    requires { ⌜ f .0 * 256 + 256 ≤ length (now pool) ⌝ }
+    ensures { λ r. ⌜ now (pool .exit) ≡ setFrame 256 (now (pool .entry)) (f .0) (zeros 256) ⌝ }
+{
+    let start = f.0 as usize * Page::SIZE;
+    pages::clear(&mut pool[start..start + Page::SIZE]);
+}
+
+// Frame `f` gets the bytes of `src`, which is a page long.
+pub fn fill_frame(pool: &mut [u8], f: FrameNo, src: &[u8])
+    requires { ⌜ f .0 * 256 + 256 ≤ length (now pool) ⌝ }
+    requires { ⌜ length (now src) ≡ 256 ⌝ }
+    ensures { λ r. ⌜ now (pool .exit) ≡ setFrame 256 (now (pool .entry)) (f .0) (now (src .entry)) ⌝ }
+{
+    let start = f.0 as usize * Page::SIZE;
+    pages::fill(&mut pool[start..start + Page::SIZE], src);
+}
+
+// The bytes of frame `f`, by value.
+pub fn load_frame(pool: &[u8], f: FrameNo) -> [u8; Page::SIZE]
+    requires { ⌜ f .0 * 256 + 256 ≤ length (now pool) ⌝ }
+    ensures { λ r. ⌜ r ≡ frame 256 (now (pool .entry)) (f .0) ⌝ }
+{
+    let start = f.0 as usize * Page::SIZE;
+    pages::load(&pool[start..start + Page::SIZE])
+}
+
+// Frame `to` gets the bytes of frame `from`, by way of a page by value: two frames of one pool are never lent at once.
+pub fn copy_frame(pool: &mut [u8], from: FrameNo, to: FrameNo)
+    requires { ⌜ from .0 * 256 + 256 ≤ length (now pool) ⌝ }
+    requires { ⌜ to .0 * 256 + 256 ≤ length (now pool) ⌝ }
+    ensures { λ r. ⌜ now (pool .exit) ≡ setFrame 256 (now (pool .entry)) (to .0) (frame 256 (now (pool .entry)) (from .0)) ⌝ }
+{
+    let page = load_frame(pool, from);
+    fill_frame(pool, to, &page);
+}
+
+// One byte of frame `f` is stored.
+pub fn store_byte(pool: &mut [u8], f: FrameNo, offset: u8, byte: u8)
+    requires { ⌜ f .0 * 256 + 256 ≤ length (now pool) ⌝ }
+    ensures { λ r. ⌜ now (pool .exit) ≡ setFrame 256 (now (pool .entry)) (f .0) (set (frame 256 (now (pool .entry)) (f .0)) offset byte) ⌝ }
+{
+    let start = f.0 as usize * Page::SIZE;
+    pages::store(&mut pool[start..start + Page::SIZE], offset as usize, byte);
+}
+
+// One byte of frame `f` is read.
+pub fn read_byte(pool: &[u8], f: FrameNo, offset: u8) -> u8
+    requires { ⌜ f .0 * 256 + 256 ≤ length (now pool) ⌝ }
+    ensures { λ r. ⌜ r ≡ getD (frame 256 (now (pool .entry)) (f .0)) offset 0 ⌝ }
+{
+    let start = f.0 as usize * Page::SIZE;
+    pages::read(&pool[start..start + Page::SIZE], offset as usize)
+}
+
+// All bytes of the pool become zero.
+pub fn clear_pool(pool: &mut [u8])
+    ensures { λ r. ⌜ now (pool .exit) ≡ zeros (length (now (pool .entry))) ⌝ }
+{
+    pages::clear(pool);
+}

@@ -1,0 +1,4 @@
+pub mod FitLaws
+pub mod ShareLaws
+pub mod PackedLaws
+pub mod DecideLaws

@@ -1,0 +1,50 @@
+use native.Mathlib.Omega.{arith}
+use Rattle.interface.specs.Refusals.{allMapped}
+use Rattle.rules.proofs.FitLaws.{named-pages, named-address, page-small}
+use borrow.Author.Needs.{needs}
+use Rattle.rules.proofs.rows.all_mapped.Statement.{statement}
+use Rattle.rules.proofs.rows.all_mapped.Tie as tie
+
+cast-t7 : tie.Need-cast-t7
+cast-t7 c = omega (arith, named-pages (c .before .before .args .q) (c .before .before .pre .1) (c .before .if1 .taken))
+
+cast-all-are : tie.Need-cast-all-are
+cast-all-are c = omega (arith, named-pages (c .before .before .before .args .q) (c .before .before .before .pre .1) (c .before .before .if1 .taken))
+
+all-are-requires : tie.Need-all-are-requires
+all-are-requires c κs = (c .before .before .before .pre .0, named-pages (c .before .before .before .args .q) (c .before .before .before .pre .1) (c .before .before .if1 .taken))
+
+returns : tie.Need-returns
+unfolding allMapped
+returns c = rw (c .before .before .before .if1 .taken) (c .all-are .ensures)
+
+cast-t12 : tie.Need-cast-t12
+cast-t12 c = search needs
+
+slot-requires : tie.Need-slot-requires
+slot-requires c κs = (c .before .before .before .pre .0, page-small (c .before .before .before .args .q .p1) (named-address (c .before .before .before .args .q) (c .before .before .before .pre .1) (c .before .if2 .taken)))
+
+is-mapped-requires : tie.Need-is-mapped-requires
+is-mapped-requires c κs = search needs
+
+returns-2 : tie.Need-returns-2
+unfolding allMapped
+returns-2 c = rw (c .before .before .before .before .if1 .left, c .before .before .before .if2 .taken, c .is-mapped .ensures, c .before .slot .ensures)
+
+returns-3 : tie.Need-returns-3
+unfolding allMapped
+returns-3 c = rw (c .before .if1 .left, c .if2 .left)
+
+pub all-mapped-spec : {M : Type 1} → statement M
+all-mapped-spec =
+    tie.close
+    (tie.spec
+    cast-t7
+    cast-all-are
+    all-are-requires
+    returns
+    cast-t12
+    slot-requires
+    is-mapped-requires
+    returns-2
+    returns-3)

@@ -1,0 +1,4 @@
+-- In reading order.
+pub mod After
+pub mod Ready
+pub mod Decision

@@ -1,0 +1,41 @@
+-- What the code asks to be safe: of a request within its limits, of a sandbox of a sound state, and of a request that the rows before have let pass.
+use mathlib.Core.Path.{_≡_}
+use mathlib.Core.Bool.{true, false}
+use Prim.Native.Nat.{ℕ, _+_, _≤_, _<_}
+use Rattle.interface.specs.declared.request.Request.{Request}
+use Rattle.interface.specs.Requests.{Open, Map, Unmap, Protect, Read, Write, Rewind}
+use Rattle.interface.specs.Slots.{allAre, chargeOf}
+use Rattle.interface.specs.Outcome.{firstOf}
+use Rattle.interface.specs.Refusals.{View, isTaken}
+use Rattle.areas.specs.Areas.{slots}
+use Rattle.areas.specs.Formed.{WellFormed}
+use Rattle.state.specs.declared.sandbox.Sandbox.{Sandbox}
+use Rattle.state.specs.World.{copyOf}
+
+-- what the limits of its parameters say of a request, over an image of at most 64 pages
+pub record Fit (q : Request) : Type 0 where
+  pub share : q .code ≡ Open → q .p1 ≤ 128
+  pub place : q .code ≡ Map → (q .p1 ≤ 64) × (q .p2 ≤ 64) × (q .p5 ≤ 3)
+  pub named : q .code ≡ Map → (q .p1 ≡ 64 → ⊥) → q .p1 + q .p2 ≤ 64
+  pub image : q .code ≡ Map → (q .p3 ≡ 0 → ⊥) → q .p4 ≤ 64
+  pub unmapped : q .code ≡ Unmap → q .p1 + q .p2 ≤ 64
+  pub protected : q .code ≡ Protect → (q .p1 + q .p2 ≤ 64) × (q .p3 ≤ 3)
+  pub read : q .code ≡ Read → q .p1 < 16384
+  pub written : q .code ≡ Write → (q .p1 < 16384) × (q .p2 < 256)
+
+-- a sandbox whose areas are well formed over an image of so many pages, at most 64
+pub record Ready (images : ℕ) (b : Sandbox) : Type 0 where
+  pub few : images ≤ 64
+  pub present : WellFormed images (b .present)
+  pub snapshot : WellFormed images (b .snapshot)
+  -- "the charge .. limits hold"; "a closed one has nothing"
+  pub charged : chargeOf (slots (b .present)) (copyOf b) ≤ b .share
+  pub closed : b .opened ≡ false → b .share ≡ 0
+
+-- a request that rows 5, 6, 8, 10 and 11 have let pass
+pub record Passed (v : View) (q : Request) : Type 0 where
+  pub fit : Fit q
+  pub closed : q .code ≡ Open → v .opened ≡ false
+  pub taken : q .code ≡ Rewind → isTaken (v .copy) ≡ true
+  pub fits : q .code ≡ Map → firstOf (v .slots) q + q .p2 ≤ 64
+  pub free : q .code ≡ Map → allAre false (v .slots) (firstOf (v .slots) q) (q .p2) ≡ true

@@ -1,0 +1,132 @@
+// What an accepted request makes of its sandbox.
+ghost use mathlib.Core.Path.{_≡_};
+ghost use Prim.Native.Nat.{_≤_};
+ghost use Rattle.interface.specs.Requests.{Map, backingOf};
+ghost use Rattle.interface.specs.Outcome.{firstOf, newPage, shareAfter};
+ghost use Rattle.areas.specs.Areas.{slots, Near};
+ghost use Rattle.rules.specs.After.{packedAfter, takenAfter, snapshotAfter, sandboxWith};
+ghost use Rattle.rules.specs.Ready.{Fit, Ready};
+use areas::area::Areas;
+use areas::pack::Change;
+use areas::pack::Packed;
+use interface::page::Attributes;
+use interface::page::Backing;
+use interface::page::ImagePageNo;
+use interface::page::PageNo;
+use interface::request::Request;
+use state::sandbox::Sandbox;
+
+// The areas that result, and whether they fit.
+pub fn packed_after(b: Sandbox, images: u8, q: Request) -> Packed
+    requires { ⌜ Ready images b ⌝ }
+    requires { ⌜ Fit q ⌝ }
+    ensures { λ r. ⌜ r ≡ packedAfter q b ⌝ }
+{
+    let code = q.code;
+    let present = b.present;
+    if code == 2 {
+        let first = first_of(present, q);
+        return present.repack(PageNo(first), q.p2 as u8, Change::Map(new_page(q)));
+    }
+    if code == 3 {
+        return present.repack(PageNo(q.p1 as u8), q.p2 as u8, Change::Unmap);
+    }
+    if code == 4 {
+        return present.repack(PageNo(q.p1 as u8), q.p2 as u8, Change::Protect(q.p3 as u8));
+    }
+    if code == 7 {
+        return present.repack(PageNo(0), 64, Change::Commit);
+    }
+    if code == 8 {
+        let snapshot = b.snapshot;
+        return Packed {
+            areas: snapshot,
+            fits: true,
+        };
+    }
+    Packed {
+        areas: present,
+        fits: true,
+    }
+}
+
+// The first page of a map.
+pub fn first_of(present: Areas, q: Request) -> u8
+    requires { ⌜ Near (present .list) ⌝ }
+    requires { ⌜ q .code ≡ Map ⌝ }
+    requires { ⌜ Fit q ⌝ }
+    ensures { λ r. ⌜ r ≡ firstOf (slots present) q ⌝ }
+{
+    if q.p1 == 64 {
+        return present.lowest_gap(q.p2 as u8);
+    }
+    q.p1 as u8
+}
+
+// What a map makes of its first page.
+fn new_page(q: Request) -> Attributes
+    requires { ⌜ q .code ≡ Map ⌝ }
+    requires { ⌜ Fit q ⌝ }
+    ensures { λ r. ⌜ r ≡ newPage q ⌝ }
+{
+    let backing = backing_of(q);
+    Attributes {
+        rights: q.p5 as u8,
+        committed: false,
+        backing: backing,
+    }
+}
+
+fn backing_of(q: Request) -> Backing
+    requires { ⌜ q .code ≡ Map ⌝ }
+    requires { ⌜ Fit q ⌝ }
+    ensures { λ r. ⌜ r ≡ backingOf q ⌝ }
+{
+    if q.p3 == 0 {
+        return Backing::Anonymous;
+    }
+    Backing::Image(ImagePageNo(q.p4 as u8))
+}
+
+// The sandbox after an accepted request, whose areas are these.
+pub fn sandbox_after(b: Sandbox, q: Request, present: Areas) -> Sandbox
+    requires { ⌜ Fit q ⌝ }
+    ensures { λ r. ⌜ r ≡ sandboxWith q present b ⌝ }
+{
+    let snapshot = snapshot_after(q, present, b.snapshot);
+    let taken = taken_after(q, b.taken);
+    let share = share_after(q, b.share);
+    let copied = b.with_snapshot(snapshot);
+    let marked = copied.with_taken(taken);
+    let mapped = marked.with_present(present);
+    let shared = mapped.with_share(share);
+    shared.with_opened(true)
+}
+
+fn snapshot_after(q: Request, present: Areas, snapshot: Areas) -> Areas
+    ensures { λ r. ⌜ r ≡ snapshotAfter q present snapshot ⌝ }
+{
+    if q.code == 7 {
+        return present;
+    }
+    snapshot
+}
+
+fn taken_after(q: Request, taken: bool) -> bool
+    ensures { λ r. ⌜ r ≡ takenAfter q taken ⌝ }
+{
+    if q.code == 7 {
+        return true;
+    }
+    taken
+}
+
+fn share_after(q: Request, share: u8) -> u8
+    requires { ⌜ Fit q ⌝ }
+    ensures { λ r. ⌜ r ≡ shareAfter q share ⌝ }
+{
+    if q.code == 1 {
+        return q.p1 as u8;
+    }
+    share
+}

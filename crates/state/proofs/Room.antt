@@ -1,0 +1,122 @@
+-- A sound state has a frame for every mapped page without a front.
+use mathlib.Core.Path.{_≡_, refl}
+use mathlib.Core.Bool.{Bool, true, false}
+use mathlib.Core.List.{List}
+use Prim.Native.Nat.{ℕ, zero, suc, _+_, _*_, _≤_, _<_}
+use native.Mathlib.Omega.{arith}
+use lib.Dec.{eqb}
+use lib.ListN.{length}
+use borrow.Author.Tests.{eqb-true, eqb-false}
+use Rattle.basics.specs.Ranges.{one, count, sum}
+use Rattle.basics.proofs.TestLaws.{by-cases}
+use Rattle.interface.specs.Slots.{isMapped, mappedPages}
+use Rattle.interface.proofs.ChargeLaws.{charge-covers}
+use Rattle.frames.specs.Frames.{held}
+use Rattle.frames.proofs.GreatestLaws.{greatest-found}
+use Rattle.marks.specs.Named.{used, usedBelow}
+use Rattle.marks.specs.Marks.{from}
+use Rattle.marks.proofs.NamedLaws.{by-entry}
+use Rattle.marks.proofs.MarkLaws.{used-add, used-parts, free-there, past-end}
+use Rattle.table.specs.Store.{Store, entry, frontOf, backOf}
+use Rattle.areas.specs.Areas.{slots}
+use Rattle.state.specs.declared.sandbox.Sandbox.{Sandbox}
+use Rattle.state.specs.World.{World, sandboxAt, copyOf, framesOf, pagesIn}
+use Rattle.state.specs.Sound.{SoundAt, Sound}
+use Rattle.state.proofs.SettledLaws.{copied-slots}
+
+-- ---- sums that are no greater, and less where one place is
+
+sum-le : (f h : ℕ → ℕ) (n : ℕ) → ((i : ℕ) → i < n → f i ≤ h i) → sum f n ≤ sum h n
+unfolding sum
+sum-le f h zero e = omega arith
+sum-le f h (suc n) e = omega (arith, e n (omega arith), sum-le f h n (λ i l. e i (omega arith)))
+
+sum-less : (f h : ℕ → ℕ) (n i : ℕ) → ((j : ℕ) → j < n → f j ≤ h j) → i < n → f i < h i → sum f n < sum h n
+unfolding sum
+sum-less f h zero i e l d = absurd (omega arith)
+sum-less f h (suc n) i e l d =
+    by-cases (eqb i n)
+    (λ t. let last : f n < h n = rw (eqb-true i n t) at d in omega (arith, last, sum-le f h n (λ j m. e j (omega arith))))
+    (λ t. omega (arith, e n (omega arith), sum-less f h n i (λ j m. e j (omega arith)) (omega (arith, eqb-false i n t)) d))
+
+count-sum : (m : ℕ → Bool) (n : ℕ) → count m n ≡ sum (λ i. one (m i)) n
+unfolding count sum
+count-sum m zero = refl
+count-sum m (suc n) = rw (count-sum m n)
+
+-- entries that name a frame only at numbers that pass
+module _ (f : ℕ → ℕ) (m : ℕ → Bool) (n : ℕ) (e : (i : ℕ) → i < n → used (f i) ≤ one (m i)) where
+  used-le : usedBelow f n ≤ count m n
+  unfolding usedBelow
+  used-le = rw (count-sum m n) (sum-le (λ i. used (f i)) (λ i. one (m i)) n e)
+
+  used-less : (i : ℕ) → i < n → used (f i) < one (m i) → usedBelow f n < count m n
+  unfolding usedBelow
+  used-less i l d = rw (count-sum m n) (sum-less (λ j. used (f j)) (λ j. one (m j)) n i e l d)
+
+-- ---- a sandbox
+
+module _ (images : ℕ) (st : Store) (s : ℕ) (b : Sandbox) (S : SoundAt images st s b) where
+  abbrev mappedAt : ℕ → Bool
+  mappedAt i = isMapped (slots (b .present) i)
+
+  abbrev copiedAt : ℕ → Bool
+  copiedAt i = isMapped (slots (b .snapshot) i)
+
+  covers : mappedPages (slots (b .present)) + count copiedAt 64 ≤ b .share
+  covers =
+      let copy = copied-slots images st s b S in
+      omega (arith, S .charged, charge-covers (slots (b .present)) (copyOf b) copiedAt (λ i c. rw copy (S .committed i c)) (λ i c. rw copy c))
+
+  used-by : (k : ℕ) (m : Bool) → (m ≡ false → entry st k ≡ 0) → used (entry st k) ≤ one m
+  used-by k true h = by-entry (used (entry st k) ≤ 1) (entry st k) (λ z. rw z (omega arith)) (λ f z. rw z (omega arith))
+  used-by k false h = rw (h refl) (omega arith)
+
+  fronts : (i : ℕ) → i < 64 → used (from (s * 128) (st .table) i) ≤ one (mappedAt i)
+  fronts i l = used-by (frontOf s i) (mappedAt i) (S .fronts i l)
+
+  backs : usedBelow (λ i. from (s * 128) (st .table) (64 + i)) 64 ≤ count copiedAt 64
+  backs =
+      used-le (λ i. from (s * 128) (st .table) (64 + i)) copiedAt 64
+      (λ i l. let z : s * 128 + (64 + i) ≡ s * 128 + i + 64 = omega arith in rw z (used-by (backOf s i) (copiedAt i) (S .backs i l)))
+
+  -- its entries name at most as many frames as its share
+  pub holds-share : usedBelow (from (s * 128) (st .table)) 128 ≤ b .share
+  unfolding mappedPages
+  holds-share = omega (arith, used-add (from (s * 128) (st .table)) 64 64, covers, backs, used-le (from (s * 128) (st .table)) mappedAt 64 fronts)
+
+  -- and fewer where a mapped page has no front
+  pub holds-less : (i : ℕ) → i < 64 → isMapped (slots (b .present) i) ≡ true → entry st (frontOf s i) ≡ 0 → usedBelow (from (s * 128) (st .table)) 128 < b .share
+  unfolding mappedPages
+  holds-less i l m e =
+      omega (
+        arith,
+        used-add (from (s * 128) (st .table)) 64 64,
+        covers,
+        backs,
+        used-less (from (s * 128) (st .table)) mappedAt 64 fronts i l (rw (e, m) (omega arith)),
+      )
+
+-- ---- the world
+
+module _ (image : List ℕ) (w : World) (S : Sound image w) (s i : ℕ) (l : s < 4) (k : i < 64)
+    (m : isMapped (slots (sandboxAt w s .present) i) ≡ true) (e : entry (w .store) (frontOf s i) ≡ 0) where
+  -- where a mapped page has no front, fewer entries name a frame than the pool has frames
+  pub room : usedBelow (entry (w .store)) 512 < framesOf w
+  room =
+      omega (
+        arith,
+        used-parts (entry (w .store)) 128 4,
+        S .pooled,
+        sum-less (λ t. usedBelow (from (t * 128) (w .store .table)) 128) (λ t. sandboxAt w t .share) 4 s
+            (λ t d. holds-share (pagesIn (length image)) (w .store) t (sandboxAt w t) (S .each t d)) l
+            (holds-less (pagesIn (length image)) (w .store) s (sandboxAt w s) (S .each s l) i k m e),
+      )
+
+  -- so a frame of the pool is not held
+  pub frame-there : (f : ℕ) × ((f < framesOf w) × (held (w .store .marks) f ≡ 0))
+  frame-there =
+      let there = free-there (framesOf w) (S .filed .few) (w .store .marks) (entry (w .store)) (S .filed .names) 512
+      (past-end (w .store .table) (S .filed .entries)) room in
+      let found = greatest-found (held (w .store .marks)) (framesOf w) (there .0) (there .1) in
+      (there .0 .0, (found .within, found .free))

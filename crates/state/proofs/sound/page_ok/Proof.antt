@@ -1,0 +1,56 @@
+use Rattle.state.specs.Test.{pageOk}
+use borrow.Author.Needs.{needs}
+use Rattle.state.proofs.sound.page_ok.Statement.{statement}
+use Rattle.state.proofs.sound.page_ok.Tie as tie
+use Rattle.state.proofs.sound.page_ok.Reads as reads
+use Rattle.state.proofs.sound.page_ok.Lts as lts
+use Rattle.areas.proofs.slot.backing_at.Reads as backing-at-reads
+use Rattle.areas.proofs.slot.is_committed.Reads as is-committed-reads
+use Rattle.areas.proofs.slot.is_mapped.Reads as is-mapped-reads
+use Rattle.state.proofs.sound.same_backing.Reads as same-backing-reads
+
+-- src/sound.rt:112:9
+is-mapped-requires : tie.Need-is-mapped-requires
+is-mapped-requires c κs = search needs
+
+-- src/sound.rt:113:9
+is-committed-requires : tie.Need-is-committed-requires
+is-committed-requires c κs = search needs
+
+-- src/sound.rt:114:9
+is-mapped-requires-2 : tie.Need-is-mapped-requires-2
+is-mapped-requires-2 c κs = search needs
+
+-- src/sound.rt:115:31
+backing-at-requires : tie.Need-backing-at-requires
+backing-at-requires c κs = search needs
+
+-- src/sound.rt:115:52
+backing-at-requires-2 : tie.Need-backing-at-requires-2
+backing-at-requires-2 c κs = search needs
+
+-- src/sound.rt:115:9
+same-backing-requires : tie.Need-same-backing-requires
+same-backing-requires c κs = search needs
+
+-- src/sound.rt:118:16
+is-committed-requires-2 : tie.Need-is-committed-requires-2
+is-committed-requires-2 c κs = search needs
+
+-- src/sound.rt:109:1
+returns : tie.Need-returns
+unfolding pageOk
+returns c = rw (c .is-committed2 .ensures, c .before .same-backing .ensures, c .before .before .backing-at2 .ensures, c .before .before .before .backing-at .ensures, c .before .before .before .before .is-mapped2 .ensures, c .before .before .before .before .before .is-committed .ensures, c .before .before .before .before .before .before .is-mapped .ensures)
+
+pub page-ok-spec : {M : Type 1} → statement M
+page-ok-spec =
+    tie.close
+    (tie.spec
+    is-mapped-requires
+    is-committed-requires
+    is-mapped-requires-2
+    backing-at-requires
+    backing-at-requires-2
+    same-backing-requires
+    is-committed-requires-2
+    returns)

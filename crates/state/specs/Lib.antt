@@ -1,0 +1,5 @@
+-- In reading order.
+pub mod World
+pub mod Start
+pub mod Sound
+pub mod Test

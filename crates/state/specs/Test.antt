@@ -1,0 +1,68 @@
+-- The test of a sound state, as the code computes it. (proofs/TestLaws: it is true exactly of the sound states.)
+use mathlib.Core.Path.{_≡_}
+use mathlib.Core.Bool.{Bool, true, false, not, _&&_}
+use mathlib.Core.List.{List}
+use Prim.Native.Nat.{ℕ, _^_, _<_}
+use lib.Dec.{leb, eqb}
+use lib.ListN.{length}
+use Rattle.basics.specs.Choice.{implies}
+use Rattle.basics.specs.Ranges.{every}
+use Rattle.interface.specs.declared.page.Backing.{Backing}
+use Rattle.interface.specs.declared.page.Backing.the-variants.{Anonymous, Image}
+use Rattle.interface.specs.declared.page.Slot.{Slot}
+use Rattle.interface.specs.Slots.{isMapped, isCommitted, backingAt, chargeOf}
+use Rattle.interface.specs.Limits.{between}
+use Rattle.marks.specs.Marks.{marksb}
+use Rattle.table.specs.Store.{Store, entry, frontOf, backOf}
+use Rattle.areas.specs.declared.area.Areas.{Areas}
+use Rattle.areas.specs.Areas.{slots}
+use Rattle.areas.specs.Formed.{wellFormed}
+use Rattle.state.specs.declared.sandbox.Sandbox.{Sandbox}
+use Rattle.state.specs.World.{World, sandboxAt, sharesOf, copyOf, framesOf, pagesIn, lengthsOk}
+
+-- what the types of the state say, and no test need
+pub record Typed (w : World) : Type 0 where
+  pub row : length (w .sandboxes) ≡ 4
+  pub low : w .store .marks .low < 2 ^ 64
+  pub high : w .store .marks .high < 2 ^ 64
+
+abbrev pub sameBacking : Backing → Backing → Bool
+sameBacking Anonymous Anonymous = true
+sameBacking Anonymous (Image j) = false
+sameBacking (Image i) Anonymous = false
+sameBacking (Image i) (Image j) = eqb (i .0) (j .0)
+
+-- of one page: its slot, the snapshot's, its front and its back entry
+unfoldable pub pageOk : Slot → Slot → ℕ → ℕ → Bool
+pageOk present snapshot front back =
+    implies (isMapped snapshot) (isCommitted snapshot)
+    && (implies (isCommitted present) (isMapped snapshot)
+    && (implies (isCommitted present) (sameBacking (backingAt present) (backingAt snapshot))
+    && (implies (not (isMapped present)) (eqb front 0) && implies (not (isMapped snapshot)) (eqb back 0))))
+
+-- of all pages of sandbox s
+unfoldable pub pagesOk : Store → ℕ → Areas → Areas → Bool
+pagesOk st s present snapshot = every (λ i. pageOk (slots present i) (slots snapshot i) (entry st (frontOf s i)) (entry st (backOf s i))) 0 64
+
+-- an open sandbox has a share of 1 to 128; one without a snapshot has no snapshot area; a closed one has nothing
+unfoldable pub recordOk : Bool → ℕ → Bool → ℕ → ℕ → Bool
+recordOk opened share taken presentAreas snapshotAreas =
+    implies opened (between 1 128 share)
+    && (implies (not taken) (eqb snapshotAreas 0) && implies (not opened) (eqb share 0 && (eqb presentAreas 0 && not taken)))
+
+unfoldable pub sandboxOk : ℕ → Store → ℕ → Sandbox → Bool
+sandboxOk images st s b =
+    wellFormed images (b .present)
+    && (wellFormed images (b .snapshot)
+    && (pagesOk st s (b .present) (b .snapshot)
+    && (leb (chargeOf (slots (b .present)) (copyOf b)) (b .share)
+    && recordOk (b .opened) (b .share) (b .taken) (b .present .count) (b .snapshot .count))))
+
+unfoldable pub sandboxesOk : ℕ → World → Bool
+sandboxesOk images w = every (λ s. sandboxOk images (w .store) s (sandboxAt w s)) 0 4
+
+unfoldable pub soundb : List ℕ → World → Bool
+soundb image w =
+    lengthsOk (length (w .store .pool)) (length (w .store .table)) (length image)
+    && (marksb (framesOf w) (w .store .marks) (w .store .table)
+    && (sandboxesOk (pagesIn (length image)) w && leb (sharesOf w) (framesOf w)))

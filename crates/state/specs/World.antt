@@ -1,0 +1,98 @@
+-- The world of the machine: four sandboxes, and the store made of held marks, lent pool and lent table.
+use mathlib.Core.Bool.{Bool, true, false, _&&_}
+use mathlib.Core.Option.{Option, some, none}
+use mathlib.Core.List.{List}
+use Prim.Native.Nat.{ℕ, _*_, _/_, _%_}
+use lib.Dec.{leb, eqb}
+use lib.ListN.{length, getD, set, replicate}
+use Rattle.basics.specs.Choice.{_when_else_}
+use Rattle.basics.specs.Ranges.{sum}
+use Rattle.interface.specs.Slots.{Slots}
+use Rattle.interface.specs.Limits.{between}
+use Rattle.interface.specs.Refusals.{View}
+use Rattle.frames.specs.Frames.{noneHeld}
+use Rattle.table.specs.Store.{Store, kept, fresh}
+use Rattle.areas.specs.declared.area.Areas.{Areas}
+use Rattle.areas.specs.Areas.{empty, slots}
+use Rattle.state.specs.declared.sandbox.Sandbox.{Sandbox}
+use Rattle.state.specs.declared.sandbox.Machine.{Machine}
+
+pub record World : Type 0 where
+  pub sandboxes : List Sandbox
+  pub store : Store
+
+-- the world of a state, a pool and a table
+abbrev pub worldOf : Machine → List ℕ → List ℕ → World
+worldOf m pool table = record { sandboxes = m .sandboxes; store = kept (m .held) pool table }
+
+-- a closed sandbox has nothing
+abbrev pub closedSandbox : Sandbox
+closedSandbox = record { opened = false; share = 0; present = empty; taken = false; snapshot = empty }
+
+-- "A fresh state has four closed sandboxes and no held frame"
+abbrev pub freshMachine : Machine
+freshMachine = record { sandboxes = replicate 4 closedSandbox; held = noneHeld }
+
+-- the world that a start leaves over a pool of this many frames: "starting clears pool and table"
+abbrev pub started : ℕ → World
+started frames = record { sandboxes = replicate 4 closedSandbox; store = fresh 256 frames }
+
+-- sandbox s; past the row, a closed one
+abbrev pub sandboxAt : World → ℕ → Sandbox
+sandboxAt w s = getD (w .sandboxes) s closedSandbox
+
+-- one setter for each field of a sandbox
+abbrev pub withOpened : Bool → Sandbox → Sandbox
+withOpened x b = record { opened = x; share = b .share; present = b .present; taken = b .taken; snapshot = b .snapshot }
+
+abbrev pub withShare : ℕ → Sandbox → Sandbox
+withShare x b = record { opened = b .opened; share = x; present = b .present; taken = b .taken; snapshot = b .snapshot }
+
+abbrev pub withPresent : Areas → Sandbox → Sandbox
+withPresent x b = record { opened = b .opened; share = b .share; present = x; taken = b .taken; snapshot = b .snapshot }
+
+abbrev pub withTaken : Bool → Sandbox → Sandbox
+withTaken x b = record { opened = b .opened; share = b .share; present = b .present; taken = x; snapshot = b .snapshot }
+
+abbrev pub withSnapshot : Areas → Sandbox → Sandbox
+withSnapshot x b = record { opened = b .opened; share = b .share; present = b .present; taken = b .taken; snapshot = x }
+
+-- a world with another sandbox in the place of s
+abbrev pub withSandbox : ℕ → Sandbox → World → World
+withSandbox s b w = record { sandboxes = set (w .sandboxes) s b; store = w .store }
+
+-- the number of whole pages in so many bytes
+abbrev pub pagesIn : ℕ → ℕ
+pagesIn bytes = bytes / 256
+
+-- frames of the pool
+abbrev pub framesOf : World → ℕ
+framesOf w = pagesIn (length (w .store .pool))
+
+-- the snapshot's slots, where there is one
+abbrev pub copyOf : Sandbox → Option Slots
+copyOf b = some (slots (b .snapshot)) when b .taken else none
+
+-- "the shares together"
+abbrev pub sharesOf : World → ℕ
+sharesOf w = sum (λ s. sandboxAt w s .share) 4
+
+-- what refusals are decided from
+abbrev pub viewAt : List ℕ → World → ℕ → View
+viewAt image w s = record {
+  frames = framesOf w;
+  imagePages = pagesIn (length image);
+  shares = sharesOf w;
+  opened = sandboxAt w s .opened;
+  share = sandboxAt w s .share;
+  slots = slots (sandboxAt w s .present);
+  copy = copyOf (sandboxAt w s);
+}
+
+-- so many bytes are whole pages, at least low and at most high of them
+abbrev pub wholePages : ℕ → ℕ → ℕ → Bool
+wholePages low high bytes = eqb (bytes % 256) 0 && between low high (bytes / 256)
+
+-- "The pool is 1 to 128 frames of 256 bytes. The image, read only, is 0 to 64 pages of 256 bytes. The page table is 512 16-bit numbers"
+abbrev pub lengthsOk : ℕ → ℕ → ℕ → Bool
+lengthsOk pool table image = wholePages 1 128 pool && (eqb table 512 && wholePages 0 64 image)

@@ -1,0 +1,125 @@
+// A sandbox, and the four of them with the held marks.
+ghost use mathlib.Core.Path.{_≡_};
+ghost use Prim.Native.Nat.{_≤_};
+ghost use lib.ListN.{getD};
+ghost use Rattle.basics.specs.Ranges.{sum};
+ghost use Rattle.interface.specs.Slots.{chargeOf};
+ghost use Rattle.areas.specs.Areas.{slots, Near};
+ghost use Rattle.state.specs.World.{closedSandbox, freshMachine, withOpened, withShare, withPresent, withTaken, withSnapshot, copyOf};
+use areas::area::Areas;
+use frames::Held;
+
+// What is kept for a sandbox: whether it is open, its share, its areas, whether a snapshot was taken, and the snapshot's areas.
+pub struct Sandbox {
+    pub opened: bool,
+    pub share: u8,
+    pub present: Areas,
+    pub taken: bool,
+    pub snapshot: Areas,
+}
+
+// "Four sandboxes stand in a row, numbered 0 to 3"; "Held frames are marked one bit a frame".
+pub struct Machine {
+    pub sandboxes: [Sandbox; Machine::SANDBOXES],
+    pub held: Held,
+}
+
+impl Machine {
+    pub const SANDBOXES: usize = 4;
+
+    // "A fresh state has four closed sandboxes and no held frame."
+    pub fn fresh() -> Machine
+        ensures { λ r. ⌜ r ≡ freshMachine ⌝ }
+    {
+        let closed = Sandbox::closed();
+        let held = Held::none();
+        Machine {
+            sandboxes: [closed; Machine::SANDBOXES],
+            held: held,
+        }
+    }
+}
+
+impl Sandbox {
+    // A closed sandbox has nothing.
+    pub fn closed() -> Sandbox
+        ensures { λ r. ⌜ r ≡ closedSandbox ⌝ }
+    {
+        let present = Areas::empty();
+        let snapshot = Areas::empty();
+        Sandbox {
+            opened: false,
+            share: 0,
+            present: present,
+            taken: false,
+            snapshot: snapshot,
+        }
+    }
+
+    // One setter for each field.
+    pub fn with_opened(self, opened: bool) -> Sandbox
+        ensures { λ r. ⌜ r ≡ withOpened opened self ⌝ }
+    {
+        let mut b = self;
+        b.opened = opened;
+        b
+    }
+
+    pub fn with_share(self, share: u8) -> Sandbox
+        ensures { λ r. ⌜ r ≡ withShare share self ⌝ }
+    {
+        let mut b = self;
+        b.share = share;
+        b
+    }
+
+    pub fn with_present(self, present: Areas) -> Sandbox
+        ensures { λ r. ⌜ r ≡ withPresent present self ⌝ }
+    {
+        let mut b = self;
+        b.present = present;
+        b
+    }
+
+    pub fn with_taken(self, taken: bool) -> Sandbox
+        ensures { λ r. ⌜ r ≡ withTaken taken self ⌝ }
+    {
+        let mut b = self;
+        b.taken = taken;
+        b
+    }
+
+    pub fn with_snapshot(self, snapshot: Areas) -> Sandbox
+        ensures { λ r. ⌜ r ≡ withSnapshot snapshot self ⌝ }
+    {
+        let mut b = self;
+        b.snapshot = snapshot;
+        b
+    }
+
+    // The charge: "its mapped pages before a snapshot. Afterwards it is 2 × the snapshot's pages, mapped or not, plus the uncommitted mapped pages."
+    pub fn charge(self) -> u8
+        requires { ⌜ Near (self .present .list) ⌝ }
+        requires { ⌜ Near (self .snapshot .list) ⌝ }
+        ensures { λ r. ⌜ r ≡ chargeOf (slots (self .present)) (copyOf self) ⌝ }
+    {
+        let present = self.present;
+        let snapshot = self.snapshot;
+        if !self.taken {
+            return present.mapped_pages();
+        }
+        2 * snapshot.mapped_pages() + present.uncommitted_pages()
+    }
+}
+
+// "the shares together"
+pub fn shares(sandboxes: [Sandbox; 4]) -> u16
+    ensures { λ r. ⌜ r ≡ sum (λ s. getD sandboxes s closedSandbox .share) 4 ⌝ }
+    ensures small { λ r. ⌜ r ≤ 1020 ⌝ }
+{
+    let first = sandboxes[0];
+    let second = sandboxes[1];
+    let third = sandboxes[2];
+    let fourth = sandboxes[3];
+    first.share as u16 + second.share as u16 + third.share as u16 + fourth.share as u16
+}

@@ -1,0 +1,9 @@
+-- In reading order.
+pub mod FiledLaws
+pub mod StoreLaws
+pub mod FreeLaws
+pub mod MoveLaws
+pub mod RewindLaws
+pub mod TouchLaws
+pub mod StartLaws
+pub mod PageLaws

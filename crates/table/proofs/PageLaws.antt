@@ -1,0 +1,64 @@
+-- What the code finds at the entries of one page, and what it does there, in the terms of the store.
+use mathlib.Core.Path.{_≡_, refl, sym, ap, _∙_}
+use mathlib.Core.Bool.{Bool, true, false}
+use mathlib.Core.List.{List}
+use Prim.Native.Nat.{ℕ, zero, suc, _-_, _*_, _≤_}
+use native.Mathlib.Omega.{arith}
+use borrow.Author.Tests.{ne-eqb}
+use lib.ListN.{length, getD}
+use Rattle.basics.specs.Choice.{_when_else_}
+use Rattle.pages.specs.Parts.{frame, setFrame}
+use Rattle.table.specs.Store.{Store, kept, entry, pageIn, contents, pageFrom, underFront, Ranged, fill, free, rewindPage}
+use Rattle.table.proofs.FiledLaws.{zero-times}
+
+-- the bytes of the frame that an entry names, which names one
+pub page-there : (size : ℕ) (pool bytes : List ℕ) (e : ℕ) → (e ≡ 0 → ⊥) → frame size pool (e - 1) ≡ pageFrom bytes (pageIn size pool e)
+page-there size pool bytes zero d = absurd (d refl)
+page-there size pool bytes (suc f) d = let m : suc f - 1 ≡ f = omega arith in ap (frame size pool) m
+
+-- ---- the back entry of a committed page, and none of one that is not
+
+module _ (size : ℕ) (pool table : List ℕ) (g : Ranged size pool table) (k : ℕ) where
+  pub few-if : (committed : Bool) → (getD table k 0 when committed else 0) ≤ 128
+  few-if true = g .few k
+  few-if false = omega arith
+
+  pub room-if : (committed : Bool) → (getD table k 0 when committed else 0) * size ≤ length pool
+  room-if true = g .room k
+  room-if false = zero-times size (length pool)
+
+pub under-if : (size : ℕ) (s : Store) (k : ℕ) (bytes : List ℕ) (committed : Bool)
+    → pageFrom bytes (pageIn size (s .pool) (entry s k when committed else 0)) ≡ underFront committed bytes (contents size s k)
+unfolding contents
+under-if size s k bytes true = refl
+under-if size s k bytes false = refl
+
+-- ---- what a page reads, with the front entry k and the back entry j
+
+module _ (size : ℕ) (s : Store) (k j : ℕ) (bytes : List ℕ) (committed : Bool) (front under : ℕ)
+    (is-front : front ≡ entry s k) (is-under : under ≡ (entry s j when committed else 0)) where
+  pub reads-front : (front ≡ 0 → ⊥) → frame size (s .pool) (front - 1) ≡ pageFrom (underFront committed bytes (contents size s j)) (contents size s k)
+  unfolding contents
+  reads-front d = rw (← is-front) (page-there size (s .pool) (underFront committed bytes (contents size s j)) front d)
+
+  reads-beneath : front ≡ 0 → pageFrom bytes (pageIn size (s .pool) under) ≡ pageFrom (underFront committed bytes (contents size s j)) (contents size s k)
+  unfolding contents
+  reads-beneath e = rw (← is-front, e, is-under) (under-if size s j bytes committed)
+
+  pub reads-back : front ≡ 0 → (under ≡ 0 → ⊥) → frame size (s .pool) (under - 1) ≡ pageFrom (underFront committed bytes (contents size s j)) (contents size s k)
+  reads-back e d = page-there size (s .pool) bytes under d ∙ reads-beneath e
+
+  pub reads-source : front ≡ 0 → under ≡ 0 → bytes ≡ pageFrom (underFront committed bytes (contents size s j)) (contents size s k)
+  reads-source e z = ap (λ (x : ℕ). pageFrom bytes (pageIn size (s .pool) x)) (sym z) ∙ reads-beneath e
+
+-- ---- a page that is rewound
+
+module _ (size k j : ℕ) (keep : Bool) (bytes : List ℕ) (s : Store) where
+  pub restore-free : keep ≡ false → free size k s ≡ rewindPage size k j keep bytes s
+  unfolding rewindPage
+  restore-free e = rw e
+
+  pub restore-fill : (front back : ℕ) (pool : List ℕ) → keep ≡ true → front ≡ entry s k → (front ≡ 0 → ⊥) → back ≡ entry s j
+      → pool ≡ setFrame size (s .pool) (front - 1) (pageFrom bytes (pageIn size (s .pool) back)) → kept (s .marks) pool (s .table) ≡ rewindPage size k j keep bytes s
+  unfolding rewindPage fill contents
+  restore-fill front back pool e is-front d is-back p = rw (e, ← is-front, ne-eqb front 0 d, ← is-back, p)

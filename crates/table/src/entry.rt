@@ -1,0 +1,75 @@
+// The lent page table, read and stored by sandbox and page: "for each sandbox 64 front entries, then 64 back entries".
+ghost use mathlib.Core.Path.{_≡_};
+ghost use mathlib.Core.List.{List};
+ghost use Prim.Native.Nat.{ℕ, _+_, _-_, _*_, _≤_, _<_};
+ghost use lib.ListN.{length, getD};
+ghost use Rattle.frames.specs.declared.Held.{Held as Words};
+ghost use Rattle.table.specs.Store.{kept, frontOf, backOf, move, moveTo};
+use frames::FrameNo;
+use interface::page::PageNo;
+use marks::Marks;
+
+// The front entry of a page: "0 for none, else a frame number plus one".
+pub fn front(table: &[u16], sandbox: u8, page: PageNo) -> u16
+    requires { ⌜ sandbox < 4 ⌝ }
+    requires { ⌜ page .0 < 64 ⌝ }
+    requires { ⌜ length (now table) ≡ 512 ⌝ }
+    ensures { λ r. ⌜ r ≡ getD (now (table .entry)) (frontOf sandbox (page .0)) 0 ⌝ }
+{
+    let at = front_index(sandbox, page);
+    table[at]
+}
+
+// The back entry of a page.
+pub fn back(table: &[u16], sandbox: u8, page: PageNo) -> u16
+    requires { ⌜ sandbox < 4 ⌝ }
+    requires { ⌜ page .0 < 64 ⌝ }
+    requires { ⌜ length (now table) ≡ 512 ⌝ }
+    ensures { λ r. ⌜ r ≡ getD (now (table .entry)) (backOf sandbox (page .0)) 0 ⌝ }
+{
+    let at = front_index(sandbox, page) + PageNo::COUNT;
+    table[at]
+}
+
+// The fronts of all pages of a sandbox become its backs.
+pub fn move_fronts(table: &mut [u16], sandbox: u8)
+    requires { ⌜ sandbox < 4 ⌝ }
+    requires { ⌜ length (now table) ≡ 512 ⌝ }
+    ensures { λ r. ⌜ ((h : Words) (pool : List ℕ) → kept h pool (now (table .exit)) ≡ moveTo (sandbox * 128) (kept h pool (now (table .entry))) 64) ⌝ }
+{
+    for i in 0..64u8 {
+        move_front(table, sandbox, PageNo(i));
+    }
+}
+
+// The front of a page becomes its back.
+fn move_front(table: &mut [u16], sandbox: u8, page: PageNo)
+    requires { ⌜ sandbox < 4 ⌝ }
+    requires { ⌜ page .0 < 64 ⌝ }
+    requires { ⌜ length (now table) ≡ 512 ⌝ }
+    ensures { λ r. ⌜ ((h : Words) (pool : List ℕ) → kept h pool (now (table .exit)) ≡ move (frontOf sandbox (page .0)) (backOf sandbox (page .0)) (kept h pool (now (table .entry)))) ⌝ }
+{
+    let from = front_index(sandbox, page);
+    let to = from + PageNo::COUNT;
+    let entry = table[from];
+    table[from] = 0;
+    table[to] = entry;
+}
+
+// Where a page's front entry stands; its back entry stands 64 further on.
+pub(crate) fn front_index(sandbox: u8, page: PageNo) -> usize
+    requires { ⌜ sandbox < 4 ⌝ }
+    requires { ⌜ page .0 < 64 ⌝ }
+    ensures { λ r. ⌜ r ≡ frontOf sandbox (page .0) ⌝ }
+{
+    sandbox as usize * Marks::SANDBOX_ENTRIES + page.0 as usize
+}
+
+// The frame that an entry names, which names one.
+pub(crate) fn frame_of(entry: u16) -> FrameNo
+    requires { ⌜ 0 < entry ⌝ }
+    requires { ⌜ entry ≤ 128 ⌝ }
+    ensures { λ r. ⌜ r .0 ≡ entry - 1 ⌝ }
+{
+    FrameNo((entry - 1) as u8)
+}
