@@ -1,0 +1,45 @@
+-- The document's roll on the machine's own step, the test of soundness in each: its 12 answers, by computation.
+use Prim.Native.Nat.{ℕ}
+use mathlib.Core.Path.{_≡_, refl}
+use mathlib.Core.List.{List, [], _∷_}
+use lib.ListN.{getD}
+use Rattle.basics.specs.Ranges.{count, sum, every, lowest, inside, over}
+use Rattle.interface.specs.declared.request.Request.{Request}
+use Rattle.interface.specs.Answers.{Answered}
+use Rattle.interface.specs.Slots.{follows, joins, areas, mappedPages, uncommittedPages, lowestGap, chargeOf}
+use Rattle.interface.specs.Limits.{within}
+use Rattle.interface.specs.Outcome.{firstOf, slotsAfter, copyAfter}
+use Rattle.interface.specs.Refusals.{allMapped, refusal}
+use Rattle.frames.specs.declared.Free.{Free}
+use Rattle.frames.specs.declared.Free.the-variants.{Frame, None}
+use Rattle.frames.specs.Word.{bit, putBit}
+use Rattle.frames.specs.Frames.{held, mark, countHeld, greatest}
+use Rattle.pages.specs.Parts.{partAt, setPart, zeros, frame, setFrame}
+use Rattle.marks.specs.Marks.{addEntry, marksTo, marksb}
+use Rattle.table.specs.Store.{contents, put, free, take, fill, storeByte, move, rewindPage, freeTo, moveTo, rewindTo, fresh}
+use Rattle.areas.specs.Areas.{slotIn}
+use Rattle.areas.specs.Pack.{goesOn, continues, push, packTo}
+use Rattle.areas.specs.Formed.{proper, isApart, isNone, placeOk, wellFormed}
+use Rattle.state.specs.World.{World, framesOf, started}
+use Rattle.state.specs.Test.{pageOk, pagesOk, recordOk, sandboxOk, sandboxesOk, soundb}
+use Rattle.rules.specs.After.{packedAfter, takenAfter, snapshotAfter}
+use Rattle.machine.specs.Step.{pageUnder, pageRead, touched, storeAfter, heldBy, valueAt, numberAt, step}
+use Rattle.plain.specs.Cases.{Line, cases, requestsOf, getsOf}
+
+-- the greatest frame that is not held
+chosen : Free → ℕ
+chosen None = 0
+chosen (Frame f) = f .0
+
+-- the answers, where a write takes that frame; without an image
+played : World → List Request → List Answered
+played w [] = []
+played w (q ∷ qs) = let o = step [] (chosen (greatest (held (w .store .marks)) (framesOf w))) w q in o .answer ∷ played (o .world) qs
+
+-- the first of the starred cases
+roll : List Line
+roll = getD cases 0 []
+
+roll-played : played (started 8) (requestsOf roll) ≡ getsOf roll
+unfolding chosen played roll count sum every lowest inside over follows joins areas mappedPages uncommittedPages lowestGap chargeOf within firstOf slotsAfter copyAfter allMapped refusal bit putBit held mark countHeld greatest partAt setPart zeros frame setFrame addEntry marksTo marksb contents put free take fill storeByte move rewindPage freeTo moveTo rewindTo fresh slotIn goesOn continues push packTo proper isApart isNone placeOk wellFormed pageOk pagesOk recordOk sandboxOk sandboxesOk soundb pageUnder pageRead packedAfter takenAfter snapshotAfter touched storeAfter heldBy valueAt numberAt step
+roll-played = refl

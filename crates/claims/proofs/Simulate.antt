@@ -1,0 +1,229 @@
+-- A step of the machine and one of the plain machine give the same answer and keep the agreement.
+use mathlib.Core.Path.{_≡_, refl, sym, ap, ap₂, _∙_}
+use mathlib.Core.Bool.{Bool, true, false, _&&_, false≢true}
+use Prim.Native.Nat.{ℕ, zero, suc, _+_, _*_, _<_}
+use native.Mathlib.Omega.{arith}
+use lib.Dec.{ltb, eqb}
+use lib.ListN.{getD, length-set}
+use lib.Seq.{getD-set-same, getD-set-other}
+use borrow.Author.Tests.{eq-eqb, eqb-true, eqb-false, ltb-true, ltb-false}
+use Rattle.basics.specs.Ranges.{one, count, sum}
+use Rattle.basics.proofs.TestLaws.{by-cases, and-left}
+use Rattle.interface.specs.declared.request.Request.{Request}
+use Rattle.interface.specs.Requests.{_is_, Map, Read, Write, Snapshot, Report, isCall, pageOf, offsetOf}
+use Rattle.interface.specs.Slots.{Slots, isMapped, mappedPages}
+use Rattle.interface.specs.Limits.{usesOne, within}
+use Rattle.interface.specs.Outcome.{firstOf, shareAfter}
+use Rattle.interface.specs.Refusals.{View, allMapped, refusal}
+use Rattle.interface.specs.Accepted.{Accepted}
+use Rattle.interface.proofs.KindLaws.{kind}
+use Rattle.interface.proofs.AcceptedLaws.{accepted}
+use Rattle.frames.specs.Frames.{held}
+use Rattle.pages.proofs.ListedLaws.{listed-at}
+use Rattle.marks.specs.Named.{used, usedBelow}
+use Rattle.marks.specs.Marks.{from}
+use Rattle.marks.proofs.NamedLaws.{by-entry}
+use Rattle.marks.proofs.MarkLaws.{count-run, used-add}
+use Rattle.table.specs.Store.{Store, entry, frontOf, backOf, contents}
+use Rattle.state.specs.declared.sandbox.Sandbox.{Sandbox}
+use Rattle.state.specs.World.{World, sandboxAt, closedSandbox, framesOf, sharesOf, viewAt}
+use Rattle.rules.specs.After.{sandboxAfter}
+use Rattle.machine.specs.Step.{pageRead, storeAfter, worldAfter, heldBy, valueAt, numberAt, step, Outcome, Stepped}
+use Rattle.plain.specs.Machine.{Given, Kept, Plain, held as heldMarks, coreValue, valueAt as plainValue, shares, viewOf, keptAfter, numberAt as plainNumber, answer, after}
+use Rattle.plain.proofs.KeptLaws.{holds-after}
+use Rattle.plain.proofs.ReadLaws.{reads-after}
+use Rattle.plain.proofs.OneSandbox.{after-others}
+use Rattle.plain.proofs.Corollaries.{refused-changes-nothing}
+use Rattle.claims.specs.Demands.{Lent}
+use Rattle.claims.specs.Agrees.{pageIf, AgreesAt, Agrees}
+use Rattle.claims.proofs.StepLaws.{frame-free}
+use Rattle.claims.proofs.AreaSteps.{copy-same, slots-after, formed-after, copy-after, formed-copy-after, taken-after, untaken-after}
+use Rattle.claims.proofs.ReadSteps.{page-read, mark-none, frame-is}
+use Rattle.claims.proofs.StoreSteps.{Stored, stored-after}
+use Rattle.claims.proofs.SoundLaws.{frames-same, shares-same, agrees-tested}
+
+-- ---- the number
+
+-- rows 2 and 4 need no view
+refused-2 : (v : View) (q : Request) → isCall q ≡ false → refusal v q ≡ 2
+unfolding refusal
+refused-2 v q c = rw c
+
+refused-4 : (v : View) (q : Request) → isCall q ≡ true → ltb 3 (q .sandbox) ≡ true → refusal v q ≡ 4
+unfolding refusal
+refused-4 v q c r = rw (c, r)
+
+-- a sandbox that agrees gives the view that the plain machine has
+pub view-at : (g : Given) (w : World) (total s : ℕ) (k : Kept) → framesOf w ≡ g .frames → sharesOf w ≡ total → AgreesAt g (w .store) s (sandboxAt w s) k
+    → viewAt (g .image) w s ≡ viewOf g total (k .core)
+view-at g w total s k frames total-is A =
+    λ i. record {
+      frames = frames i;
+      imagePages = viewOf g total (k .core) .imagePages;
+      shares = total-is i;
+      opened = A .opened i;
+      share = A .share i;
+      slots = A .present i;
+      copy = copy-same (sandboxAt w s) (k .core) (A .taken) (A .copy) i;
+    }
+
+module _ {C : Type 0} (g : Given) (L : Lent g) (w : World) (p : Plain) (A : Agrees C g w p) where
+  view-same : (s : ℕ) → s < 4 → viewAt (g .image) w s ≡ viewOf g (shares p) (p s .core)
+  view-same s l = view-at g w (shares p) s (p s) (frames-same g w p A) (shares-same g w p A) (A .each s l)
+
+  pub number-same : (q : Request) → numberAt (g .image) w q ≡ plainNumber g p q
+  unfolding numberAt
+  number-same q =
+      by-cases (isCall q)
+      (λ c. by-cases (ltb 3 (q .sandbox))
+      (λ r. rw (c, agrees-tested g w p A L, refused-4 (viewAt (g .image) w (q .sandbox)) q c r, refused-4 (viewOf g (shares p) (p (q .sandbox) .core)) q c r))
+      (λ r. rw (c, agrees-tested g w p A L) (ap (λ (v : View). refusal v q) (view-same (q .sandbox) (omega (arith, ltb-false 3 (q .sandbox) r))))))
+      (λ c. rw (c, refused-2 (viewOf g (shares p) (p (q .sandbox) .core)) q c))
+
+-- ---- the report
+
+pub used-count : (f : ℕ → ℕ) (m : ℕ → Bool) (n : ℕ) → ((i : ℕ) → i < n → used (f i) ≡ one (m i)) → usedBelow f n ≡ count m n
+unfolding usedBelow sum count
+used-count f m zero e = refl
+used-count f m (suc n) e = omega (arith, e n (omega arith), used-count f m n (λ i l. e i (omega arith)))
+
+pub used-one : (st : Store) (k : ℕ) (m : Bool) (h : ℕ → ℕ) → contents 256 st k ≡ pageIf m h → used (entry st k) ≡ one m
+used-one st k m h c =
+    by-entry (used (entry st k) ≡ one m) (entry st k) (λ z. rw (z, mark-none st k m h c z)) (λ f z. rw (z, frame-is st k m h c f z .0))
+
+module _ {C : Type 0} (g : Given) (w : World) (p : Plain) (A : Agrees C g w p) (s : ℕ) where
+  pub held-counts : heldBy (w .store) s ≡ usedBelow (from (s * 128) (w .store .table)) 128
+  unfolding heldBy
+  held-counts = rw (frames-same g w p A) (count-run (g .frames) (A .tidy .filed .few) (w .store .marks) (entry (w .store)) (A .tidy .filed .names) (s * 128) 128)
+
+  pub backs-count : s < 4 → usedBelow (from (s * 128 + 64) (w .store .table)) 64 ≡ count (p s .traces .back) 64
+  backs-count l =
+      used-count (from (s * 128 + 64) (w .store .table)) (p s .traces .back) 64
+      (λ i m. ap (λ (x : ℕ). used (getD (w .store .table) x 0)) (omega arith) ∙ used-one (w .store) (backOf s i) (p s .traces .back i) _ (A .each s l .backs i m))
+
+  held-same : s < 4 → heldBy (w .store) s ≡ heldMarks (p s .traces)
+  unfolding heldMarks
+  held-same l =
+      let st : Store = w .store in
+      held-counts
+      ∙ used-add (from (s * 128) (st .table)) 64 64
+      ∙ ap₂ _+_
+      (used-count (from (s * 128) (st .table)) (p s .traces .front) 64 (λ i m. used-one st (frontOf s i) (p s .traces .front i) _ (A .each s l .fronts i m)))
+      (used-count (λ i. from (s * 128) (st .table) (64 + i)) (p s .traces .back) 64
+      (λ i m. ap (λ (x : ℕ). used (getD (st .table) x 0)) (omega arith) ∙ used-one st (backOf s i) (p s .traces .back i) _ (A .each s l .backs i m)))
+
+-- ---- an accepted request
+
+module _ {C : Type 0} (g : Given) (L : Lent g) (w : World) (p : Plain) (A : Agrees C g w p) (q : Request) (n : plainNumber g p q ≡ 0) where
+  met : Accepted (viewOf g (shares p) (p (q .sandbox) .core)) q
+  met = accepted _ q n
+
+  low : q .sandbox < 4
+  low = omega (arith, met .inRow)
+
+  mine : AgreesAt g (w .store) (q .sandbox) (sandboxAt w (q .sandbox)) (p (q .sandbox))
+  mine = A .each (q .sandbox) low
+
+  read-same : q .code ≡ Read → getD (pageRead (g .image) (w .store) (sandboxAt w (q .sandbox)) (q .sandbox) (pageOf q)) (offsetOf q) 0 ≡ p (q .sandbox) .core .pages .bytes (pageOf q) (offsetOf q)
+  unfolding within allMapped
+  read-same e =
+      let limits : (ltb (q .p1) 16384 && usesOne q) ≡ true = rw e at (met .inLimits) in
+      let there : isMapped (p (q .sandbox) .core .pages .slots (pageOf q)) ≡ true = rw e at (met .mapped) in
+      let page : pageOf q < 64 = omega (arith, ltb-true (q .p1) 16384 (and-left _ _ limits)) in
+      rw (page-read g L (w .store) (q .sandbox) (sandboxAt w (q .sandbox)) (p (q .sandbox)) (A .holds .each (q .sandbox)) (A .reads (q .sandbox)) mine (pageOf q) page there)
+      (listed-at 256 (p (q .sandbox) .core .pages .bytes (pageOf q)) (offsetOf q) (omega arith))
+
+  value-same : valueAt (g .image) q (sandboxAt w (q .sandbox)) (w .store) ≡ plainValue g q (p (q .sandbox))
+  unfolding valueAt coreValue
+  value-same =
+      by-cases (q is Report)
+      (λ r. let c = eqb-true (q .code) Report r in
+      let m : (q is Map) ≡ false = rw c in let d : (q is Read) ≡ false = rw c in let s : (q is Snapshot) ≡ false = rw c in
+      rw (m, d, s, r) (held-same g w p A (q .sandbox) low)) λ r.
+      by-cases (q is Map) (λ m. rw (r, m) (ap (λ (f : Slots). firstOf f q) (mine .present))) λ m.
+      by-cases (q is Read) (λ d. rw (r, m, d) (read-same (eqb-true (q .code) Read d))) λ d.
+      by-cases (q is Snapshot) (λ s. rw (r, m, d, s) (ap mappedPages (mine .present))) λ s. rw (r, m, d, s)
+
+  -- a sandbox that the request does not name
+  agrees-other : (r : Store) (t : ℕ) (b : Sandbox) (k : Kept) → ((x : ℕ) → x < 128 → contents 256 r (t * 128 + x) ≡ contents 256 (w .store) (t * 128 + x))
+      → AgreesAt g (w .store) t b k → AgreesAt g r t b k
+  agrees-other r t b k e a =
+      record {
+        opened = a .opened;
+        share = a .share;
+        formed = a .formed;
+        present = a .present;
+        formedCopy = a .formedCopy;
+        taken = a .taken;
+        copy = a .copy;
+        untaken = a .untaken;
+        closed = a .closed;
+        fronts = λ i l. e i (omega arith) ∙ a .fronts i l;
+        backs = λ i l. let z : backOf t i ≡ t * 128 + (i + 64) = omega arith in rw z (e (i + 64) (omega arith)) ∙ a .backs i l;
+      }
+
+  module _ (f : ℕ) (free : (q is Write) ≡ true → eqb (entry (w .store) (frontOf (q .sandbox) (pageOf q))) 0 ≡ true → (f < g .frames) × (held (w .store .marks) f ≡ 0)) where
+    store-after : Stored C g (w .store) (storeAfter (g .image) f q (sandboxAt w (q .sandbox)) (w .store)) (q .sandbox) (keptAfter g q (p (q .sandbox)))
+    store-after =
+        stored-after g L q (w .store) (A .tidy) (sandboxAt w (q .sandbox)) (p (q .sandbox)) (met .inRow) (A .holds .each (q .sandbox)) (A .reads (q .sandbox)) mine
+        (shares p) met f (kind q) free
+
+    agrees-own : AgreesAt g (storeAfter (g .image) f q (sandboxAt w (q .sandbox)) (w .store)) (q .sandbox) (sandboxAfter q (sandboxAt w (q .sandbox))) (keptAfter g q (p (q .sandbox)))
+    agrees-own =
+        let st : Store = w .store in
+        let b : Sandbox = sandboxAt w (q .sandbox) in
+        let k : Kept = p (q .sandbox) in
+        let h = A .holds .each (q .sandbox) in
+        record {
+          opened = refl;
+          share = ap (shareAfter q) (mine .share);
+          formed = formed-after g q st b k (shares p) met h mine (kind q);
+          present = slots-after g q st b k (shares p) met h mine (kind q);
+          formedCopy = formed-copy-after g q st b k (shares p) met h mine;
+          taken = taken-after g q st b k (shares p) met h mine;
+          copy = copy-after g q st b k (shares p) met h mine;
+          untaken = untaken-after g q st b k (shares p) met h mine;
+          closed = λ e. absurd (false≢true (sym e));
+          fronts = store-after .fronts;
+          backs = store-after .backs;
+        }
+
+    here : sandboxAt (worldAfter (g .image) f w q) (q .sandbox) ≡ sandboxAfter q (sandboxAt w (q .sandbox))
+    here = getD-set-same (w .sandboxes) (q .sandbox) (sandboxAfter q (sandboxAt w (q .sandbox))) closedSandbox (omega (arith, low, A .row))
+
+    there : after g p q (q .sandbox) ≡ keptAfter g q (p (q .sandbox))
+    unfolding after
+    there = rw (n, eq-eqb (q .sandbox) (q .sandbox) refl)
+
+    agrees-accepted : Agrees C g (worldAfter (g .image) f w q) (after g p q)
+    agrees-accepted =
+        record {
+          tidy = store-after .tidy;
+          row = length-set (w .sandboxes) (q .sandbox) _ ∙ A .row;
+          each = λ t l. by-cases (eqb (q .sandbox) t)
+              (λ e. rw (← eqb-true (q .sandbox) t e, here, there) agrees-own)
+              (λ e. rw (getD-set-other (w .sandboxes) (q .sandbox) t (sandboxAfter q (sandboxAt w (q .sandbox))) closedSandbox (λ z. eqb-false (q .sandbox) t e (sym z)), after-others g p q t e)
+              (agrees-other (storeAfter (g .image) f q (sandboxAt w (q .sandbox)) (w .store)) t (sandboxAt w t) (p t) (λ x m. store-after .others t x (eqb-false (q .sandbox) t e) m) (A .each t l)));
+          holds = holds-after g p q (A .holds);
+          reads = reads-after g p q (A .holds) (A .reads);
+        }
+
+-- ---- any request
+
+module _ {C : Type 0} (g : Given) (L : Lent g) (w : World) (p : Plain) (A : Agrees C g w p) (q : Request) (o : Outcome) (s : Stepped (g .image) w q o) where
+  free-frame : plainNumber g p q ≡ 0 → (q is Write) ≡ true → eqb (entry (w .store) (frontOf (q .sandbox) (pageOf q))) 0 ≡ true → (s .frame < g .frames) × (held (w .store .marks) (s .frame) ≡ 0)
+  free-frame n = rw (← frames-same g w p A) (frame-free (g .image) w q o s (number-same g L w p A q ∙ n))
+
+  pub step-answer : o .answer ≡ answer g p q
+  unfolding step answer
+  step-answer =
+      rw (s .equals, number-same g L w p A q)
+      (by-cases (eqb (plainNumber g p q) 0) (λ e. rw (e, value-same g L w p A q (eqb-true _ 0 e))) (λ e. rw e))
+
+  pub step-agrees : Agrees C g (o .world) (after g p q)
+  unfolding step
+  step-agrees =
+      rw (s .equals, number-same g L w p A q)
+      (by-cases (eqb (plainNumber g p q) 0)
+      (λ e. rw e (agrees-accepted g L w p A q (eqb-true _ 0 e) (s .frame) (free-frame (eqb-true _ 0 e))))
+      (λ e. rw (e, refused-changes-nothing g p q e) A))

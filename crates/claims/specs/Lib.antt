@@ -1,0 +1,3 @@
+-- In reading order: what is claimed, and what the proofs carry along a list.
+pub mod Demands
+pub mod Agrees

@@ -1,0 +1,136 @@
+-- A call, by each of its ways out; and what a sound state gives to the parts of an accepted call.
+use Prim.Native.Nat.{ℕ, _<_}
+use mathlib.Core.Path.{_≡_, refl, sym, ap, _∙_}
+use mathlib.Core.Bool.{true, false, not, _&&_, _||_, false≢true}
+use mathlib.Core.List.{List}
+use lib.Dec.{leb, ltb, eqb}
+use lib.ListN.{length, set}
+use borrow.Author.Tests.{ltb-true, ltb-false, lt-ltb, le-leb, lt-leb, eqb-true}
+use Rattle.basics.proofs.TestLaws.{by-cases, and-left, and-right, or-left, or-right}
+use Rattle.interface.specs.declared.answer.Refusal.{Refusal}
+use Rattle.interface.specs.declared.answer.Refusal.the-variants.{Malformed, NoSuchCall, Unsound, NotOpen, AlreadyOpen, OutsideLimits, SnapshotTaken, NoSnapshot, NotMapped, AlreadyMapped, NoGap, NotWritable, ShareExceeded, TooManyAreas}
+use Rattle.interface.specs.declared.request.Request.{Request}
+use Rattle.interface.specs.Answers.{refusalNumber}
+use Rattle.interface.specs.Requests.{_is_, Write, isCall, pageOf}
+use Rattle.interface.specs.Slots.{isMapped}
+use Rattle.interface.specs.Refusals.{allMapped, refusal}
+use Rattle.interface.proofs.AcceptedLaws.{accepted}
+use Rattle.table.specs.Store.{Store}
+use Rattle.areas.specs.Areas.{slots}
+use Rattle.state.specs.declared.sandbox.Sandbox.{Sandbox}
+use Rattle.marks.specs.Marks.{marksb}
+use Rattle.marks.proofs.MarkLaws.{words}
+use Rattle.state.specs.World.{World, sandboxAt, framesOf, pagesIn, viewAt, lengthsOk}
+use Rattle.state.proofs.TestLaws.{lengths-true, sound-true}
+use Rattle.state.specs.Sound.{Sound}
+use Rattle.state.specs.Test.{soundb}
+use Rattle.state.proofs.Room.{room}
+use Rattle.rules.specs.After.{sandboxAfter}
+use Rattle.rules.specs.Ready.{Ready}
+use Rattle.rules.proofs.FitLaws.{fit, page-small}
+use Rattle.machine.specs.Step.{Outcome, Stepped, numberAt, takes, step, valueAt}
+use Rattle.machine.specs.Parts.{Asked, StoreStepped, Performed}
+
+-- a state whose test passes is sound: the marks are two words of 64 bits, because they are those that the pass over the entries found
+pub sound-of-test : (image : List ℕ) (w : World) → length (w .sandboxes) ≡ 4 → soundb image w ≡ true → Sound image w
+unfolding soundb
+sound-of-test image w four e =
+    let lengths = lengths-true (length (w .store .pool)) (length (w .store .table)) (length image) (and-left (lengthsOk (length (w .store .pool)) (length (w .store .table)) (length image)) _ e) in
+    let marks = and-left (marksb (framesOf w) (w .store .marks) (w .store .table)) _ (and-right (lengthsOk (length (w .store .pool)) (length (w .store .table)) (length image)) _ e) in
+    let two = words (framesOf w) (w .store .marks) (w .store .table) (lengths .few) marks in
+    sound-true image w (record { row = four; low = two .0; high = two .1 }) e
+
+-- no refusal has the number 0
+pub some-number : (why : Refusal) → eqb (refusalNumber why) 0 ≡ false
+some-number Malformed = refl
+some-number NoSuchCall = refl
+some-number Unsound = refl
+some-number NotOpen = refl
+some-number AlreadyOpen = refl
+some-number OutsideLimits = refl
+some-number SnapshotTaken = refl
+some-number NoSnapshot = refl
+some-number NotMapped = refl
+some-number AlreadyMapped = refl
+some-number NoGap = refl
+some-number NotWritable = refl
+some-number ShareExceeded = refl
+some-number TooManyAreas = refl
+
+-- "call code not 1 to 9", as the code tests it
+pub no-call : (n : ℕ) → (ltb n 1 || ltb 9 n) ≡ true → (leb 1 n && leb n 9) ≡ false
+no-call n h =
+    by-cases (ltb n 1) (λ e. rw (lt-leb 1 n (ltb-true n 1 e)))
+    (λ e. let past : ltb 9 n ≡ true = rw e at h in rw (le-leb 1 n (ltb-false n 1 e), lt-leb n 9 (ltb-true 9 n past)))
+
+pub a-call : (n : ℕ) → (ltb n 1 || ltb 9 n) ≡ false → (leb 1 n && leb n 9) ≡ true
+a-call n h = rw (le-leb 1 n (ltb-false n 1 (or-left (ltb n 1) (ltb 9 n) h)), le-leb n 9 (ltb-false 9 n (or-right (ltb n 1) (ltb 9 n) h)))
+
+module _ (image : List ℕ) (w : World) (q : Request) where
+  -- a refused call
+  pub stepped-refused : (why : Refusal) → refusalNumber why ≡ numberAt image w q
+      → Stepped image w q (record { answer = record { number = refusalNumber why; value = 0 }; world = w })
+  unfolding step takes
+  stepped-refused why e =
+      let no : eqb (numberAt image w q) 0 ≡ false = rw (← e) (some-number why) in
+      record { frame = 0; free = λ t. absurd (false≢true (sym no ∙ and-left (eqb (numberAt image w q) 0) _ t)); equals = rw (no, e) }
+
+  pub number-two : isCall q ≡ false → 2 ≡ numberAt image w q
+  unfolding numberAt
+  number-two e = rw e
+
+  pub number-three : isCall q ≡ true → soundb image w ≡ false → 3 ≡ numberAt image w q
+  unfolding numberAt
+  number-three e s = rw (e, s)
+
+  pub number-four : isCall q ≡ true → soundb image w ≡ true → 3 < q .sandbox → 4 ≡ numberAt image w q
+  unfolding numberAt refusal
+  number-four e s h = rw (e, s, lt-ltb 3 (q .sandbox) h)
+
+  pub number-rest : isCall q ≡ true → soundb image w ≡ true → refusal (viewAt image w (q .sandbox)) q ≡ numberAt image w q
+  unfolding numberAt
+  number-rest e s = rw (e, s)
+
+  -- an accepted call
+  pub stepped : (o : Outcome) → numberAt image w q ≡ 0 → Performed image w q o → Stepped image w q o
+  unfolding step takes
+  stepped o n p = record { frame = p .frame; free = λ t. p .free (and-right (eqb (numberAt image w q) 0) _ t); equals = p .equals ∙ rw n }
+
+  pub performed : (frames value : ℕ) (sandboxes : List Sandbox) (st : Store) → framesOf w ≡ frames
+      → StoreStepped image frames q (sandboxAt w (q .sandbox)) (w .store) st → value ≡ valueAt image q (sandboxAt w (q .sandbox)) (w .store)
+      → sandboxes ≡ set (w .sandboxes) (q .sandbox) (sandboxAfter q (sandboxAt w (q .sandbox)))
+      → Performed image w q (record { answer = record { number = 0; value = value }; world = record { sandboxes = sandboxes; store = st } })
+  performed frames value sandboxes st f t v e = record {
+    frame = t .frame;
+    free = λ h. record { ofPool = rw f (t .free h .0); unheld = t .free h .1 };
+    equals = rw (v, e, t .equals);
+  }
+
+  module _ (S : Sound image w) (row : q .sandbox < 4) where
+    -- the sandbox of a sound state
+    pub ready : Ready (pagesIn (length image)) (sandboxAt w (q .sandbox))
+    ready = record {
+      few = S .images;
+      present = S .each (q .sandbox) row .present;
+      snapshot = S .each (q .sandbox) row .snapshot;
+      charged = S .each (q .sandbox) row .charged;
+      closed = λ e. ap (λ (b : Sandbox). b .share) (S .each (q .sandbox) row .closed e);
+    }
+
+    -- what an accepted call's parts ask
+    pub asked : refusal (viewAt image w (q .sandbox)) q ≡ 0 → Asked image (framesOf w) (pagesIn (length image)) q (sandboxAt w (q .sandbox)) (w .store)
+    unfolding allMapped
+    asked n =
+        let a = accepted (viewAt image w (q .sandbox)) q n in
+        let within-limits = fit (pagesIn (length image)) q (S .images) (a .inLimits) in
+        record {
+          row = row;
+          fit = within-limits;
+          ready = ready;
+          whole = S .whole;
+          filed = S .filed;
+          room = λ e z.
+              let code = eqb-true (q .code) Write e in
+              let there : isMapped (slots (sandboxAt w (q .sandbox) .present) (pageOf q)) ≡ true = rw code at (a .mapped) in
+              room image w S (q .sandbox) (pageOf q) row (page-small (q .p1) (within-limits .written code .0)) there z;
+        }

@@ -1,0 +1,3 @@
+pub mod MemoryLaws
+pub mod ValueLaws
+pub mod CallLaws

@@ -1,0 +1,95 @@
+// The call: one request, from a state, pool and table to the next.
+ghost use mathlib.Core.Path.{_≡_};
+ghost use Prim.Native.Nat.{_<_};
+ghost use lib.ListN.{length};
+ghost use Rattle.table.specs.Store.{kept};
+ghost use Rattle.state.specs.World.{worldOf, sandboxAt, pagesIn};
+ghost use Rattle.rules.specs.After.{presentAfter};
+ghost use Rattle.machine.specs.Step.{Stepped};
+ghost use Rattle.machine.specs.Parts.{outcomeOf, Asked, Performed};
+use crate::memory::store_after;
+use crate::value::value_of;
+use areas::area::Areas;
+use interface::answer::Answer;
+use interface::answer::Refusal;
+use interface::request::Request;
+use rules::after::sandbox_after;
+use rules::decide::Verdict;
+use rules::decide::decide;
+use state::sandbox::Machine;
+use state::sandbox::shares;
+use state::sound::sound;
+
+// A state, and what the call answers.
+pub struct Reply {
+    pub machine: Machine,
+    pub answer: Answer,
+}
+
+// One request. Whatever is handed in, it ends with the outcome of `step`.
+pub fn call(machine: Machine, pool: &mut [u8], table: &mut [u16], image: &[u8], q: Request) -> Reply
+    ensures { λ r. ⌜ Stepped (now (image .entry)) (worldOf machine (now (pool .entry)) (now (table .entry))) q (outcomeOf r (now (pool .exit)) (now (table .exit))) ⌝ }
+{
+    if (q.code < 1) | (9 < q.code) {
+        return refuse(machine, Refusal::NoSuchCall);
+    }
+    if !sound(machine, pool, table, image) {
+        return refuse(machine, Refusal::Unsound);
+    }
+    if 3 < q.sandbox {
+        return refuse(machine, Refusal::NotOpen);
+    }
+    let frames = (pool.len() / 256) as u8;
+    let images = (image.len() / 256) as u8;
+    let sandboxes = machine.sandboxes;
+    let k = q.sandbox as usize;
+    let b = sandboxes[k];
+    let decision = decide(b, frames, images, shares(sandboxes), q);
+    let verdict = decision.verdict;
+    let areas = decision.areas;
+    match verdict {
+        Verdict::Refused(why) => refuse(machine, why),
+        Verdict::Accepted => perform(machine, pool, table, image, q, areas, frames, images),
+    }
+}
+
+// A refusal leaves the state.
+fn refuse(machine: Machine, why: Refusal) -> Reply
+    ensures { λ r. ⌜ r ≡ record { machine = machine; answer = Answer.Refused why } ⌝ }
+{
+    Reply {
+        machine: machine,
+        answer: Answer::Refused(why),
+    }
+}
+
+// An accepted request: its value, then the store, then the sandbox with its new areas.
+fn perform(
+    machine: Machine,
+    pool: &mut [u8],
+    table: &mut [u16],
+    image: &[u8],
+    q: Request,
+    present: Areas,
+    frames: u8,
+    images: u8,
+) -> Reply
+    requires { ⌜ Asked (now image) frames images q (sandboxAt (worldOf machine (now pool) (now table)) (q .sandbox)) (kept (machine .held) (now pool) (now table)) ⌝ }
+    requires { ⌜ pagesIn (length (now pool)) ≡ frames ⌝ }
+    requires { ⌜ present ≡ presentAfter q (sandboxAt (worldOf machine (now pool) (now table)) (q .sandbox)) ⌝ }
+    ensures { λ r. ⌜ Performed (now (image .entry)) (worldOf machine (now (pool .entry)) (now (table .entry))) q (outcomeOf r (now (pool .exit)) (now (table .exit))) ⌝ }
+{
+    let k = q.sandbox as usize;
+    let mut m = machine;
+    let b = m.sandboxes[k];
+    let value = value_of(pool, table, image, b, q, frames, images);
+    let held = m.held;
+    let h = store_after(held, pool, table, image, b, q, frames, images);
+    let after = sandbox_after(b, q, present);
+    m.sandboxes[k] = after;
+    m.held = h;
+    Reply {
+        machine: m,
+        answer: Answer::Value(value),
+    }
+}
