@@ -18,7 +18,7 @@ use Rattle.interface.proofs.KindLaws.{Kind, kind, isMap, isUnmap, isProtect, is
 use Rattle.table.specs.Store.{Store, entry, frontOf, contents, pageFrom, put, free, take, fill, storeByte, move, rewindPage, freeTo, moveTo, rewindTo}
 use Rattle.table.proofs.FiledLaws.{other-sandbox}
 use Rattle.state.specs.declared.sandbox.Sandbox.{Sandbox}
-use Rattle.machine.specs.Step.{touched, keepsFront, copyPage, storeAfter}
+use Rattle.memory.specs.Memory.{touched, keepsFront, copyPage, storeAfter}
 use Rattle.claims.proofs.StoreSteps.{write-page}
 
 -- ---- what is done to one entry leaves the others

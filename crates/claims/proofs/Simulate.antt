@@ -28,7 +28,8 @@ use Rattle.table.specs.Store.{Store, entry, frontOf, backOf, contents}
 use Rattle.state.specs.declared.sandbox.Sandbox.{Sandbox}
 use Rattle.state.specs.World.{World, sandboxAt, closedSandbox, framesOf, sharesOf, viewAt}
 use Rattle.rules.specs.After.{sandboxAfter}
-use Rattle.machine.specs.Step.{pageRead, storeAfter, worldAfter, heldBy, valueAt, numberAt, step, Outcome, Stepped}
+use Rattle.memory.specs.Memory.{pageRead, storeAfter, heldBy, valueAt}
+use Rattle.machine.specs.Step.{worldAfter, numberAt, step, Outcome, Stepped}
 use Rattle.plain.specs.Machine.{Given, Kept, Plain, held as heldMarks, coreValue, valueAt as plainValue, shares, viewOf, keptAfter, numberAt as plainNumber, answer, after}
 use Rattle.plain.proofs.KeptLaws.{holds-after}
 use Rattle.plain.proofs.ReadLaws.{reads-after}

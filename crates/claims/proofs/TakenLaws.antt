@@ -17,7 +17,8 @@ use Rattle.state.specs.declared.sandbox.Sandbox.{Sandbox}
 use Rattle.state.specs.World.{World, sandboxAt, viewAt}
 use Rattle.state.specs.Sound.{Sound}
 use Rattle.state.proofs.Room.{frame-there}
-use Rattle.machine.specs.Step.{touched, storeAfter, takes, Free, Outcome, Stepped}
+use Rattle.memory.specs.Memory.{touched, storeAfter}
+use Rattle.machine.specs.Step.{takes, Free, Outcome, Stepped}
 use Rattle.claims.proofs.StepLaws.{was-accepted, Taking, taking, accepted-leaves}
 use Rattle.claims.proofs.StoreSteps.{write-page}
 use Rattle.claims.proofs.EntrySteps.{byte-entry, touched-entry}

@@ -17,7 +17,8 @@ use Rattle.table.specs.Store.{entry, frontOf, backOf, contents}
 use Rattle.areas.specs.Areas.{slots}
 use Rattle.state.specs.World.{World, sandboxAt, sharesOf, pagesIn, started}
 use Rattle.state.specs.Sound.{Sound}
-use Rattle.machine.specs.Step.{pageRead, heldBy, takes, Free, Outcome, Stepped}
+use Rattle.memory.specs.Memory.{pageRead, heldBy}
+use Rattle.machine.specs.Step.{takes, Free, Outcome, Stepped}
 use Rattle.plain.specs.Machine.{Given, fresh, copySlots, copyBytes, answers}
 use Rattle.plain.specs.Lists.{upTo, naming, toldLater, Rewound}
 

@@ -28,8 +28,10 @@ use Rattle.state.proofs.Room.{room}
 use Rattle.rules.specs.After.{sandboxAfter}
 use Rattle.rules.specs.Ready.{Ready}
 use Rattle.rules.proofs.FitLaws.{fit, page-small}
-use Rattle.machine.specs.Step.{Outcome, Stepped, numberAt, takes, step, valueAt}
-use Rattle.machine.specs.Parts.{Asked, StoreStepped, Performed}
+use Rattle.memory.specs.Memory.{valueAt}
+use Rattle.machine.specs.Step.{Outcome, Stepped, numberAt, takes, step}
+use Rattle.memory.specs.Parts.{Asked, StoreStepped}
+use Rattle.machine.specs.Parts.{Performed}
 
 -- a state whose test passes is sound: the marks are two words of 64 bits, because they are those that the pass over the entries found
 pub sound-of-test : (image : List ℕ) (w : World) → length (w .sandboxes) ≡ 4 → soundb image w ≡ true → Sound image w

@@ -1,3 +1,1 @@
-pub mod MemoryLaws
-pub mod ValueLaws
 pub mod CallLaws

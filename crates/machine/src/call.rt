@@ -6,9 +6,10 @@ ghost use Rattle.table.specs.Store.{kept};
 ghost use Rattle.state.specs.World.{worldOf, sandboxAt, pagesIn};
 ghost use Rattle.rules.specs.After.{presentAfter};
 ghost use Rattle.machine.specs.Step.{Stepped};
-ghost use Rattle.machine.specs.Parts.{outcomeOf, Asked, Performed};
-use crate::memory::store_after;
-use crate::value::value_of;
+ghost use Rattle.memory.specs.Parts.{Asked};
+ghost use Rattle.machine.specs.Parts.{outcomeOf, Performed};
+use memory::store::store_after;
+use memory::value::value_of;
 use areas::area::Areas;
 use interface::answer::Answer;
 use interface::answer::Refusal;
@@ -18,7 +19,7 @@ use rules::decide::Verdict;
 use rules::decide::decide;
 use state::sandbox::Machine;
 use state::sandbox::shares;
-use state::sound::sound;
+use soundness::sound::sound;
 
 // A state, and what the call answers.
 pub struct Reply {

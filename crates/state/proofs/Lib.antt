@@ -1,6 +1,4 @@
 pub mod SharesLaws
-pub mod SandboxLaws
-pub mod StateLaws
 pub mod TestLaws
 pub mod SettledLaws
 pub mod NearLaws

@@ -7,7 +7,7 @@ use Rattle.table.specs.Store.{kept}
 use Rattle.table.proofs.FiledLaws.{filed-ranged}
 use Rattle.state.specs.World.{worldOf, closedSandbox}
 use Rattle.state.proofs.SharesLaws.{zeroSandbox}
-use Rattle.machine.specs.Parts.{Asked}
+use Rattle.memory.specs.Parts.{Asked}
 use Rattle.machine.proofs.CallLaws.{performed}
 use borrow.Author.Needs.{needs}
 use Rattle.machine.proofs.call.perform.Statement.{statement}

@@ -1,0 +1,104 @@
+-- The store after an accepted request, by each of the calls that change it.
+use Prim.Native.Nat.{ℕ, _*_, _≤_, _<_}
+use mathlib.Core.Path.{_≡_, sym, ap, _∙_}
+use mathlib.Core.Bool.{Bool, true, false, false≢true}
+use mathlib.Core.List.{List}
+use native.Mathlib.Omega.{arith}
+use lib.Dec.{eqb}
+use lib.ListN.{length}
+use borrow.Author.Tests.{eqb-true, eq-eqb, ne-eqb}
+use Rattle.basics.proofs.TestLaws.{by-cases, and-left, and-right}
+use Rattle.interface.specs.declared.page.Backing.{Backing}
+use Rattle.interface.specs.declared.page.Backing.the-variants.{Anonymous, Image}
+use Rattle.interface.specs.declared.request.Request.{Request}
+use Rattle.interface.specs.Requests.{_is_, Unmap, Write, Snapshot, Rewind, pageOf, offsetOf}
+use Rattle.interface.specs.Slots.{isCommitted, backingAt}
+use Rattle.table.specs.declared.source.Source.{Source}
+use Rattle.table.specs.Store.{Store, entry, frontOf, backOf, contents, underFront, take, storeByte, freeTo, moveTo, rewindTo, Ranged, Filed, Tidy, Touched}
+use Rattle.table.specs.Source.{sourceBytes, sourceEnd}
+use Rattle.table.proofs.StoreLaws.{taken}
+use Rattle.table.proofs.FiledLaws.{filed-ranged}
+use Rattle.table.proofs.TouchLaws.{source-whole, under-whole}
+use Rattle.areas.specs.declared.area.Areas.{Areas}
+use Rattle.areas.specs.Areas.{slots}
+use Rattle.areas.specs.Formed.{WellFormed, ImagesExist}
+use Rattle.state.specs.declared.sandbox.Sandbox.{Sandbox}
+use Rattle.state.proofs.NearLaws.{image-exists}
+use Rattle.memory.specs.Memory.{sourceOf, pageUnder, touched, keepsFront, copyPage, storeAfter}
+use Rattle.memory.specs.Parts.{StoreStepped, TouchStepped}
+
+-- the image page of a page's backing is there
+pub source-there : (image : List ℕ) (images : ℕ) (a : Areas) → WellFormed images a → length image ≡ images * 256 → (i : ℕ)
+    → sourceEnd (sourceOf (backingAt (slots a i))) * 256 ≤ length image
+source-there image images a f w i = go (backingAt (slots a i)) (image-exists images a f i)
+  where
+    go : (b : Backing) → ImagesExist images b 1 → sourceEnd (sourceOf b) * 256 ≤ length image
+    go Anonymous e = omega arith
+    go (Image p) e = omega arith
+
+-- ---- a page touched before a write
+
+module _ (image : List ℕ) (frames s page : ℕ) (committed : Bool) (source : Source) (st : Store) where
+  pub touch-kept : (entry st (frontOf s page) ≡ 0 → ⊥) → TouchStepped image frames s page committed source st st
+  touch-kept h = record {
+    frame = 0;
+    free = λ e. absurd (h (eqb-true _ 0 e));
+    equals = rw (ne-eqb (entry st (frontOf s page)) 0 h);
+  }
+
+  pub touch-made : (after : Store) → entry st (frontOf s page) ≡ 0
+      → Touched 256 frames (frontOf s page) (underFront committed (sourceBytes image source) (contents 256 st (backOf s page))) st after
+      → TouchStepped image frames s page committed source st after
+  touch-made after e t = record {
+    frame = t .chosen;
+    free = λ _. (t .low, t .idle);
+    equals = t .after ∙ rw (eq-eqb (entry st (frontOf s page)) 0 e);
+  }
+
+  tidy-of : Filed 256 frames st → Tidy ⊥ 256 frames st
+  tidy-of f = record { filed = f; clean = λ c. absurd c }
+
+  pub touch-ranged : (after : Store) → s < 4 → page < 64 → Filed 256 frames st → sourceEnd source * 256 ≤ length image
+      → TouchStepped image frames s page committed source st after → Ranged 256 (after .pool) (after .table)
+  touch-ranged after l m f w t =
+      by-cases (eqb (entry st (frontOf s page)) 0)
+      (λ e. let free = t .free e in
+      let same : after ≡ take 256 (frontOf s page) (t .frame) (underFront committed (sourceBytes image source) (contents 256 st (backOf s page))) st = t .equals ∙ rw e in
+      let whole = under-whole 256 frames st (tidy-of f) (backOf s page) (sourceBytes image source) (source-whole image source w) committed in
+      let changed = taken 256 frames st (tidy-of f) (frontOf s page) (t .frame) (underFront committed (sourceBytes image source) (contents 256 st (backOf s page))) (omega arith) (eqb-true _ 0 e) (free .0) (free .1) whole in
+      rw same (filed-ranged 256 frames _ (changed .tidy .filed)))
+      (λ e. let same : after ≡ st = t .equals ∙ rw e in rw same (filed-ranged 256 frames st f))
+
+-- ---- what each call leaves
+
+module _ (image : List ℕ) (frames : ℕ) (q : Request) (b : Sandbox) (st : Store) where
+  pub written : (mid after : Store)
+      → TouchStepped image frames (q .sandbox) (pageOf q) (isCommitted (slots (b .present) (pageOf q))) (sourceOf (backingAt (slots (b .present) (pageOf q)))) st mid
+      → q .code ≡ Write → after ≡ storeByte 256 (frontOf (q .sandbox) (pageOf q)) (offsetOf q) (q .p2) mid → StoreStepped image frames q b st after
+  unfolding storeAfter touched pageUnder
+  written mid after t e a = record {
+    frame = t .frame;
+    free = λ h. t .free (and-right (q is Write) _ h);
+    equals = a ∙ ap (storeByte 256 (frontOf (q .sandbox) (pageOf q)) (offsetOf q) (q .p2)) (t .equals) ∙ rw e;
+  }
+
+  -- the calls that take no frame
+  pub stepped-none : (after : Store) → (q is Write) ≡ false → after ≡ storeAfter image 0 q b st → StoreStepped image frames q b st after
+  stepped-none after n a = record { frame = 0; free = λ h. absurd (false≢true (sym n ∙ and-left (q is Write) _ h)); equals = a }
+
+  pub unmapped : (after : Store) → q .code ≡ Unmap → after ≡ freeTo 256 (frontOf (q .sandbox) (q .p1)) st (q .p2) → StoreStepped image frames q b st after
+  unfolding storeAfter
+  unmapped after e a = stepped-none after (rw e) (a ∙ rw e)
+
+  pub copied : (after : Store) → q .code ≡ Snapshot → after ≡ moveTo (q .sandbox * 128) st 64 → StoreStepped image frames q b st after
+  unfolding storeAfter
+  copied after e a = stepped-none after (rw e) (a ∙ rw e)
+
+  pub rewound : (after : Store) → q .code ≡ Rewind → after ≡ rewindTo 256 (q .sandbox * 128) (keepsFront b) (copyPage image b) st 64 → StoreStepped image frames q b st after
+  unfolding storeAfter
+  rewound after e a = stepped-none after (rw e) (a ∙ rw e)
+
+  pub left : (q .code ≡ Unmap → ⊥) → (q .code ≡ Write → ⊥) → (q .code ≡ Snapshot → ⊥) → (q .code ≡ Rewind → ⊥) → StoreStepped image frames q b st st
+  unfolding storeAfter
+  left u w s r =
+      stepped-none st (ne-eqb (q .code) Write w) (rw (ne-eqb (q .code) Unmap u, ne-eqb (q .code) Write w, ne-eqb (q .code) Snapshot s, ne-eqb (q .code) Rewind r))

@@ -1,0 +1,47 @@
+-- The value of an accepted request, by each of the calls that have one.
+use Prim.Native.Nat.{ℕ, _*_, _/_}
+use mathlib.Core.Path.{_≡_, _∙_}
+use mathlib.Core.Bool.{Bool}
+use mathlib.Core.List.{List}
+use lib.ListN.{length, getD}
+use borrow.Author.Tests.{ne-eqb}
+use Rattle.interface.specs.declared.request.Request.{Request}
+use Rattle.interface.specs.Requests.{_is_, Map, Read, Snapshot, Report, pageOf, offsetOf}
+use Rattle.interface.specs.Slots.{isCommitted, backingAt, mappedPages}
+use Rattle.interface.specs.Outcome.{firstOf}
+use Rattle.frames.specs.Frames.{countHeld}
+use Rattle.marks.specs.Marks.{marksTo, from}
+use Rattle.table.specs.declared.source.Source.{Source}
+use Rattle.table.specs.Store.{Store, frontOf, backOf, contents, pageFrom, underFront}
+use Rattle.table.specs.Source.{sourceBytes}
+use Rattle.areas.specs.Areas.{slots}
+use Rattle.state.specs.declared.sandbox.Sandbox.{Sandbox}
+use Rattle.memory.specs.Memory.{sourceOf, pageUnder, pageRead, heldBy, valueAt}
+
+module _ (image : List ℕ) (q : Request) (b : Sandbox) (st : Store) where
+  pub read-is : (committed : Bool) (source : Source) (value : ℕ) → committed ≡ isCommitted (slots (b .present) (pageOf q)) → source ≡ sourceOf (backingAt (slots (b .present) (pageOf q)))
+      → value ≡ getD (pageFrom (underFront committed (sourceBytes image source) (contents 256 st (backOf (q .sandbox) (pageOf q)))) (contents 256 st (frontOf (q .sandbox) (pageOf q)))) (offsetOf q) 0
+      → value ≡ getD (pageRead image st b (q .sandbox) (pageOf q)) (offsetOf q) 0
+  unfolding pageRead pageUnder
+  read-is committed source value c s v = v ∙ rw (c, s)
+
+  pub map-value : (value : ℕ) → q .code ≡ Map → value ≡ firstOf (slots (b .present)) q → value ≡ valueAt image q b st
+  unfolding valueAt
+  map-value value e v = v ∙ rw e
+
+  pub read-value : (value : ℕ) → q .code ≡ Read → value ≡ getD (pageRead image st b (q .sandbox) (pageOf q)) (offsetOf q) 0 → value ≡ valueAt image q b st
+  unfolding valueAt
+  read-value value e v = v ∙ rw e
+
+  pub snapshot-value : (value : ℕ) → q .code ≡ Snapshot → value ≡ mappedPages (slots (b .present)) → value ≡ valueAt image q b st
+  unfolding valueAt
+  snapshot-value value e v = v ∙ rw e
+
+  pub report-value : (value frames : ℕ) → q .code ≡ Report → length (st .pool) / 256 ≡ frames
+      → value ≡ countHeld (marksTo frames (from (q .sandbox * 128) (st .table)) 128 .held) → value ≡ valueAt image q b st
+  unfolding valueAt heldBy
+  report-value value frames e f v = v ∙ rw (← f, e)
+
+  pub no-value : (q .code ≡ Map → ⊥) → (q .code ≡ Read → ⊥) → (q .code ≡ Snapshot → ⊥) → (q .code ≡ Report → ⊥) → 0 ≡ valueAt image q b st
+  unfolding valueAt
+  no-value m r s t = rw (ne-eqb (q .code) Map m, ne-eqb (q .code) Read r, ne-eqb (q .code) Snapshot s, ne-eqb (q .code) Report t)

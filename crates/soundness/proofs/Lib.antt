@@ -1,0 +1,2 @@
+pub mod SandboxLaws
+pub mod StateLaws

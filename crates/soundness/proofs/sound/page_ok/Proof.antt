@@ -1,0 +1,42 @@
+use Rattle.state.specs.Test.{pageOk}
+use borrow.Author.Needs.{needs}
+use Rattle.soundness.proofs.sound.page_ok.Statement.{statement}
+use Rattle.soundness.proofs.sound.page_ok.Tie as tie
+
+is-mapped-requires : tie.Need-is-mapped-requires
+is-mapped-requires c κs = search needs
+
+is-committed-requires : tie.Need-is-committed-requires
+is-committed-requires c κs = search needs
+
+is-mapped-requires-2 : tie.Need-is-mapped-requires-2
+is-mapped-requires-2 c κs = search needs
+
+backing-at-requires : tie.Need-backing-at-requires
+backing-at-requires c κs = search needs
+
+backing-at-requires-2 : tie.Need-backing-at-requires-2
+backing-at-requires-2 c κs = search needs
+
+same-backing-requires : tie.Need-same-backing-requires
+same-backing-requires c κs = search needs
+
+is-committed-requires-2 : tie.Need-is-committed-requires-2
+is-committed-requires-2 c κs = search needs
+
+returns : tie.Need-returns
+unfolding pageOk
+returns c = rw (c .is-committed2 .ensures, c .before .same-backing .ensures, c .before .before .backing-at2 .ensures, c .before .before .before .backing-at .ensures, c .before .before .before .before .is-mapped2 .ensures, c .before .before .before .before .before .is-committed .ensures, c .before .before .before .before .before .before .is-mapped .ensures)
+
+pub page-ok-spec : {M : Type 1} → statement M
+page-ok-spec =
+    tie.close
+    (tie.spec
+    is-mapped-requires
+    is-committed-requires
+    is-mapped-requires-2
+    backing-at-requires
+    backing-at-requires-2
+    same-backing-requires
+    is-committed-requires-2
+    returns)

@@ -1,0 +1,150 @@
+// Soundness, computed: "A state is sound if ..".
+ghost use mathlib.Core.Path.{_≡_};
+ghost use mathlib.Core.Bool.{Bool};
+ghost use mathlib.Core.List.{List};
+ghost use Prim.Native.Nat.{ℕ, _≤_, _<_};
+ghost use lib.ListN.{length, getD};
+ghost use Rattle.basics.specs.Ranges.{every};
+ghost use Rattle.frames.specs.declared.Held.{Held as Words};
+ghost use Rattle.table.specs.Store.{kept};
+ghost use Rattle.areas.specs.Areas.{Near};
+ghost use Rattle.state.specs.World.{worldOf, closedSandbox, wholePages, lengthsOk};
+ghost use Rattle.state.specs.Test.{sameBacking, pageOk, pagesOk, recordOk, sandboxOk, soundb};
+use state::sandbox::Machine;
+use state::sandbox::Sandbox;
+use state::sandbox::shares;
+use areas::area::Areas;
+use areas::slot::backing_at;
+use areas::slot::is_committed;
+use areas::slot::is_mapped;
+use interface::page::Backing;
+use interface::page::PageNo;
+use interface::page::Slot;
+
+// Whether the lent lengths are right and the state is sound. Whatever numbers it holds, nothing overflows and no index is out of range.
+pub fn sound(m: Machine, pool: &[u8], table: &[u16], image: &[u8]) -> bool
+    ensures { λ r. ⌜ r ≡ soundb (now (image .entry)) (worldOf m (now (pool .entry)) (now (table .entry))) ⌝ }
+{
+    if !lengths_ok(pool.len(), table.len(), image.len()) {
+        return false;
+    }
+    let frames = (pool.len() / 256) as u8;
+    let images = (image.len() / 256) as u8;
+    let held = m.held;
+    if !marks::marks_match(held, table, frames) {
+        return false;
+    }
+    let sandboxes = m.sandboxes;
+    if !sandboxes_ok(sandboxes, table, images) {
+        return false;
+    }
+    shares(sandboxes) <= frames as u16
+}
+
+// Whether pool, table and image have a length that they may have.
+pub fn lengths_ok(pool: usize, table: usize, image: usize) -> bool
+    ensures { λ r. ⌜ r ≡ lengthsOk pool table image ⌝ }
+{
+    let pool_ok = whole_pages(1, 128, pool);
+    let image_ok = whole_pages(0, 64, image);
+    pool_ok & ((table == 512) & image_ok)
+}
+
+fn whole_pages(low: usize, high: usize, bytes: usize) -> bool
+    ensures { λ r. ⌜ r ≡ wholePages low high bytes ⌝ }
+{
+    (bytes % 256 == 0) & ((low <= bytes / 256) & (bytes / 256 <= high))
+}
+
+fn sandboxes_ok(sandboxes: [Sandbox; 4], table: &[u16], images: u8) -> bool
+    requires { ⌜ images ≤ 64 ⌝ }
+    requires { ⌜ length (now table) ≡ 512 ⌝ }
+    ensures { λ r. ⌜ ((h : Words) (pool : List ℕ) → r ≡ every (λ s. sandboxOk images (kept h pool (now (table .entry))) s (getD sandboxes s closedSandbox)) 0 4) ⌝ }
+{
+    for s in 0..4u8 {
+        let k = s as usize;
+        let b = sandboxes[k];
+        if !sandbox_ok(b, table, s, images) {
+            return false;
+        }
+    }
+    true
+}
+
+fn sandbox_ok(b: Sandbox, table: &[u16], s: u8, images: u8) -> bool
+    requires { ⌜ s < 4 ⌝ }
+    requires { ⌜ images ≤ 64 ⌝ }
+    requires { ⌜ length (now table) ≡ 512 ⌝ }
+    ensures { λ r. ⌜ ((h : Words) (pool : List ℕ) → r ≡ sandboxOk images (kept h pool (now (table .entry))) s b) ⌝ }
+{
+    let present = b.present;
+    if !present.well_formed(images) {
+        return false;
+    }
+    let snapshot = b.snapshot;
+    if !snapshot.well_formed(images) {
+        return false;
+    }
+    if !pages_ok(present, snapshot, table, s) {
+        return false;
+    }
+    if b.share < b.charge() {
+        return false;
+    }
+    record_ok(b.opened, b.share, b.taken, present.count, snapshot.count)
+}
+
+fn pages_ok(present: Areas, snapshot: Areas, table: &[u16], s: u8) -> bool
+    requires { ⌜ s < 4 ⌝ }
+    requires { ⌜ length (now table) ≡ 512 ⌝ }
+    requires { ⌜ Near (present .list) ⌝ }
+    requires { ⌜ Near (snapshot .list) ⌝ }
+    ensures { λ r. ⌜ ((h : Words) (pool : List ℕ) → r ≡ pagesOk (kept h pool (now (table .entry))) s present snapshot) ⌝ }
+{
+    for i in 0..64u8 {
+        let page = PageNo(i);
+        let front = table::entry::front(table, s, page);
+        let back = table::entry::back(table, s, page);
+        if !page_ok(present.slot(page), snapshot.slot(page), front, back) {
+            return false;
+        }
+    }
+    true
+}
+
+fn page_ok(present: Slot, snapshot: Slot, front: u16, back: u16) -> bool
+    ensures { λ r. ⌜ r ≡ pageOk present snapshot front back ⌝ }
+{
+    let mapped = is_mapped(present);
+    let committed = is_committed(present);
+    let copied = is_mapped(snapshot);
+    let agrees = same_backing(backing_at(present), backing_at(snapshot));
+    let fronts = !!mapped | (front == 0);
+    let backs = !!copied | (back == 0);
+    (!copied | is_committed(snapshot))
+        & ((!committed | copied) & ((!committed | agrees) & (fronts & backs)))
+}
+
+fn same_backing(first: Backing, second: Backing) -> bool
+    ensures { λ r. ⌜ r ≡ sameBacking first second ⌝ }
+{
+    match first {
+        Backing::Anonymous => match second {
+            Backing::Anonymous => true,
+            Backing::Image(_) => false,
+        },
+        Backing::Image(p) => match second {
+            Backing::Anonymous => false,
+            Backing::Image(q) => p.0 == q.0,
+        },
+    }
+}
+
+fn record_ok(opened: bool, share: u8, taken: bool, present: u8, snapshot: u8) -> bool
+    ensures { λ r. ⌜ r ≡ recordOk opened share taken present snapshot ⌝ }
+{
+    let shared = !opened | ((1 <= share) & (share <= 128));
+    let untaken = !!taken | (snapshot == 0);
+    let closed = !!opened | ((share == 0) & ((present == 0) & !taken));
+    shared & (untaken & closed)
+}

@@ -1,0 +1,34 @@
+// The start: a fresh state over a cleared pool and table.
+ghost use mathlib.Core.Path.{_≡_};
+ghost use Rattle.state.specs.World.{worldOf};
+ghost use Rattle.state.specs.Start.{startedBy, startAnswer};
+use state::sandbox::Machine;
+use crate::sound::lengths_ok;
+use interface::answer::Answer;
+use interface::answer::Refusal;
+
+// What a start gives: a state, fresh either way, and its answer.
+pub struct Started {
+    pub machine: Machine,
+    pub answer: Answer,
+}
+
+// "starting clears pool and table, or, where a length is wrong, is refusal 3 and clears nothing, though the state it gives is fresh"
+pub fn start(pool: &mut [u8], table: &mut [u16], image: &[u8]) -> Started
+    ensures { λ r. ⌜ r .answer ≡ startAnswer (now (pool .entry)) (now (table .entry)) (now (image .entry)) ⌝ }
+    ensures world { λ r. ⌜ worldOf (r .machine) (now (pool .exit)) (now (table .exit)) ≡ startedBy (now (pool .entry)) (now (table .entry)) (now (image .entry)) ⌝ }
+{
+    let mut machine = Machine::fresh();
+    if !lengths_ok(pool.len(), table.len(), image.len()) {
+        return Started {
+            machine: machine,
+            answer: Answer::Refused(Refusal::Unsound),
+        };
+    }
+    let held = table::store::start(pool, table);
+    machine.held = held;
+    Started {
+        machine: machine,
+        answer: Answer::Value(0),
+    }
+}
