@@ -2,13 +2,22 @@
 use mathlib.Core.List.{List}
 use Prim.Native.Nat.{ℕ}
 use Rattle.interface.specs.declared.request.Request.{Request}
+use lib.ListN.{length}
 use Rattle.state.specs.World.{World}
+use Rattle.state.proofs.TestLaws.{lengths-true}
+use Rattle.state.proofs.StartLaws.{start-world}
 use Rattle.machine.specs.Step.{Outcome, Stepped}
 use Rattle.plain.specs.Machine.{Given}
-use Rattle.claims.specs.Demands.{Lent, EveryListRuns, Demand1, Demand2, Demand3}
+use Rattle.claims.specs.Demands.{StartsLists, Lent, EveryListRuns, Demand1, Demand2, Demand3}
 use Rattle.claims.proofs.Demand1Laws.{demand-1}
 use Rattle.claims.proofs.Runs.{every-list-runs, demand-2}
 use Rattle.claims.proofs.Demand3Laws.{demand-3}
+
+-- a start that is not refused leaves the world from which lists start
+pub claim-start : StartsLists
+claim-start pool table image ok =
+    let l = lengths-true (length pool) (length table) (length image) ok in
+    (record { frames = l .some; few = l .few; image = l .whole; images = l .images }, start-world pool table image ok)
 
 -- every list of requests has a run
 pub claim-runs : (g : Given) → Lent g → EveryListRuns g

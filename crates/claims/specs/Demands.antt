@@ -15,7 +15,8 @@ use Rattle.marks.specs.Named.{usedBelow}
 use Rattle.marks.specs.Marks.{from}
 use Rattle.table.specs.Store.{entry, frontOf, backOf, contents}
 use Rattle.areas.specs.Areas.{slots}
-use Rattle.state.specs.World.{World, sandboxAt, sharesOf, pagesIn, started}
+use Rattle.state.specs.World.{World, sandboxAt, sharesOf, pagesIn, started, lengthsOk}
+use Rattle.state.specs.Start.{startedBy}
 use Rattle.state.specs.Sound.{Sound}
 use Rattle.memory.specs.Memory.{pageRead, heldBy}
 use Rattle.machine.specs.Step.{takes, Free, Outcome, Stepped}
@@ -41,6 +42,12 @@ pub record Lent (g : Given) : Type 0 where
   pub few : g .frames ≤ 128
   pub image : length (g .image) ≡ pagesIn (length (g .image)) * 256
   pub images : pagesIn (length (g .image)) ≤ 64
+
+-- a start that is not refused is given such an image and pool, and leaves the world from which lists start, whatever pool and table held before
+abbrev pub StartsLists : Type 0
+StartsLists =
+    (pool table image : List ℕ) → lengthsOk (length pool) (length table) (length image) ≡ true
+    → Lent (record { image = image; frames = pagesIn (length pool) }) × (startedBy pool table image ≡ started (pagesIn (length pool)))
 
 -- every list has a run, so that nothing below is empty
 abbrev pub EveryListRuns : Given → Type 0
