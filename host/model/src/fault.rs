@@ -1,0 +1,86 @@
+//! Wrong machines: the plain machine with one fault. A tester that cannot tell one
+//! of these from the right machine does not look closely enough.
+
+#[derive(Clone, Copy, PartialEq, Eq, Debug, Default)]
+pub enum Fault {
+    #[default]
+    None,
+
+    // "Plausible and wrong".
+    /// "Handing out a rewound area's old address": a map at 64 prefers the place of
+    /// an area that the last rewind took away.
+    HandsOutRewoundPlace,
+    /// The same the other way about: a map at 64 searches past that area first.
+    SearchesPastRewoundPlace,
+    /// "Dropping the snapshot's frame when a committed page is unmapped and its
+    /// number mapped anew."
+    DropsSnapshotFrame,
+    /// "Taking zero as the old content of an image page", when its first write fills
+    /// a frame.
+    ZeroUnderWrittenImagePage,
+    /// The same when a rewind undoes the writes to an image page.
+    ZeroUnderRewoundImagePage,
+    /// "Restoring bytes but not rights."
+    RewindKeepsRights,
+
+    // "What a contract must hold", item 3.
+    /// "a rewind that leaves the pages dirty".
+    RewindLeavesPagesDirty,
+    /// "one that restores after the first request and merely reports success later".
+    RewindsOnlyOnce,
+    /// "an invented held count": the charge.
+    InventsHeldCount,
+    /// "refusal 13 while the share still suffices": when it would just be filled.
+    RefusesThirteenEarly,
+    /// "a machine refusing all".
+    RefusesAll,
+    /// "one with a constant reply".
+    ConstantReply,
+
+    // Slips near the rules.
+    /// A rewind keeps fronts of snapshot pages that were mapped anew.
+    RewindKeepsAllFronts,
+    /// A rewind frees the fronts that it should keep.
+    RewindFreesAllFronts,
+    /// A rewind leaves areas mapped since, where they meet no snapshot page.
+    RewindLeavesNewAreas,
+    /// Unmapping a committed page frees its back as well.
+    UnmapFreesBack,
+    /// The charge counts only those snapshot pages that are mapped.
+    ChargeForgetsUnmapped,
+    /// Refusal 14 is tested in map only, not in unmap and protect.
+    AreasTestedInMapOnly,
+    /// Each image page is counted as an area of its own.
+    ImagePagesNeverRunOn,
+    /// A map at 64 takes the tightest gap that fits, not the lowest.
+    TightestGap,
+    /// A page mapped anew shows what its number held before an unmap or a rewind.
+    StaleBytesInNewPage,
+}
+
+impl Fault {
+    /// Every fault, without `None`.
+    pub const ALL: [Fault; 21] = [
+        Fault::HandsOutRewoundPlace,
+        Fault::SearchesPastRewoundPlace,
+        Fault::DropsSnapshotFrame,
+        Fault::ZeroUnderWrittenImagePage,
+        Fault::ZeroUnderRewoundImagePage,
+        Fault::RewindKeepsRights,
+        Fault::RewindLeavesPagesDirty,
+        Fault::RewindsOnlyOnce,
+        Fault::InventsHeldCount,
+        Fault::RefusesThirteenEarly,
+        Fault::RefusesAll,
+        Fault::ConstantReply,
+        Fault::RewindKeepsAllFronts,
+        Fault::RewindFreesAllFronts,
+        Fault::RewindLeavesNewAreas,
+        Fault::UnmapFreesBack,
+        Fault::ChargeForgetsUnmapped,
+        Fault::AreasTestedInMapOnly,
+        Fault::ImagePagesNeverRunOn,
+        Fault::TightestGap,
+        Fault::StaleBytesInNewPage,
+    ];
+}

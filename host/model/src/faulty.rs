@@ -1,0 +1,232 @@
+//! The plain machine built with a fault.
+//!
+//! The right machine is kept free of faults. A `Faulty` lets it answer, and then
+//! spoils the sandbox or the answer.
+
+use crate::fault::Fault;
+use crate::machine::{Answering, Machine, Refusal, Reply, SANDBOXES};
+use crate::page::{count_areas, Backing, Page, PAGES, PAGE_BYTES};
+use crate::roll::Call;
+use crate::sandbox::{Sandbox, AREAS};
+use std::sync::Arc;
+
+/// What a wrong machine remembers of a sandbox beyond what the right one keeps.
+#[derive(Clone, Copy, Default)]
+struct Memory {
+    rewinds: usize,
+    /// First page, and page past the last, of what the last rewind took away.
+    rewound: Option<(usize, usize)>,
+}
+
+/// The plain machine built with a fault; with `Fault::None` it is the right one.
+#[derive(Clone)]
+pub struct Faulty {
+    machine: Machine,
+    fault: Fault,
+    memory: [Memory; SANDBOXES],
+}
+
+impl Faulty {
+    pub fn fresh(image: &[u8], frames: usize, fault: Fault) -> Faulty {
+        let machine = Machine::fresh(image, frames);
+        Faulty { machine, fault, memory: [Memory::default(); SANDBOXES] }
+    }
+
+    /// Where a faulty map at 64 puts its pages; `None` for the right place.
+    fn wrong_place(&self, call: &Call) -> Option<usize> {
+        let sandbox = self.machine.sandboxes.get(usize::from(call.sandbox))?;
+        let count = usize::from(call.parameters[1]);
+        if call.code != 2 || call.parameters[0] != 64 || !(1..=PAGES).contains(&count) {
+            return None;
+        }
+        let gaps = |from: usize| {
+            (from..=PAGES - count).filter(|&first| sandbox.none_mapped(first..first + count))
+        };
+        let (start, end) = match self.memory[usize::from(call.sandbox)].rewound {
+            Some(place) => place,
+            None if self.fault == Fault::TightestGap => (0, 0),
+            None => return None,
+        };
+        match self.fault {
+            Fault::HandsOutRewoundPlace => gaps(start).next().filter(|&first| first == start),
+            Fault::SearchesPastRewoundPlace => gaps(end).next(),
+            Fault::TightestGap => gaps(0)
+                .filter(|&first| first == 0 || sandbox.pages[first - 1].mapped)
+                .min_by_key(|&first| unmapped_from(sandbox, first)),
+            _ => None,
+        }
+    }
+
+    /// The answer to a call that the right machine refuses.
+    fn spoil_refused(&mut self, call: &Call, number: u16) -> Reply {
+        let sandbox = &mut self.machine.sandboxes[usize::from(call.sandbox)];
+        let [p1, p2, p3, ..] = call.parameters;
+        let pages = usize::from(p1)..usize::from(p1) + usize::from(p2);
+        let too_many_areas = number == Refusal::TooManyAreas as u16;
+        let too_few_frames = number == Refusal::TooFewFrames as u16;
+        match (self.fault, call.code) {
+            (Fault::AreasTestedInMapOnly, 3) if too_many_areas => sandbox.unmap(pages),
+            (Fault::AreasTestedInMapOnly, 4) if too_many_areas => sandbox.protect(pages, p3),
+            (Fault::ChargeForgetsUnmapped, 2) if too_few_frames => {
+                // Try again as if the copy's unmapped pages were not snapshot pages.
+                let true_copy = sandbox.copy.clone();
+                if let Some(copy) = &mut sandbox.copy {
+                    for (kept, page) in Arc::make_mut(copy).iter_mut().zip(&sandbox.pages) {
+                        kept.mapped &= page.committed;
+                    }
+                }
+                let reply = self.machine.answer(call);
+                self.machine.sandboxes[usize::from(call.sandbox)].copy = true_copy;
+                return reply;
+            }
+            _ => return (number, 0),
+        }
+        (0, 0)
+    }
+
+    /// The answer to a call that the right machine accepts, with `before` the sandbox
+    /// as it was.
+    fn spoil_accepted(&mut self, call: &Call, before: Box<Sandbox>, value: u32) -> Reply {
+        let number = usize::from(call.sandbox);
+        let memory = &mut self.memory[number];
+        let Machine { image, sandboxes, .. } = &mut self.machine;
+        let sandbox = &mut sandboxes[number];
+        match (self.fault, call.code) {
+            (Fault::RefusesAll, _) => return refuse(sandbox, before, Refusal::TooFewFrames),
+            (Fault::RefusesThirteenEarly, 2) if sandbox.charge() == sandbox.share => {
+                return refuse(sandbox, before, Refusal::TooFewFrames);
+            }
+            (Fault::ImagePagesNeverRunOn, 2) if areas_with_split_image(sandbox) > AREAS => {
+                return refuse(sandbox, before, Refusal::TooManyAreas);
+            }
+            (Fault::InventsHeldCount, 9) => return (0, sandbox.charge() as u32),
+            (Fault::DropsSnapshotFrame, 2) => {
+                drop_snapshot_frames(sandbox, &before, image.as_deref().unwrap_or(&[]));
+            }
+            (Fault::StaleBytesInNewPage, 2) => {
+                for (page, was) in newly_mapped(sandbox, &before) {
+                    page.bytes = was.bytes;
+                }
+            }
+            (Fault::UnmapFreesBack, 3) => {
+                for page in sandbox.pages.iter_mut().filter(|page| !page.mapped) {
+                    page.back = false;
+                }
+            }
+            (Fault::ZeroUnderWrittenImagePage, 6) => {
+                let at = usize::from(call.parameters[0]);
+                let was = &before.pages[at / PAGE_BYTES];
+                if reads_image(was) {
+                    let page = &mut sandbox.pages[at / PAGE_BYTES];
+                    page.bytes = [0; PAGE_BYTES];
+                    page.bytes[at % PAGE_BYTES] = call.parameters[1] as u8;
+                }
+            }
+            (_, 8) => {
+                memory.rewinds += 1;
+                memory.rewound = lowest_new_area(&before);
+                spoil_rewind(self.fault, memory.rewinds, sandbox, &before);
+            }
+            _ => {}
+        }
+        (0, value)
+    }
+}
+
+impl Answering for Faulty {
+    fn answer(&mut self, call: &Call) -> Reply {
+        if self.fault == Fault::ConstantReply {
+            return (0, 0);
+        }
+        let mut call = *call;
+        if let Some(place) = self.wrong_place(&call) {
+            call.parameters[0] = place as u16;
+        }
+        let before = self.machine.sandboxes.get(usize::from(call.sandbox)).cloned();
+        match (self.machine.answer(&call), before) {
+            ((0, value), Some(before)) => self.spoil_accepted(&call, before, value),
+            ((number, _), Some(_)) => self.spoil_refused(&call, number),
+            (reply, None) => reply,
+        }
+    }
+}
+
+fn refuse(sandbox: &mut Box<Sandbox>, before: Box<Sandbox>, refusal: Refusal) -> Reply {
+    *sandbox = before;
+    (refusal as u16, 0)
+}
+
+fn spoil_rewind(fault: Fault, rewinds: usize, sandbox: &mut Sandbox, before: &Sandbox) {
+    if fault == Fault::RewindsOnlyOnce && rewinds > 1 {
+        *sandbox = before.clone();
+    }
+    for (page, was) in sandbox.pages.iter_mut().zip(&before.pages) {
+        match fault {
+            Fault::RewindKeepsRights if was.committed => page.rights = was.rights,
+            Fault::RewindLeavesPagesDirty if was.committed => page.bytes = was.bytes,
+            Fault::ZeroUnderRewoundImagePage if page.front && reads_image_in_copy(page) => {
+                page.bytes = [0; PAGE_BYTES];
+            }
+            // So that the bytes outlast the rewind, until the number is mapped anew.
+            Fault::StaleBytesInNewPage if !page.mapped => page.bytes = was.bytes,
+            Fault::RewindKeepsAllFronts => page.front = was.front && page.mapped,
+            Fault::RewindFreesAllFronts => page.front = false,
+            Fault::RewindLeavesNewAreas if was.mapped && !page.mapped => *page = *was,
+            _ => {}
+        }
+    }
+}
+
+/// The snapshot's bytes of the pages just mapped become those of their backing.
+fn drop_snapshot_frames(sandbox: &mut Sandbox, before: &Sandbox, image: &[[u8; PAGE_BYTES]]) {
+    let Some(copy) = &mut sandbox.copy else { return };
+    let kept_pages = Arc::make_mut(copy).iter_mut();
+    for ((page, was), kept) in sandbox.pages.iter_mut().zip(&before.pages).zip(kept_pages) {
+        if page.mapped && !was.mapped && kept.back {
+            page.back = false;
+            kept.back = false;
+            kept.bytes = match kept.backing {
+                Backing::Anonymous => [0; PAGE_BYTES],
+                Backing::Image(image_page) => image[image_page],
+            };
+        }
+    }
+}
+
+fn newly_mapped<'a>(
+    sandbox: &'a mut Sandbox,
+    before: &'a Sandbox,
+) -> impl Iterator<Item = (&'a mut Page, &'a Page)> {
+    let pairs = sandbox.pages.iter_mut().zip(&before.pages);
+    pairs.filter(|(page, was)| page.mapped && !was.mapped)
+}
+
+/// A page with neither front nor back, over an image page.
+fn reads_image(page: &Page) -> bool {
+    let framed = page.front || (page.committed && page.back);
+    !framed && page.backing != Backing::Anonymous
+}
+
+fn reads_image_in_copy(page: &Page) -> bool {
+    !page.back && page.backing != Backing::Anonymous
+}
+
+fn areas_with_split_image(sandbox: &Sandbox) -> usize {
+    let mut pages = sandbox.pages;
+    for page in pages.iter_mut().filter(|page| page.backing != Backing::Anonymous) {
+        page.backing = Backing::Image(0);
+    }
+    count_areas(&pages)
+}
+
+fn unmapped_from(sandbox: &Sandbox, first: usize) -> usize {
+    sandbox.pages[first..].iter().take_while(|page| !page.mapped).count()
+}
+
+/// The lowest run of pages mapped since the snapshot, which a rewind takes away.
+fn lowest_new_area(sandbox: &Sandbox) -> Option<(usize, usize)> {
+    let new = |page: &Page| page.mapped && !page.committed;
+    let start = sandbox.pages.iter().position(new)?;
+    let length = sandbox.pages[start..].iter().take_while(|page| new(page)).count();
+    Some((start, start + length))
+}

@@ -1,0 +1,29 @@
+//! The plain machine of "Rewinding sandboxes: pages, frames and the call roll",
+//! and the player of its roll.
+//!
+//! Sentences in quotation marks are the document's. The machine knows no frames:
+//! where a program holds a frame, it keeps a front or a back mark on a page.
+//!
+//! Read in this order:
+//! - `page`: one page, and how pages run together into areas;
+//! - `sandbox`: what is kept for a sandbox, and what each call does to it;
+//! - `request`: the limits of the parameters (refusal 6);
+//! - `machine`: four sandboxes, and the refusals in their order;
+//! - `roll`: lines of calls, lines of replies, and the player;
+//! - `fault` and `faulty`: wrong machines, which a test must tell from the right one.
+
+mod fault;
+mod faulty;
+mod machine;
+mod page;
+mod request;
+mod roll;
+mod sandbox;
+
+pub use fault::Fault;
+pub use faulty::Faulty;
+pub use machine::{Answering, Machine, Refusal, Reply, FRAMES, IMAGE_PAGES, SANDBOXES};
+pub use page::{count_areas, Backing, Page, Pages, PAGES, PAGE_BYTES};
+pub use request::{Place, Request, ADDRESSES};
+pub use roll::{call_line, parse_line, play, play_on, reply_line, Call, LINES, LINE_BYTES};
+pub use sandbox::{Sandbox, AREAS};

@@ -1,0 +1,211 @@
+//! Four sandboxes, and the refusals in their order.
+
+use crate::page::PAGE_BYTES;
+use crate::request::{Place, Request};
+use crate::roll::Call;
+use crate::sandbox::{Sandbox, AREAS};
+use std::ops::RangeInclusive;
+
+/// "Four sandboxes stand in a row, numbered 0 to 3."
+pub const SANDBOXES: usize = 4;
+/// "The pool is 1 to 128 frames".
+pub const FRAMES: RangeInclusive<usize> = 1..=128;
+/// "The image, read only, is 0 to 64 pages".
+pub const IMAGE_PAGES: RangeInclusive<usize> = 0..=64;
+
+/// The table "Turned back"; the discriminant is the number answered.
+#[derive(Clone, Copy, PartialEq, Eq, Debug)]
+pub enum Refusal {
+    Malformed = 1,
+    UnknownCode = 2,
+    WrongLength = 3,
+    NoOpenSandbox = 4,
+    AlreadyOpen = 5,
+    OutsideLimits = 6,
+    SnapshotTaken = 7,
+    NoSnapshot = 8,
+    MeetsUnmapped = 9,
+    MeetsMapped = 10,
+    NoGap = 11,
+    NoWriteRight = 12,
+    TooFewFrames = 13,
+    TooManyAreas = 14,
+}
+
+/// Number and value of an answer: "A refusal answers its number and value 0"; an
+/// accepted call has number 0.
+pub type Reply = (u16, u32);
+
+/// Whatever answers calls one after the other: the plain machine, a wrong one, or
+/// a program under test.
+pub trait Answering {
+    fn answer(&mut self, call: &Call) -> Reply;
+}
+
+/// The plain machine, "fed each call's code, sandbox and parameters, with the image
+/// and the pool's number of frames".
+#[derive(Clone, PartialEq, Eq, Debug)]
+pub struct Machine {
+    /// `None` where a lent length is wrong: then every call is refused 3.
+    pub(crate) image: Option<Vec<[u8; PAGE_BYTES]>>,
+    frames: usize,
+    pub(crate) sandboxes: [Box<Sandbox>; SANDBOXES],
+}
+
+impl Machine {
+    /// "Fresh, all are closed, nothing is mapped or marked, and there is no copy."
+    pub fn fresh(image: &[u8], frames: usize) -> Machine {
+        let sandboxes = std::array::from_fn(|_| Box::new(Sandbox::closed()));
+        Machine {
+            image: whole_pages(image).filter(|_| FRAMES.contains(&frames)),
+            frames,
+            sandboxes,
+        }
+    }
+
+    /// One call: the number (0 when accepted) and the value.
+    #[allow(clippy::too_many_arguments)]
+    pub fn call(
+        &mut self,
+        code: u16,
+        sandbox: u16,
+        p1: u16,
+        p2: u16,
+        p3: u16,
+        p4: u16,
+        p5: u16,
+    ) -> Reply {
+        self.answer(&Call { code, sandbox, parameters: [p1, p2, p3, p4, p5] })
+    }
+
+    pub fn sandbox(&self, number: usize) -> &Sandbox {
+        &self.sandboxes[number]
+    }
+
+    pub fn frames(&self) -> usize {
+        self.frames
+    }
+
+    /// The image, empty where its length is wrong.
+    pub fn image(&self) -> &[[u8; PAGE_BYTES]] {
+        self.image.as_deref().unwrap_or(&[])
+    }
+
+    pub fn shares(&self) -> usize {
+        self.sandboxes.iter().map(|sandbox| sandbox.share).sum()
+    }
+
+    /// The sandbox as the call would leave it, with the call's value; or the first
+    /// refusal that applies: "When several apply, the lowest number is answered."
+    fn outcome(&self, call: &Call) -> Result<(Box<Sandbox>, u32), Refusal> {
+        // 2: "call code not 1 to 9".
+        refuse(!(1..=9).contains(&call.code), Refusal::UnknownCode)?;
+        // 3: "lent length wrong".
+        let image = self.image.as_deref().ok_or(Refusal::WrongLength)?;
+        // 4: "sandbox above 3; or, but for open, not open".
+        let number = usize::from(call.sandbox);
+        let before = self.sandboxes.get(number).ok_or(Refusal::NoOpenSandbox)?;
+        let opens = call.code == 1;
+        refuse(!opens && !before.open, Refusal::NoOpenSandbox)?;
+        // 5: "open of an open sandbox".
+        refuse(opens && before.open, Refusal::AlreadyOpen)?;
+        // 6: the limits.
+        let request = Request::within_limits(call.code, call.parameters, image.len())?;
+        // 7 to 12: what the call meets.
+        let mut after = before.clone();
+        let value = carry_out(&mut after, request, image)?;
+        // 13: "shares would exceed the pool, or the charge the share".
+        let shares = self.shares() - before.share + after.share;
+        refuse(shares > self.frames, Refusal::TooFewFrames)?;
+        refuse(after.charge() > after.share, Refusal::TooFewFrames)?;
+        // 14: "more than 8 areas would result".
+        refuse(after.areas() > AREAS, Refusal::TooManyAreas)?;
+        Ok((after, value))
+    }
+}
+
+impl Answering for Machine {
+    /// "It refuses by the table below [...] and then stays as it was."
+    fn answer(&mut self, call: &Call) -> Reply {
+        match self.outcome(call) {
+            Ok((after, value)) => {
+                self.sandboxes[usize::from(call.sandbox)] = after;
+                (0, value)
+            }
+            Err(refusal) => (refusal as u16, 0),
+        }
+    }
+}
+
+/// The image's pages, if it is whole pages and not too many.
+fn whole_pages(image: &[u8]) -> Option<Vec<[u8; PAGE_BYTES]>> {
+    let pages = image.chunks(PAGE_BYTES).map(|page| page.try_into().ok());
+    let pages: Vec<_> = pages.collect::<Option<_>>()?;
+    IMAGE_PAGES.contains(&pages.len()).then_some(pages)
+}
+
+fn refuse(applies: bool, refusal: Refusal) -> Result<(), Refusal> {
+    if applies {
+        Err(refusal)
+    } else {
+        Ok(())
+    }
+}
+
+/// Refusals 7 to 12, then what the request does and its value: "Value 0 where none
+/// is named."
+fn carry_out(
+    sandbox: &mut Sandbox,
+    request: Request,
+    image: &[[u8; PAGE_BYTES]],
+) -> Result<u32, Refusal> {
+    let value = match request {
+        Request::Open { share } => {
+            sandbox.open(share);
+            0
+        }
+        Request::Map { place, count, backing, rights } => {
+            let first = match place {
+                Place::Named(first) => {
+                    let free = sandbox.none_mapped(first..first + count);
+                    refuse(!free, Refusal::MeetsMapped)?;
+                    first
+                }
+                Place::LowestGap => sandbox.lowest_gap(count).ok_or(Refusal::NoGap)?,
+            };
+            sandbox.map(first..first + count, backing, rights, image);
+            first
+        }
+        Request::Unmap { pages } => {
+            refuse(!sandbox.all_mapped(pages.clone()), Refusal::MeetsUnmapped)?;
+            sandbox.unmap(pages);
+            0
+        }
+        Request::Protect { pages, rights } => {
+            refuse(!sandbox.all_mapped(pages.clone()), Refusal::MeetsUnmapped)?;
+            sandbox.protect(pages, rights);
+            0
+        }
+        Request::Read { page, offset } => {
+            refuse(!sandbox.pages[page].mapped, Refusal::MeetsUnmapped)?;
+            usize::from(sandbox.pages[page].bytes[offset])
+        }
+        Request::Write { page, offset, byte } => {
+            refuse(!sandbox.pages[page].mapped, Refusal::MeetsUnmapped)?;
+            refuse(sandbox.pages[page].rights != 3, Refusal::NoWriteRight)?;
+            sandbox.write(page, offset, byte);
+            0
+        }
+        Request::Snapshot => {
+            refuse(sandbox.copy.is_some(), Refusal::SnapshotTaken)?;
+            sandbox.snapshot()
+        }
+        Request::Rewind => {
+            let copy = sandbox.copy.clone().ok_or(Refusal::NoSnapshot)?;
+            sandbox.rewind(&copy);
+            0
+        }
+        Request::Report => sandbox.held(),
+    };
+    Ok(value as u32)
+}

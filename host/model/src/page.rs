@@ -1,0 +1,74 @@
+//! One page, and how neighbouring pages form areas.
+
+/// "frames of 256 bytes": a page has as many.
+pub const PAGE_BYTES: usize = 256;
+/// "Each has 64 pages".
+pub const PAGES: usize = 64;
+
+/// "Each area has a backing: anonymous, or image with its first image page."
+/// For a single page that is the image page standing under it.
+#[derive(Clone, Copy, PartialEq, Eq, Debug)]
+pub enum Backing {
+    Anonymous,
+    Image(usize),
+}
+
+impl Backing {
+    /// The backing of the page `distance` pages further on in the same area.
+    pub fn further(self, distance: usize) -> Backing {
+        match self {
+            Backing::Anonymous => Backing::Anonymous,
+            Backing::Image(first) => Backing::Image(first + distance),
+        }
+    }
+}
+
+/// "for each of 64 pages whether it is mapped, its backing, rights, mark,
+/// 256 bytes, and two marks more, front and back".
+#[derive(Clone, Copy, PartialEq, Eq, Debug)]
+pub struct Page {
+    pub mapped: bool,
+    pub backing: Backing,
+    /// "1 for read or 3 for read and write"; 0 on a page that was never mapped.
+    pub rights: u16,
+    /// The mark "committed or not".
+    pub committed: bool,
+    pub bytes: [u8; PAGE_BYTES],
+    /// The page would have a front frame.
+    pub front: bool,
+    /// The page would have a back frame.
+    pub back: bool,
+}
+
+impl Page {
+    /// "nothing is mapped or marked".
+    pub const FRESH: Page = Page {
+        mapped: false,
+        backing: Backing::Anonymous,
+        rights: 0,
+        committed: false,
+        bytes: [0; PAGE_BYTES],
+        front: false,
+        back: false,
+    };
+
+    /// Both mapped, and "agree in rights, mark and backing (image pages running on)".
+    fn same_area_as_next(&self, next: &Page) -> bool {
+        self.mapped
+            && next.mapped
+            && self.rights == next.rights
+            && self.committed == next.committed
+            && self.backing.further(1) == next.backing
+    }
+}
+
+/// The 64 pages of a sandbox, or of its snapshot.
+pub type Pages = [Page; PAGES];
+
+/// "Areas are the longest runs of neighbouring pages that agree": an area begins
+/// at every mapped page that does not go on from the page before it.
+pub fn count_areas(pages: &Pages) -> usize {
+    let begins_area =
+        |at: usize| pages[at].mapped && (at == 0 || !pages[at - 1].same_area_as_next(&pages[at]));
+    (0..PAGES).filter(|&at| begins_area(at)).count()
+}

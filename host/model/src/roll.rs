@@ -1,0 +1,82 @@
+//! The roll's text: lines of calls, lines of replies, and the player.
+
+use crate::machine::{Answering, Machine, Refusal};
+
+/// "A line is 7 fields of 6 columns and a line feed, 43 bytes".
+pub const LINE_BYTES: usize = 7 * COLUMNS + 1;
+/// "Lines after the 65,535th are not read."
+pub const LINES: usize = 65_535;
+const COLUMNS: usize = 6;
+
+/// A line's fields: "call, sandbox, p1 to p5".
+#[derive(Clone, Copy, PartialEq, Eq, Debug)]
+pub struct Call {
+    pub code: u16,
+    pub sandbox: u16,
+    pub parameters: [u16; 5],
+}
+
+/// The call on a line; `None` where the line is malformed.
+pub fn parse_line(line: &[u8]) -> Option<Call> {
+    if line.len() != LINE_BYTES || line[LINE_BYTES - 1] != b'\n' {
+        return None;
+    }
+    let mut fields = [0; 7];
+    for (field, columns) in fields.iter_mut().zip(line.chunks_exact(COLUMNS)) {
+        *field = parse_field(columns)?;
+    }
+    let [code, sandbox, p1, p2, p3, p4, p5] = fields;
+    Some(Call { code, sandbox, parameters: [p1, p2, p3, p4, p5] })
+}
+
+/// "A field is a number 0 to 65,535, right-justified over blanks, no leading zeros."
+fn parse_field(columns: &[u8]) -> Option<u16> {
+    let blanks = columns.iter().take_while(|&&byte| byte == b' ').count();
+    let digits = &columns[blanks..];
+    let leading_zero = digits.len() > 1 && digits[0] == b'0';
+    if digits.is_empty() || leading_zero || !digits.iter().all(u8::is_ascii_digit) {
+        return None;
+    }
+    let number = digits.iter().fold(0u32, |sum, &digit| 10 * sum + u32::from(digit - b'0'));
+    u16::try_from(number).ok()
+}
+
+/// The line of a call.
+pub fn call_line(call: &Call) -> Vec<u8> {
+    let [p1, p2, p3, p4, p5] = call.parameters;
+    let fields = [call.code, call.sandbox, p1, p2, p3, p4, p5];
+    print_fields(&fields.map(u32::from))
+}
+
+/// "It prints 3 fields a line, same columns: line number from 1, refusal number or
+/// 0, value."
+pub fn reply_line(line_number: usize, number: u16, value: u32) -> Vec<u8> {
+    print_fields(&[line_number as u32, u32::from(number), value])
+}
+
+fn print_fields(fields: &[u32]) -> Vec<u8> {
+    let mut line: String = fields.iter().map(|field| format!("{field:>COLUMNS$}")).collect();
+    line.push('\n');
+    line.into_bytes()
+}
+
+/// What the player prints for a roll. The image is that of `image.bin` ("missing:
+/// empty; not whole pages or above 64: a wrong length, refusal 3 on each line not
+/// refused 1 or 2"); the document's player has 128 frames.
+pub fn play(roll: &[u8], image: Option<&[u8]>, frames: usize) -> Vec<u8> {
+    play_on(roll, &mut Machine::fresh(image.unwrap_or(&[]), frames))
+}
+
+/// "a malformed line is refused and the next 43 bytes follow. A short last line is
+/// malformed."
+pub fn play_on(roll: &[u8], machine: &mut dyn Answering) -> Vec<u8> {
+    let mut printed = Vec::new();
+    for (index, line) in roll.chunks(LINE_BYTES).take(LINES).enumerate() {
+        let (number, value) = match parse_line(line) {
+            Some(call) => machine.answer(&call),
+            None => (Refusal::Malformed as u16, 0),
+        };
+        printed.extend(reply_line(index + 1, number, value));
+    }
+    printed
+}

@@ -1,0 +1,150 @@
+//! What the plain machine keeps for one sandbox, and what each call does to it.
+//!
+//! The methods that change something suppose that the call is not refused.
+
+use crate::page::{count_areas, Backing, Page, Pages, PAGES, PAGE_BYTES};
+use std::ops::Range;
+use std::sync::Arc;
+
+/// "A sandbox has at most 8" areas.
+pub const AREAS: usize = 8;
+
+/// "For each sandbox it keeps whether it is open, its share, and for each of
+/// 64 pages [...]; from its snapshot on, also a copy of these pages."
+#[derive(Clone, PartialEq, Eq, Debug)]
+pub struct Sandbox {
+    pub open: bool,
+    pub share: usize,
+    pub pages: Pages,
+    /// Shared, since a copy once taken never changes.
+    pub copy: Option<Arc<Pages>>,
+}
+
+impl Sandbox {
+    /// "Fresh, all are closed, nothing is mapped or marked, and there is no copy."
+    pub fn closed() -> Sandbox {
+        Sandbox { open: false, share: 0, pages: [Page::FRESH; PAGES], copy: None }
+    }
+
+    // Counts.
+
+    pub fn areas(&self) -> usize {
+        count_areas(&self.pages)
+    }
+
+    pub fn mapped_pages(&self) -> usize {
+        self.pages.iter().filter(|page| page.mapped).count()
+    }
+
+    /// "The charge of a sandbox is its mapped pages before a snapshot. Afterwards
+    /// it is 2 × the snapshot's pages, mapped or not, plus the uncommitted mapped
+    /// pages."
+    pub fn charge(&self) -> usize {
+        match &self.copy {
+            None => self.mapped_pages(),
+            Some(copy) => {
+                let snapshot_pages = copy.iter().filter(|page| page.mapped).count();
+                let uncommitted =
+                    self.pages.iter().filter(|page| page.mapped && !page.committed).count();
+                2 * snapshot_pages + uncommitted
+            }
+        }
+    }
+
+    /// "report counts front and back marks".
+    pub fn held(&self) -> usize {
+        let fronts = self.pages.iter().filter(|page| page.front).count();
+        let backs = self.pages.iter().filter(|page| page.back).count();
+        fronts + backs
+    }
+
+    // Questions about pages.
+
+    pub fn all_mapped(&self, pages: Range<usize>) -> bool {
+        self.pages[pages].iter().all(|page| page.mapped)
+    }
+
+    pub fn none_mapped(&self, pages: Range<usize>) -> bool {
+        self.pages[pages].iter().all(|page| !page.mapped)
+    }
+
+    /// "the lowest gap that fits": the first page of the lowest `count` unmapped
+    /// pages in a row.
+    pub fn lowest_gap(&self, count: usize) -> Option<usize> {
+        (0..=PAGES - count).find(|&first| self.none_mapped(first..first + count))
+    }
+
+    // What the calls do.
+
+    /// "Open makes the sandbox open and stores the share."
+    pub fn open(&mut self, share: usize) {
+        self.open = true;
+        self.share = share;
+    }
+
+    /// "Map makes the pages mapped and uncommitted, with backing, rights and bytes,
+    /// zero or the image's." A back mark stays: it is the snapshot's.
+    pub fn map(
+        &mut self,
+        pages: Range<usize>,
+        first_backing: Backing,
+        rights: u16,
+        image: &[[u8; PAGE_BYTES]],
+    ) {
+        let first = pages.start;
+        for at in pages {
+            let page = &mut self.pages[at];
+            page.mapped = true;
+            page.committed = false;
+            page.backing = first_backing.further(at - first);
+            page.rights = rights;
+            page.bytes = match page.backing {
+                Backing::Anonymous => [0; PAGE_BYTES],
+                Backing::Image(image_page) => image[image_page],
+            };
+        }
+    }
+
+    /// "Unmap takes away mapping, mark and front mark."
+    pub fn unmap(&mut self, pages: Range<usize>) {
+        for page in &mut self.pages[pages] {
+            page.mapped = false;
+            page.committed = false;
+            page.front = false;
+        }
+    }
+
+    /// "Protect stores the rights."
+    pub fn protect(&mut self, pages: Range<usize>, rights: u16) {
+        for page in &mut self.pages[pages] {
+            page.rights = rights;
+        }
+    }
+
+    /// "Write stores the byte and sets its page's front mark."
+    pub fn write(&mut self, page: usize, offset: usize, byte: u8) {
+        self.pages[page].bytes[offset] = byte;
+        self.pages[page].front = true;
+    }
+
+    /// "Snapshot commits every mapped page, turns front marks into back marks and
+    /// copies all pages." Gives the "pages committed".
+    pub fn snapshot(&mut self) -> usize {
+        for page in &mut self.pages {
+            page.committed = page.mapped;
+            page.back = page.front;
+            page.front = false;
+        }
+        self.copy = Some(Arc::new(self.pages));
+        self.mapped_pages()
+    }
+
+    /// "Rewind puts the whole copy in place; a front mark stays only where the page
+    /// was still committed."
+    pub fn rewind(&mut self, copy: &Pages) {
+        for (page, kept) in self.pages.iter_mut().zip(copy) {
+            let front = page.front && page.committed;
+            *page = Page { front, ..*kept };
+        }
+    }
+}

@@ -1,0 +1,24 @@
+//! Random rolls for the plain machine, or for any program that should answer as it
+//! does; a shrinker for rolls that fail; and pairs of lists for demand 3.
+//!
+//! - `prng`: the numbers, all drawn from a seed;
+//! - `steering`: the next call, chosen with the machine's state in view, so that
+//!   rolls reach deep states;
+//! - `spoil`: calls at and past the limits, and malformed lines;
+//! - `case`: a roll with its image and its number of frames;
+//! - `shrink`: a smaller case that still fails;
+//! - `pair`: two lists alike but for what came between a snapshot and a rewind.
+
+mod case;
+mod pair;
+mod prng;
+mod shrink;
+mod spoil;
+mod steering;
+
+pub use case::{Case, PLAYER_FRAMES};
+pub use pair::{List, Pair};
+pub use prng::Prng;
+pub use shrink::shrink;
+pub use spoil::{boundary_call, malformed_line, wild_call};
+pub use steering::Steering;

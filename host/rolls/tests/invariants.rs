@@ -1,0 +1,103 @@
+//! The other demands on lists, and what makes a state sound, after every call of
+//! random rolls.
+
+use model::{count_areas, parse_line, Answering, Call, Machine, Page, Sandbox, LINE_BYTES};
+use rolls::Case;
+
+const ROLLS: u64 = 600;
+
+fn count(pages: &[Page], wanted: impl Fn(&Page) -> bool) -> usize {
+    pages.iter().filter(|page| wanted(page)).count()
+}
+
+fn check(sandbox: &Sandbox) {
+    let pages = &sandbox.pages;
+    assert!(sandbox.areas() <= 8);
+    assert!(sandbox.charge() <= sandbox.share);
+    // "mapped pages and backs together are at most its share"
+    assert!(count(pages, |page| page.mapped) + count(pages, |page| page.back) <= sandbox.share);
+    // "fronts stand on mapped pages only"
+    assert_eq!(count(pages, |page| page.front && !page.mapped), 0);
+    assert_eq!(count(pages, |page| page.committed && !page.mapped), 0);
+    assert_eq!(count(pages, |page| page.mapped && page.rights != 1 && page.rights != 3), 0);
+    // "a closed one has nothing"
+    assert!(sandbox.open || *sandbox == Sandbox::closed());
+    match &sandbox.copy {
+        // "a sandbox without a snapshot has no committed page"
+        None => assert_eq!(count(pages, |page| page.committed || page.back), 0),
+        Some(copy) => {
+            assert!(count_areas(copy) <= 8);
+            assert_eq!(count(&copy[..], |kept| kept.front || kept.committed != kept.mapped), 0);
+            for (page, kept) in pages.iter().zip(&copy[..]) {
+                // "committed pages are snapshot pages and agree with them in backing"
+                assert!(!page.committed || (kept.mapped && page.backing == kept.backing));
+                // "backs on snapshot pages only"; they are those of the snapshot.
+                assert_eq!(page.back, kept.back);
+                assert!(!kept.back || kept.mapped);
+                // A committed page without a front reads as in the snapshot.
+                assert!(!page.committed || page.front || page.bytes == kept.bytes);
+            }
+        }
+    }
+}
+
+/// "a next write within its limits, to any mapped page with rights 3, is accepted and
+/// leaves the page with a front".
+fn check_next_writes(machine: &Machine, number: usize) {
+    for at in 0..64 {
+        let page = &machine.sandbox(number).pages[at];
+        if page.mapped && page.rights == 3 {
+            let mut next = machine.clone();
+            assert_eq!(next.call(6, number as u16, at as u16 * 256 + 255, 7, 0, 0, 0), (0, 0));
+            assert!(next.sandbox(number).pages[at].front);
+        }
+    }
+}
+
+/// "mappings and rights of the snapshot return", with its bytes; "In a rewound
+/// sandbox each front and back is that of a snapshot page".
+fn check_rewound(before: &Sandbox, after: &Sandbox) {
+    let copy = after.copy.as_ref().expect("a snapshot");
+    for ((page, was), kept) in after.pages.iter().zip(&before.pages).zip(&copy[..]) {
+        assert_eq!(Page { front: false, ..*page }, *kept);
+        assert_eq!(page.front, was.front && was.committed);
+        assert!(!page.front || kept.mapped);
+    }
+}
+
+#[test]
+fn every_state_is_sound_and_every_refusal_changes_nothing() {
+    let mut refused = 0;
+    for seed in 0..ROLLS {
+        let case = Case::random(seed);
+        let mut machine = Machine::fresh(&case.image, case.frames);
+        for call in case.roll.chunks(LINE_BYTES).filter_map(parse_line) {
+            let before = machine.clone();
+            let (number, value) = machine.answer(&call);
+            if number != 0 {
+                assert!(value == 0 && machine == before, "seed {seed}: {call:?}");
+                refused += 1;
+                continue;
+            }
+            let named = usize::from(call.sandbox);
+            for other in (0..4).filter(|&other| other != named) {
+                assert!(machine.sandbox(other) == before.sandbox(other), "seed {seed}: {call:?}");
+            }
+            check_accepted(&call, before.sandbox(named), machine.sandbox(named));
+            assert!(machine.shares() <= case.frames);
+        }
+        for number in 0..4 {
+            check_next_writes(&machine, number);
+        }
+    }
+    assert!(refused > 1_000, "{refused}");
+}
+
+fn check_accepted(call: &Call, before: &Sandbox, after: &Sandbox) {
+    check(after);
+    match call.code {
+        5 | 9 => assert!(after == before, "a read or a report changed something"),
+        8 => check_rewound(before, after),
+        _ => {}
+    }
+}

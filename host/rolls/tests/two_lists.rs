@@ -1,0 +1,113 @@
+//! The last demand on lists: what a sandbox answers after its rewind does not tell
+//! what happened between its snapshot and the rewind. "Each of these calls has the
+//! same number and value in both, apart from the value of an accepted report."
+
+use model::{Answering, Call, Fault, Faulty, Machine, Reply};
+use rolls::Pair;
+
+const PAIRS: u64 = 2_000;
+
+fn without_report_value(answers: &[(Call, Reply)]) -> Vec<(Call, Reply)> {
+    let strike = |&(call, (number, value)): &(Call, Reply)| match (call.code, number) {
+        (9, 0) => (call, (0, 0)),
+        _ => (call, (number, value)),
+    };
+    answers.iter().map(strike).collect()
+}
+
+/// Whether a machine built with a fault answers alike in both lists; `None` where
+/// nothing is claimed.
+fn alike(pair: &Pair, fault: Fault) -> Option<bool> {
+    let answers = pair.lists.each_ref().map(|list| {
+        let mut machine = Faulty::fresh(&pair.image, pair.frames, fault);
+        pair.compared(list, &mut machine).map(|answers| without_report_value(&answers))
+    });
+    let [first, second] = answers;
+    Some(first? == second?)
+}
+
+#[test]
+fn the_lists_are_such_as_the_document_compares() {
+    for seed in 0..100 {
+        let pair = Pair::random(seed);
+        let [first, second] = &pair.lists;
+        assert_eq!(first.snapshot, second.snapshot);
+        assert_eq!(first.calls[..=first.snapshot], second.calls[..=second.snapshot]);
+        let named = |calls: &[Call]| {
+            let named = calls.iter().filter(|call| call.sandbox == pair.sandbox);
+            named.copied().collect::<Vec<_>>()
+        };
+        assert_eq!(named(&first.calls[first.rewind..]), named(&second.calls[second.rewind..]));
+        for list in &pair.lists {
+            let mut machine = Machine::fresh(&pair.image, pair.frames);
+            let numbers: Vec<u16> = list.calls.iter().map(|call| machine.answer(call).0).collect();
+            assert_eq!((numbers[list.snapshot], numbers[list.rewind]), (0, 0));
+            assert_eq!((list.calls[list.snapshot].code, list.calls[list.rewind].code), (7, 8));
+        }
+    }
+}
+
+#[test]
+fn answers_after_a_rewind_do_not_tell_what_was_before_it() {
+    let (mut compared, mut accepted) = (0, 0);
+    let (mut secrets, mut reports_differ) = (0, 0);
+    for seed in 0..PAIRS {
+        let pair = Pair::random(seed);
+        let [first, second] = pair.lists.each_ref().map(|list| {
+            let mut machine = Machine::fresh(&pair.image, pair.frames);
+            pair.compared(list, &mut machine).expect("snapshot and rewind are accepted")
+        });
+        assert_eq!(without_report_value(&first), without_report_value(&second), "seed {seed}");
+        compared += first.len();
+        accepted += first.iter().filter(|(_, (number, _))| *number == 0).count();
+        reports_differ += usize::from(first != second);
+        secrets += usize::from(secret(&pair, 0) != secret(&pair, 1));
+    }
+    println!("{compared} calls compared, {accepted} of them accepted");
+    println!("{secrets} pairs differ before the rewind, {reports_differ} in a report after it");
+    assert!(2 * accepted > compared, "too few accepted calls");
+    assert!(secrets as u64 > PAIRS / 2, "too few secrets");
+    assert!(reports_differ > 20, "the exception for reports is hardly met");
+}
+
+/// What the plain machine keeps for the sandbox just before the rewind.
+fn secret(pair: &Pair, which: usize) -> model::Sandbox {
+    let list = &pair.lists[which];
+    let mut machine = Machine::fresh(&pair.image, pair.frames);
+    for call in &list.calls[..list.rewind] {
+        machine.answer(call);
+    }
+    machine.sandbox(usize::from(pair.sandbox)).clone()
+}
+
+/// Machines that let something through a rewind.
+#[test]
+fn pairs_tell_the_machines_that_leak() {
+    let leaking = [
+        Fault::HandsOutRewoundPlace,
+        Fault::SearchesPastRewoundPlace,
+        Fault::DropsSnapshotFrame,
+        Fault::ZeroUnderRewoundImagePage,
+        Fault::RewindKeepsRights,
+        Fault::RewindLeavesPagesDirty,
+        Fault::RewindsOnlyOnce,
+        Fault::RewindLeavesNewAreas,
+        Fault::StaleBytesInNewPage,
+    ];
+    for fault in leaking {
+        let seed = (0..PAIRS).find(|&seed| alike(&Pair::random(seed), fault) == Some(false));
+        let seed = seed.unwrap_or_else(|| panic!("{fault:?} passed {PAIRS} pairs"));
+        println!("{fault:?}: told by the pair of seed {seed}");
+    }
+}
+
+/// "a machine refusing all; one with a constant reply. The last two would pass the
+/// equal-runs part of demand 3."
+#[test]
+fn pairs_alone_do_not_tell_a_machine_that_refuses_all_or_is_constant() {
+    for seed in 0..100 {
+        let pair = Pair::random(seed);
+        assert_eq!(alike(&pair, Fault::RefusesAll), None);
+        assert_eq!(alike(&pair, Fault::ConstantReply), Some(true));
+    }
+}
