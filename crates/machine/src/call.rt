@@ -8,18 +8,18 @@ ghost use Rattle.rules.specs.After.{presentAfter};
 ghost use Rattle.machine.specs.Step.{Stepped};
 ghost use Rattle.memory.specs.Parts.{Asked};
 ghost use Rattle.machine.specs.Parts.{outcomeOf, Performed};
-use memory::store::store_after;
-use memory::value::value_of;
 use areas::area::Areas;
 use interface::answer::Answer;
 use interface::answer::Refusal;
 use interface::request::Request;
+use memory::store::store_after;
+use memory::value::value_of;
 use rules::after::sandbox_after;
 use rules::decide::Verdict;
 use rules::decide::decide;
+use soundness::sound::sound;
 use state::sandbox::Machine;
 use state::sandbox::shares;
-use soundness::sound::sound;
 
 // A state, and what the call answers.
 pub struct Reply {

@@ -39,4 +39,3 @@ pub record TouchStepped (image : List ℕ) (frames s page : ℕ) (committed : Bo
   pub frame : ℕ
   pub free : eqb (entry st (frontOf s page)) 0 ≡ true → (frame < frames) × (held (st .marks) frame ≡ 0)
   pub equals : after ≡ (take 256 (frontOf s page) frame (underFront committed (sourceBytes image source) (contents 256 st (backOf s page))) st when eqb (entry st (frontOf s page)) 0 else st)
-

@@ -10,9 +10,6 @@ ghost use Rattle.table.specs.Store.{kept};
 ghost use Rattle.areas.specs.Areas.{Near};
 ghost use Rattle.state.specs.World.{worldOf, closedSandbox, wholePages, lengthsOk};
 ghost use Rattle.state.specs.Test.{sameBacking, pageOk, pagesOk, recordOk, sandboxOk, soundb};
-use state::sandbox::Machine;
-use state::sandbox::Sandbox;
-use state::sandbox::shares;
 use areas::area::Areas;
 use areas::slot::backing_at;
 use areas::slot::is_committed;
@@ -20,6 +17,9 @@ use areas::slot::is_mapped;
 use interface::page::Backing;
 use interface::page::PageNo;
 use interface::page::Slot;
+use state::sandbox::Machine;
+use state::sandbox::Sandbox;
+use state::sandbox::shares;
 
 // Whether the lent lengths are right and the state is sound. Whatever numbers it holds, nothing overflows and no index is out of range.
 pub fn sound(m: Machine, pool: &[u8], table: &[u16], image: &[u8]) -> bool

@@ -2,10 +2,10 @@
 ghost use mathlib.Core.Path.{_≡_};
 ghost use Rattle.state.specs.World.{worldOf};
 ghost use Rattle.state.specs.Start.{startedBy, startAnswer};
-use state::sandbox::Machine;
 use crate::sound::lengths_ok;
 use interface::answer::Answer;
 use interface::answer::Refusal;
+use state::sandbox::Machine;
 
 // What a start gives: a state, fresh either way, and its answer.
 pub struct Started {
