@@ -4,3 +4,4 @@ pub mod OperatorLaws
 pub mod FrameLaws
 pub mod GreatestLaws
 pub mod ComplementLaws
+pub mod Examples

@@ -7,3 +7,4 @@ pub mod RewindLaws
 pub mod TouchLaws
 pub mod StartLaws
 pub mod PageLaws
+pub mod Examples
