@@ -1,0 +1,2 @@
+pub mod SmallLaws
+pub mod PlayLaws

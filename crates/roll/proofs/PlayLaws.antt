@@ -1,0 +1,146 @@
+-- How a played roll grows by a line.
+use mathlib.Core.Path.{_≡_, refl, sym, ap, _∙_}
+use mathlib.Core.List.{List, [], _∷_, _++_, append-assoc, append-nil}
+use Prim.Native.Nat.{ℕ, zero, suc, _+_, _-_, _*_, _≤_}
+use native.Mathlib.Omega.{arith}
+use native.Mathlib.Numerals.{add-one}
+use native.Mathlib.Nat.{add-zero}
+use lib.ListN.{length, take, drop, length-append, length-drop}
+use lib.Seq.{length-take-le, take-append-seam, drop-append-seam, drop-drop}
+use Rattle.interface.specs.declared.request.Request.{Request}
+use Rattle.interface.specs.Answers.{Answered}
+use Rattle.lines.specs.declared.Line.{Line}
+use Rattle.lines.specs.declared.Line.the-variants.{Call, Malformed}
+use Rattle.lines.specs.Lines.{lineAt}
+use Rattle.lines.specs.Prints.{printedReply}
+use Rattle.lines.proofs.PrintLaws.{length-reply}
+use Rattle.state.specs.World.{World}
+use Rattle.machine.specs.Step.{Outcome, Stepped}
+use Rattle.claims.specs.Demands.{Run, none, more}
+use Rattle.roll.specs.Play.{malformed, linesIn, requests, replies, printed, Turned, Played}
+
+-- ---- runs
+
+run-snoc : {image : List ℕ} {w v : World} {qs : List Request} {as′ : List Answered} {q : Request} {o : Outcome}
+    → Run image w qs as′ v → Stepped image v q o → Run image w (qs ++ (q ∷ [])) (as′ ++ (o .answer ∷ [])) (o .world)
+run-snoc none s = more s none
+run-snoc (more t r) s = more t (run-snoc r s)
+
+run-length : {image : List ℕ} {w v : World} {qs : List Request} {as′ : List Answered} → Run image w qs as′ v → length qs ≡ length as′
+run-length none = refl
+run-length (more s r) = ap suc (run-length r)
+
+-- ---- lines
+
+requests-append : (ls ms : List Line) → requests (ls ++ ms) ≡ requests ls ++ requests ms
+unfolding requests
+requests-append [] ms = refl
+requests-append (Call q ∷ ls) ms = ap (λ l. q ∷ l) (requests-append ls ms)
+requests-append (Malformed ∷ ls) ms = requests-append ls ms
+
+replies-append : (ls ms : List Line) (as′ bs : List Answered) → length (requests ls) ≡ length as′ → replies (ls ++ ms) (as′ ++ bs) ≡ replies ls as′ ++ replies ms bs
+unfolding requests replies
+replies-append [] ms [] bs e = refl
+replies-append [] ms (a ∷ as′) bs e = absurd (omega (arith, e))
+replies-append (Malformed ∷ ls) ms as′ bs e = ap (λ l. malformed ∷ l) (replies-append ls ms as′ bs e)
+replies-append (Call q ∷ ls) ms [] bs e = absurd (omega (arith, e))
+replies-append (Call q ∷ ls) ms (a ∷ as′) bs e = ap (λ l. a ∷ l) (replies-append ls ms as′ bs (omega (arith, e)))
+
+replies-length : (ls : List Line) (as′ : List Answered) → length (requests ls) ≡ length as′ → length (replies ls as′) ≡ length ls
+unfolding requests replies
+replies-length [] as′ e = refl
+replies-length (Malformed ∷ ls) as′ e = ap suc (replies-length ls as′ e)
+replies-length (Call q ∷ ls) [] e = absurd (omega (arith, e))
+replies-length (Call q ∷ ls) (a ∷ as′) e = ap suc (replies-length ls as′ (omega (arith, e)))
+
+lines-length : (roll : List ℕ) (n : ℕ) → length (linesIn roll n) ≡ n
+unfolding linesIn
+lines-length roll zero = refl
+lines-length roll (suc n) = length-append (linesIn roll n) (lineAt roll n ∷ []) ∙ omega (arith, lines-length roll n)
+
+-- ---- prints
+
+printed-snoc : (first : ℕ) (bs : List Answered) (a : Answered) → printed first (bs ++ (a ∷ [])) ≡ printed first bs ++ printedReply (first + length bs) (a .number) (a .value)
+unfolding printed
+printed-snoc first [] a = append-nil (printedReply first (a .number) (a .value)) ∙ ap (λ n. printedReply n (a .number) (a .value)) (sym (add-zero first))
+printed-snoc first (b ∷ bs) a =
+    let next : first + 1 + length bs ≡ first + suc (length bs) = omega arith in
+    ap (λ l. printedReply first (b .number) (b .value) ++ l) (printed-snoc (first + 1) bs a)
+    ∙ sym (append-assoc (printedReply first (b .number) (b .value)) (printed (first + 1) bs) (printedReply (first + 1 + length bs) (a .number) (a .value)))
+    ∙ ap (λ n. (printedReply first (b .number) (b .value) ++ printed (first + 1) bs) ++ printedReply n (a .number) (a .value)) next
+
+printed-length : (first : ℕ) (bs : List Answered) → length (printed first bs) ≡ length bs * 19
+unfolding printed
+printed-length first [] = refl
+printed-length first (b ∷ bs) =
+    length-append (printedReply first (b .number) (b .value)) (printed (first + 1) bs) ∙ omega (arith, length-reply first (b .number) (b .value), printed-length (first + 1) bs)
+
+-- 19 bytes behind those that are printed
+put-part : (front d ys : List ℕ) (at e : ℕ) → length front ≡ at → e ≡ at + 19 → length ys ≡ 19
+    → take at (front ++ drop at d) ++ (ys ++ drop (e - at) (drop at (front ++ drop at d))) ≡ (front ++ ys) ++ drop e d
+put-part front d ys at e f g h =
+    let n : e - at ≡ 19 = omega arith in
+    rw (← f, take-append-seam, drop-append-seam, f, n, drop-drop, ← g, append-assoc)
+
+pub part-length : (xs ys : List ℕ) (at e : ℕ) → e ≡ at + 19 → e ≤ length xs → length ys ≡ 19 → length (take at xs ++ (ys ++ drop (e - at) (drop at xs))) ≡ length xs
+part-length xs ys at e g l h =
+    let n : e - at ≡ 19 = omega arith in
+    let t : length (take at xs) ≡ at = length-take-le at xs (omega arith) in
+    rw (n, length-append (take at xs) (ys ++ drop 19 (drop at xs)), length-append ys (drop 19 (drop at xs)), length-drop 19 (drop at xs), length-drop at xs, t, h) (omega arith)
+
+-- ---- played
+
+pub played-none : (image roll out : List ℕ) (w : World) (first : ℕ) → Played image w roll 0 first out out w
+unfolding linesIn requests replies printed
+played-none image roll out w first = record { answers = []; run = none; prints = refl }
+
+-- one line more, of which the bytes stand behind those printed
+module _ (image roll out₀ out ys : List ℕ) (w v : World) (k first at e : ℕ) (o : Outcome) (p : Played image w roll k first out₀ out v)
+    (here : at ≡ k * 19) (there : e ≡ at + 19) (is : ys ≡ printedReply (first + k) (o .answer .number) (o .answer .value)) where
+  -- what is there of it
+  abbrev now′ : List ℕ
+  now′ = take at out ++ (ys ++ drop (e - at) (drop at out))
+
+  with-line : (answers : List Answered) → length (requests (linesIn roll k)) ≡ length (p .answers)
+      → Run image w (requests (linesIn roll k ++ (lineAt roll k ∷ []))) answers (o .world)
+      → replies (linesIn roll k ++ (lineAt roll k ∷ [])) answers ≡ replies (linesIn roll k) (p .answers) ++ (o .answer ∷ [])
+      → Played image w roll (k + 1) first out₀ now′ (o .world)
+  unfolding linesIn
+  with-line answers l r t =
+      let front : List ℕ = printed first (replies (linesIn roll k) (p .answers)) in
+      let lines : length (replies (linesIn roll k) (p .answers)) ≡ k = replies-length (linesIn roll k) (p .answers) l ∙ lines-length roll k in
+      let n : length front ≡ at = printed-length first (replies (linesIn roll k) (p .answers)) ∙ ap (λ x. x * 19) lines ∙ sym here in
+      let end : e ≡ suc k * 19 = omega arith in
+      let was : out ≡ front ++ drop at out₀ = p .prints ∙ ap (λ x. front ++ drop x out₀) (sym here) in
+      let big : length ys ≡ 19 = ap length is ∙ length-reply (first + k) (o .answer .number) (o .answer .value) in
+      rw add-one
+      (record {
+        answers = answers;
+        run = r;
+        prints =
+            rw was (put-part front out₀ ys at e n there big)
+            ∙ ap (λ l. (front ++ l) ++ drop e out₀) (is ∙ ap (λ x. printedReply (first + x) (o .answer .number) (o .answer .value)) (sym lines))
+            ∙ ap (λ l. l ++ drop e out₀) (sym (ap (printed first) t ∙ printed-snoc first (replies (linesIn roll k) (p .answers)) (o .answer)))
+            ∙ ap (λ x. printed first (replies (linesIn roll k ++ (lineAt roll k ∷ [])) answers) ++ drop x out₀) end;
+      })
+
+  by-line : (line : Line) → lineAt roll k ≡ line → Turned image v line o → Played image w roll (k + 1) first out₀ now′ (o .world)
+  unfolding requests replies
+  by-line (Call q) e s =
+      let l = run-length (p .run) in
+      with-line (p .answers ++ (o .answer ∷ [])) l
+      (rw (e, requests-append (linesIn roll k) (Call q ∷ [])) (run-snoc (p .run) s))
+      (rw e (replies-append (linesIn roll k) (Call q ∷ []) (p .answers) (o .answer ∷ []) l))
+  by-line Malformed e s =
+      let l = run-length (p .run) in
+      with-line (p .answers) l
+      (rw (e, requests-append (linesIn roll k) (Malformed ∷ []), append-nil, s) (p .run))
+      (rw (e, s) (ap (replies (linesIn roll k ++ (Malformed ∷ []))) (sym (append-nil (p .answers))) ∙ replies-append (linesIn roll k) (Malformed ∷ []) (p .answers) [] l))
+
+  pub played-more : Turned image v (lineAt roll k) o → Played image w roll (k + 1) first out₀ now′ (o .world)
+  played-more t = by-line (lineAt roll k) refl t
+
+-- every line has a reply
+pub a-reply-each : (image : List ℕ) (w : World) (roll : List ℕ) (n first : ℕ) (out₀ out : List ℕ) (v : World) (p : Played image w roll n first out₀ out v)
+    → length (replies (linesIn roll n) (p .answers)) ≡ n
+a-reply-each image w roll n first out₀ out v p = replies-length (linesIn roll n) (p .answers) (run-length (p .run)) ∙ lines-length roll n

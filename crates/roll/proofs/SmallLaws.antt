@@ -1,0 +1,94 @@
+-- The value of an answer is small, since every byte of pool and image is: it has room in the columns of a reply.
+use mathlib.Core.Path.{_≡_}
+use mathlib.Core.Bool.{not}
+use mathlib.Core.List.{List}
+use Prim.Native.Nat.{ℕ, zero, suc, _+_, _*_, _<_, _≤_, _/_}
+use native.Mathlib.Omega.{arith}
+use lib.ListN.{length, getD}
+use lib.Dec.{eqb}
+use borrow.Author.Tests.{eqb-true}
+use Rattle.basics.proofs.TestLaws.{when-cases, passed}
+use Rattle.interface.specs.declared.request.Request.{Request}
+use Rattle.interface.specs.declared.page.Backing.{Backing}
+use Rattle.interface.specs.declared.page.Backing.the-variants.{Anonymous, Image}
+use Rattle.interface.specs.Requests.{_is_, isCall, Map, Read, Snapshot, Report, pageOf, offsetOf}
+use Rattle.interface.specs.Slots.{isCommitted, backingAt}
+use Rattle.interface.specs.Outcome.{firstOf}
+use Rattle.interface.specs.Refusals.{refusal}
+use Rattle.interface.proofs.AcceptedLaws.{accepted, map-fits}
+use Rattle.interface.proofs.ChargeLaws.{mapped-small}
+use Rattle.frames.specs.declared.Held.{Held}
+use Rattle.frames.specs.Frames.{held, countHeld}
+use Rattle.frames.proofs.FrameLaws.{held-lt}
+use Rattle.frames.proofs.SumLaws.{sum-le}
+use Rattle.pages.specs.Parts.{frame}
+use Rattle.pages.proofs.PartLaws.{frame-at, getD-zeros}
+use Rattle.marks.specs.Marks.{marksTo, from}
+use Rattle.table.specs.Store.{Store, entry, frontOf, backOf, contents, pageIn, pageFrom}
+use Rattle.areas.specs.Areas.{slots}
+use Rattle.state.specs.declared.sandbox.Sandbox.{Sandbox}
+use Rattle.state.specs.World.{World, sandboxAt, viewAt}
+use Rattle.state.specs.Test.{soundb}
+use Rattle.memory.specs.Memory.{backingPage, pageUnder, pageRead, heldBy, valueAt}
+use Rattle.machine.specs.Step.{Outcome, Stepped, step, numberAt}
+
+-- each element is a byte
+abbrev pub Bytes : List ℕ → Type 0
+Bytes xs = (k : ℕ) → getD xs k 0 < 256
+
+-- a byte stands at every place of a page
+abbrev At : ℕ → List ℕ → Type 0
+At o xs = getD xs o 0 < 256
+
+module _ (o : ℕ) (low : o < 256) where
+  frame-byte : (xs : List ℕ) (f : ℕ) → Bytes xs → At o (frame 256 xs f)
+  frame-byte xs f b = rw (frame-at 256 xs f o low) (b (f * 256 + o))
+
+  backing-byte : (image : List ℕ) (b : Backing) → Bytes image → At o (backingPage image b)
+  backing-byte image Anonymous t = rw (getD-zeros 256 o) (omega arith)
+  backing-byte image (Image p) t = frame-byte image (p .0) t
+
+  in-byte : (pool : List ℕ) (e : ℕ) (other : List ℕ) → Bytes pool → At o other → At o (pageFrom other (pageIn 256 pool e))
+  in-byte pool zero other b h = h
+  in-byte pool (suc f) other b h = frame-byte pool f b
+
+  read-byte : (image : List ℕ) (st : Store) (b : Sandbox) (s i : ℕ) → Bytes image → Bytes (st .pool) → At o (pageRead image st b s i)
+  unfolding pageRead pageUnder contents
+  read-byte image st b s i t u =
+      in-byte (st .pool) (entry st (frontOf s i)) _ u
+      (when-cases (At o) (isCommitted (slots (b .present) i))
+      (λ e. in-byte (st .pool) (entry st (backOf s i)) (backingPage image (backingAt (slots (b .present) i))) u (backing-byte image (backingAt (slots (b .present) i)) t))
+      (λ e. backing-byte image (backingAt (slots (b .present) i)) t))
+
+count-low : (h : Held) → countHeld h ≤ 128
+unfolding countHeld
+count-low h = sum-le (held h) 128 (held-lt h)
+
+unrefused : (image : List ℕ) (w : World) (q : Request) → numberAt image w q ≡ 0 → refusal (viewAt image w (q .sandbox)) q ≡ 0
+unfolding numberAt
+unrefused image w q e = passed 2 _ (not (soundb image w)) (passed 1 _ (not (isCall q)) e .1) .1
+
+-- "Value: first page"
+first-low : (image : List ℕ) (w : World) (q : Request) → numberAt image w q ≡ 0 → q .code ≡ Map → firstOf (slots (sandboxAt w (q .sandbox) .present)) q ≤ 64
+first-low image w q e m =
+    let v = viewAt image w (q .sandbox) in
+    let fits = map-fits v q (accepted v q (unrefused image w q e)) m in
+    omega (arith, fits)
+
+held-low : (st : Store) (s : ℕ) → heldBy st s ≤ 128
+unfolding heldBy
+held-low st s = count-low (marksTo (length (st .pool) / 256) (from (s * 128) (st .table)) 128 .held)
+
+module _ (image : List ℕ) (w : World) (q : Request) (t : Bytes image) (u : Bytes (w .store .pool)) where
+  value-low : numberAt image w q ≡ 0 → valueAt image q (sandboxAt w (q .sandbox)) (w .store) ≤ 65535
+  unfolding valueAt
+  value-low n =
+      let b = sandboxAt w (q .sandbox) in
+      when-cases (λ x. x ≤ 65535) (q is Map) (λ e. let r = first-low image w q n (eqb-true (q .code) Map e) in omega (arith, r))
+      (λ _. when-cases (λ x. x ≤ 65535) (q is Read) (λ e. let r = read-byte (offsetOf q) (omega arith) image (w .store) b (q .sandbox) (pageOf q) t u in omega (arith, r))
+      (λ _. when-cases (λ x. x ≤ 65535) (q is Snapshot) (λ e. let r = mapped-small (slots (b .present)) in omega (arith, r))
+      (λ _. when-cases (λ x. x ≤ 65535) (q is Report) (λ e. let r = held-low (w .store) (q .sandbox) in omega (arith, r)) (λ _. omega arith))))
+
+  pub value-small : (o : Outcome) → Stepped image w q o → o .answer .value ≤ 65535
+  unfolding step
+  value-small o s = rw (s .equals) (when-cases (λ x. x ≤ 65535) (eqb (numberAt image w q) 0) (λ e. value-low (eqb-true (numberAt image w q) 0 e)) (λ _. omega arith))
