@@ -1,0 +1,2 @@
+pub mod FromStart
+pub mod Replies

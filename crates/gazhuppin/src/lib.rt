@@ -1,0 +1,39 @@
+// The library for hosts in C and Rust: a roll is played from a start over lent memory, and pool and table are left for the host to look at.
+// It promises that whatever is lent, the call ends; that the replies are those of a run from the start (`Played`), and nothing is touched where
+// they would not fit (`FromStart`); and that they are the plain machine's (proofs/PlainReplies).
+// It stands on `roll` for the play and on `soundness` for the start. The state stays inside: nothing that holds an enum crosses to C.
+ghost use mathlib.Core.Path.{_≡_};
+ghost use Rattle.lines.specs.Lines.{linesOf};
+ghost use Rattle.gazhuppin.specs.FromStart.{FromStart};
+use lines::Line;
+use lines::lines_of;
+use roll::play;
+use soundness::start::start;
+
+// How many lines a roll of so many bytes has, each of which gets a reply of 19 bytes.
+#[no_mangle]
+pub extern "C" fn gazhuppin_lines(bytes: usize) -> usize
+    ensures { λ r. ⌜ r ≡ linesOf bytes ⌝ }
+{
+    lines_of(bytes)
+}
+
+// Starts the machine, plays the roll and says how many lines have a reply; without room for every reply it does nothing.
+#[no_mangle]
+pub extern "C" fn gazhuppin_play(
+    roll: &[u8],
+    image: &[u8],
+    pool: &mut [u8],
+    table: &mut [u16],
+    out: &mut [u8],
+) -> usize
+    ensures { λ r. ⌜ FromStart (now (image .entry)) (now (roll .entry)) (now (pool .entry)) (now (table .entry)) (now (out .entry)) (now (pool .exit)) (now (table .exit)) (now (out .exit)) r ⌝ }
+{
+    let lines = lines_of(roll.len());
+    if out.len() < lines * Line::REPLY {
+        return 0;
+    }
+    let machine = start(pool, table, image).machine;
+    play(machine, pool, table, image, roll, 1, out);
+    lines
+}
