@@ -2,6 +2,8 @@ pub mod SlotLaws
 pub mod PushLaws
 pub mod PackLaws
 pub mod FormedLaws
+pub mod WalkLaws
+pub mod CountedLaws
 pub mod KeptLaws
 pub mod FewAreas
 pub mod ChangeLaws

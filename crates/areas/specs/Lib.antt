@@ -3,3 +3,4 @@ pub mod Areas
 pub mod Pack
 pub mod Formed
 pub mod Order
+pub mod Walk

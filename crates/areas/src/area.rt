@@ -85,7 +85,7 @@ impl Area {
     }
 
     // Whether the page is one of the area's.
-    fn covers(self, page: PageNo) -> bool
+    pub(crate) fn covers(self, page: PageNo) -> bool
         ensures { λ r. ⌜ r ≡ covers self (page .0) ⌝ }
     {
         let first = self.first;
@@ -93,7 +93,7 @@ impl Area {
     }
 
     // What stands at a page of the area.
-    fn slot(self, page: PageNo) -> Slot
+    pub(crate) fn slot(self, page: PageNo) -> Slot
         requires { ⌜ startOf (self .backing) ≤ 64 ⌝ }
         requires { ⌜ page .0 < 64 ⌝ }
         requires { ⌜ self .first .0 ≤ page .0 ⌝ }

@@ -1,15 +1,8 @@
 // The words of `basics` that the code of this layer uses.
 ghost use mathlib.Core.Path.{_≡_};
 ghost use Rattle.basics.specs.Choice.{same};
-ghost use Rattle.basics.specs.Ranges.{one, inside};
+ghost use Rattle.basics.specs.Ranges.{inside};
 use interface::page::PageNo;
-
-// 1 for true, 0 for false.
-pub(crate) fn one(b: bool) -> u8
-    ensures { λ r. ⌜ r ≡ one b ⌝ }
-{
-    if b { 1 } else { 0 }
-}
 
 // Whether two tests have the same outcome.
 pub(crate) fn is_same(a: bool, b: bool) -> bool
@@ -22,9 +15,6 @@ pub(crate) fn is_same(a: bool, b: bool) -> bool
 pub(crate) fn is_inside(first: PageNo, n: u8, page: PageNo) -> bool
     ensures { λ r. ⌜ r ≡ inside (first .0) n (page .0) ⌝ }
 {
-    if first.0 <= page.0 {
-        page.0 - first.0 < n
-    } else {
-        false
-    }
+    let end = first.0 as usize + n as usize;
+    (first.0 <= page.0) & ((page.0 as usize) < end)
 }

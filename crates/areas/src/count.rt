@@ -1,19 +1,17 @@
-// Pages counted: "The charge of a sandbox is its mapped pages", or "the uncommitted mapped pages" among them.
+// Pages counted: "The charge of a sandbox is its mapped pages", or "the uncommitted mapped pages" among them. Areas stand apart, so each page is counted
+// with its area.
 ghost use mathlib.Core.Path.{_≡_};
 ghost use Rattle.basics.specs.Ranges.{count};
 ghost use Rattle.interface.specs.Slots.{mappedPages, uncommittedPages};
-ghost use Rattle.areas.specs.Areas.{slots, counts, Near};
+ghost use Rattle.areas.specs.Areas.{slots, counts};
+ghost use Rattle.areas.specs.Walk.{Formed, countedPages};
+use crate::area::Area;
 use crate::area::Areas;
-use crate::basic::one;
-use crate::slot::is_mapped;
-use crate::slot::is_uncommitted;
-use interface::page::PageNo;
-use interface::page::Slot;
 
 impl Areas {
     // How many pages are mapped.
     pub fn mapped_pages(self) -> u8
-        requires { ⌜ Near (self .list) ⌝ }
+        requires { ⌜ Formed self ⌝ }
         ensures { λ r. ⌜ r ≡ mappedPages (slots self) ⌝ }
     {
         self.pages(true)
@@ -21,7 +19,7 @@ impl Areas {
 
     // How many pages are mapped and not committed.
     pub fn uncommitted_pages(self) -> u8
-        requires { ⌜ Near (self .list) ⌝ }
+        requires { ⌜ Formed self ⌝ }
         ensures { λ r. ⌜ r ≡ uncommittedPages (slots self) ⌝ }
     {
         self.pages(false)
@@ -29,24 +27,27 @@ impl Areas {
 
     // How many pages are mapped, the committed ones among them or not.
     fn pages(self, committed: bool) -> u8
-        requires { ⌜ Near (self .list) ⌝ }
+        requires { ⌜ Formed self ⌝ }
         ensures { λ r. ⌜ r ≡ count (λ i. counts committed (slots self i)) 64 ⌝ }
     {
         let mut n: u8 = 0;
-        for i in 0..Areas::PAGES {
-            n += one(does_count(committed, self.slot(PageNo(i))));
+        for k in 0..Area::MOST {
+            let area = self.list[k];
+            n += area.counted(committed);
         }
         n
     }
 }
 
-// Whether the page is mapped, and not committed unless those count too.
-fn does_count(committed: bool, slot: Slot) -> bool
-    ensures { λ r. ⌜ r ≡ counts committed slot ⌝ }
-{
-    if committed {
-        is_mapped(slot)
-    } else {
-        is_uncommitted(slot)
+impl Area {
+    // How many of the area's pages count, the committed ones or not.
+    fn counted(self, committed: bool) -> u8
+        ensures { λ r. ⌜ r ≡ countedPages committed self ⌝ }
+    {
+        if committed | !self.committed {
+            self.pages
+        } else {
+            0
+        }
     }
 }

@@ -10,3 +10,4 @@ mod formed;
 mod gap;
 pub mod pack;
 pub mod slot;
+mod walk;

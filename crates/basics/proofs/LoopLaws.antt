@@ -2,13 +2,13 @@
 -- and what these two say of each number.
 use Prim.Native.Nat.{ℕ, zero, suc, _+_, _-_, _≤_, _<_}
 use mathlib.Core.Path.{_≡_, refl}
-use mathlib.Core.Bool.{Bool, true, false}
+use mathlib.Core.Bool.{Bool, true, false, _&&_}
 use native.Mathlib.Omega.{arith}
 use native.Mathlib.Decide.{ℕ-discrete}
 use native.Mathlib.Nat.{add-zero}
 use native.Mathlib.Numerals.{add-one}
 use Rattle.basics.specs.Ranges.{one, count, every, lowest}
-use Rattle.basics.proofs.TestLaws.{by-cases, and-left, and-right, and-of}
+use Rattle.basics.proofs.TestLaws.{by-cases, both-ways, and-left, and-right, and-of}
 
 module _ (P : ℕ → Bool) (e i : ℕ) where
   module _ (h : i < e) where
@@ -63,6 +63,20 @@ module _ (P : ℕ → Bool) where
   unfolding every
   every-of i zero h = refl
   every-of i (suc n) h = and-of (h i (omega arith) (omega arith)) (every-of (i + 1) n (λ p a b. h p (omega arith) (omega arith)))
+
+  -- one number more at the end
+  pub every-last : (n : ℕ) → every P 0 (n + 1) ≡ (every P 0 n && P n)
+  every-last n =
+      both-ways _ _
+      (λ h. and-of (every-of 0 n (λ p a b. every-at 0 (n + 1) h p a (omega arith))) (every-at 0 (n + 1) h n (omega arith) (omega arith)))
+      (λ h. every-of 0 (n + 1) (λ p a b. next (λ p. P p ≡ true) n p b (and-right (every P 0 n) (P n) h) (λ c. every-at 0 n (and-left (every P 0 n) (P n) h) p a (omega arith))))
+    where
+      next : (Q : ℕ → Type 0) (n p : ℕ) → p < 0 + (n + 1) → Q n → (p < n → Q p) → Q p
+      next Q n p b l m = go (ℕ-discrete p n)
+        where
+          go : Dec (p ≡ n) → Q p
+          go (yes e) = rw e l
+          go (no d) = m (omega arith)
 
   -- the lowest lies in the range or at its end
   pub lowest-range : (a n : ℕ) → (a ≤ lowest P a n) × (lowest P a n ≤ a + n)

@@ -1,12 +1,12 @@
 -- Laws of a range of numbers, and of a function changed on a range.
 use Prim.Native.Nat.{ℕ, _+_, _-_, _≤_, _<_}
 use mathlib.Core.Path.{_≡_}
-use mathlib.Core.Bool.{true, false}
+use mathlib.Core.Bool.{true, false, _&&_}
 use native.Mathlib.Omega.{arith}
 use lib.Dec.{leb, ltb}
 use borrow.Author.Tests.{ltb-true, leb-true, lt-ltb, le-ltb, le-leb, lt-leb}
 use Rattle.basics.specs.Ranges.{inside, over}
-use Rattle.basics.proofs.TestLaws.{by-cases, when-cases, and-left, and-right}
+use Rattle.basics.proofs.TestLaws.{by-cases, when-cases, both-ways, and-left, and-right, and-of}
 
 pub inside-first : (a n i : ℕ) → inside a n i ≡ true → a ≤ i
 unfolding inside
@@ -19,6 +19,13 @@ inside-end a n i h = omega (arith, ltb-true (i - a) n (and-right (leb a i) (ltb 
 pub inside-yes : (a n i : ℕ) → a ≤ i → i < a + n → inside a n i ≡ true
 unfolding inside
 inside-yes a n i h k = simp (le-leb a i h, lt-ltb (i - a) n (omega arith))
+
+-- the same, by the number at which the range ends
+pub inside-ends : (a n i : ℕ) → (leb a i && ltb i (a + n)) ≡ inside a n i
+inside-ends a n i =
+    both-ways _ _
+    (λ h. inside-yes a n i (leb-true a i (and-left (leb a i) (ltb i (a + n)) h)) (ltb-true i (a + n) (and-right (leb a i) (ltb i (a + n)) h)))
+    (λ h. and-of (le-leb a i (inside-first a n i h)) (lt-ltb i (a + n) (inside-end a n i h)))
 
 pub inside-below : (a n i : ℕ) → i < a → inside a n i ≡ false
 unfolding inside

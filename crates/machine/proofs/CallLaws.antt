@@ -115,6 +115,7 @@ module _ (image : List ℕ) (w : World) (q : Request) where
       few = S .images;
       present = S .each (q .sandbox) row .present;
       snapshot = S .each (q .sandbox) row .snapshot;
+      backing = S .each (q .sandbox) row .backing;
       charged = S .each (q .sandbox) row .charged;
       closed = λ e. ap (λ (b : Sandbox). b .share) (S .each (q .sandbox) row .closed e);
     }

@@ -1,6 +1,6 @@
 -- The store after an accepted request, by each of the calls that change it.
-use Prim.Native.Nat.{ℕ, _*_, _≤_, _<_}
-use mathlib.Core.Path.{_≡_, sym, ap, _∙_}
+use Prim.Native.Nat.{ℕ, zero, suc, _*_, _≤_, _<_}
+use mathlib.Core.Path.{_≡_, refl, sym, ap, _∙_}
 use mathlib.Core.Bool.{Bool, true, false, false≢true}
 use mathlib.Core.List.{List}
 use native.Mathlib.Omega.{arith}
@@ -14,7 +14,7 @@ use Rattle.interface.specs.declared.request.Request.{Request}
 use Rattle.interface.specs.Requests.{_is_, Unmap, Write, Snapshot, Rewind, pageOf, offsetOf}
 use Rattle.interface.specs.Slots.{isCommitted, backingAt}
 use Rattle.table.specs.declared.source.Source.{Source}
-use Rattle.table.specs.Store.{Store, entry, frontOf, backOf, contents, underFront, take, storeByte, freeTo, moveTo, rewindTo, Ranged, Filed, Tidy, Touched}
+use Rattle.table.specs.Store.{Store, entry, frontOf, backOf, contents, underFront, take, storeByte, freeTo, moveTo, rewindPage, rewindTo, Ranged, Filed, Tidy, Touched}
 use Rattle.table.specs.Source.{sourceBytes, sourceEnd}
 use Rattle.table.proofs.StoreLaws.{taken}
 use Rattle.table.proofs.FiledLaws.{filed-ranged}
@@ -35,6 +35,14 @@ source-there image images a f w i = go (backingAt (slots a i)) (image-exists ima
     go : (b : Backing) → ImagesExist images b 1 → sourceEnd (sourceOf b) * 256 ≤ length image
     go Anonymous e = omega arith
     go (Image p) e = omega arith
+
+-- what is rewound does not depend on the bytes of pages that give up their fronts
+pub rewind-alike : (size first : ℕ) (keep : ℕ → Bool) (xs ys : ℕ → List ℕ) (st : Store) → ((i : ℕ) → keep i ≡ true → xs i ≡ ys i) → (n : ℕ)
+    → rewindTo size first keep xs st n ≡ rewindTo size first keep ys st n
+unfolding rewindTo rewindPage
+rewind-alike size first keep xs ys st h zero = refl
+rewind-alike size first keep xs ys st h (suc n) =
+    by-cases (keep n) (λ e. rw (e, h n e, rewind-alike size first keep xs ys st h n)) (λ e. rw (e, rewind-alike size first keep xs ys st h n))
 
 -- ---- a page touched before a write
 

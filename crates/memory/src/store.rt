@@ -1,10 +1,8 @@
 // What an accepted request makes of the lent memory.
 ghost use mathlib.Core.Path.{_≡_};
-ghost use mathlib.Core.Bool.{Bool, true};
-ghost use Prim.Native.Nat.{ℕ, _+_, _*_, _≤_, _<_};
+ghost use Prim.Native.Nat.{_*_, _≤_, _<_};
 ghost use lib.ListN.{length};
-ghost use Rattle.frames.specs.declared.Held.{Held as Words};
-ghost use Rattle.interface.specs.Requests.{Unmap, Write, Snapshot, Rewind, pageOf};
+ghost use Rattle.interface.specs.Requests.{Write, Rewind};
 ghost use Rattle.interface.specs.Slots.{isCommitted, backingAt};
 ghost use Rattle.marks.specs.Named.{usedBelow};
 ghost use Rattle.table.specs.Store.{kept, entry, frontOf, backOf, Ranged, Filed, rewindPage, rewindTo};
@@ -115,7 +113,8 @@ fn touch(
     table::store::touch(held, pool, table, image, s, page, committed, source, frames)
 }
 
-// "Rewind": each front keeps its frame with the snapshot's bytes, or is freed and cleared.
+// "Rewind": each front keeps its frame with the snapshot's bytes, or is freed and cleared. A committed page agrees with the snapshot's in backing, so
+// the present areas alone are looked up.
 fn rewind(
     held: Held,
     pool: &mut [u8],
@@ -132,20 +131,9 @@ fn rewind(
     ensures { λ r. ⌜ kept r (now (pool .exit)) (now (table .exit)) ≡ rewindTo 256 (s * 128) (keepsFront b) (copyPage (now (image .entry)) b) (kept held (now (pool .entry)) (now (table .entry))) 64 ⌝ }
 {
     let present = b.present;
-    let snapshot = b.snapshot;
     let mut h = held;
     for i in 0..64u8 {
-        h = rewind_page(
-            h,
-            pool,
-            table,
-            image,
-            present,
-            snapshot,
-            s,
-            PageNo(i),
-            images,
-        );
+        h = rewind_page(h, pool, table, image, present, s, PageNo(i));
     }
     h
 }
@@ -157,25 +145,23 @@ fn rewind_page(
     table: &mut [u16],
     image: &[u8],
     present: Areas,
-    snapshot: Areas,
     s: u8,
     page: PageNo,
-    images: u8,
 ) -> Held
     requires { ⌜ s < 4 ⌝ }
     requires { ⌜ page .0 < 64 ⌝ }
     requires { ⌜ Near (present .list) ⌝ }
-    requires { ⌜ Near (snapshot .list) ⌝ }
     requires { ⌜ Ranged 256 (now pool) (now table) ⌝ }
-    requires { ⌜ sourceEnd (sourceOf (backingAt (slots snapshot (page .0)))) * 256 ≤ length (now image) ⌝ }
-    ensures { λ r. ⌜ kept r (now (pool .exit)) (now (table .exit)) ≡ rewindPage 256 (frontOf s (page .0)) (backOf s (page .0)) (isCommitted (slots present (page .0))) (sourceBytes (now (image .entry)) (sourceOf (backingAt (slots snapshot (page .0))))) (kept held (now (pool .entry)) (now (table .entry))) ⌝ }
+    requires { ⌜ sourceEnd (sourceOf (backingAt (slots present (page .0)))) * 256 ≤ length (now image) ⌝ }
+    ensures { λ r. ⌜ kept r (now (pool .exit)) (now (table .exit)) ≡ rewindPage 256 (frontOf s (page .0)) (backOf s (page .0)) (isCommitted (slots present (page .0))) (sourceBytes (now (image .entry)) (sourceOf (backingAt (slots present (page .0))))) (kept held (now (pool .entry)) (now (table .entry))) ⌝ }
 {
     let front = table::entry::front(table, s, page);
     if front == 0 {
         return held;
     }
-    let keep = is_committed(present.slot(page));
-    let source = source_of(backing_at(snapshot.slot(page)));
+    let slot = present.slot(page);
+    let keep = is_committed(slot);
+    let source = source_of(backing_at(slot));
     table::store::restore_page(held, pool, table, image, s, page, keep, source)
 }
 

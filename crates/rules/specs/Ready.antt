@@ -4,7 +4,7 @@ use mathlib.Core.Bool.{true, false}
 use Prim.Native.Nat.{ℕ, _+_, _≤_, _<_}
 use Rattle.interface.specs.declared.request.Request.{Request}
 use Rattle.interface.specs.Requests.{Open, Map, Unmap, Protect, Read, Write, Rewind}
-use Rattle.interface.specs.Slots.{allAre, chargeOf}
+use Rattle.interface.specs.Slots.{isCommitted, backingAt, allAre, chargeOf}
 use Rattle.interface.specs.Outcome.{firstOf}
 use Rattle.interface.specs.Refusals.{View, isTaken}
 use Rattle.areas.specs.Areas.{slots}
@@ -23,11 +23,13 @@ pub record Fit (q : Request) : Type 0 where
   pub read : q .code ≡ Read → q .p1 < 16384
   pub written : q .code ≡ Write → (q .p1 < 16384) × (q .p2 < 256)
 
--- a sandbox whose areas are well formed over an image of so many pages, at most 64
+-- a sandbox of a sound state, over an image of so many pages, at most 64
 pub record Ready (images : ℕ) (b : Sandbox) : Type 0 where
   pub few : images ≤ 64
   pub present : WellFormed images (b .present)
   pub snapshot : WellFormed images (b .snapshot)
+  -- "committed pages .. agree with them in backing"
+  pub backing : (i : ℕ) → isCommitted (slots (b .present) i) ≡ true → backingAt (slots (b .present) i) ≡ backingAt (slots (b .snapshot) i)
   -- "the charge .. limits hold"; "a closed one has nothing"
   pub charged : chargeOf (slots (b .present)) (copyOf b) ≤ b .share
   pub closed : b .opened ≡ false → b .share ≡ 0

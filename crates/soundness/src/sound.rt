@@ -1,15 +1,14 @@
 // Soundness, computed: "A state is sound if ..".
 ghost use mathlib.Core.Path.{_≡_};
-ghost use mathlib.Core.Bool.{Bool};
 ghost use mathlib.Core.List.{List};
 ghost use Prim.Native.Nat.{ℕ, _≤_, _<_};
 ghost use lib.ListN.{length, getD};
 ghost use Rattle.basics.specs.Ranges.{every};
 ghost use Rattle.frames.specs.declared.Held.{Held as Words};
 ghost use Rattle.table.specs.Store.{kept};
-ghost use Rattle.areas.specs.Areas.{Near};
+ghost use Rattle.areas.specs.Walk.{Formed};
 ghost use Rattle.state.specs.World.{worldOf, closedSandbox, wholePages, lengthsOk};
-ghost use Rattle.state.specs.Test.{sameBacking, pageOk, pagesOk, recordOk, sandboxOk, soundb};
+ghost use Rattle.state.specs.Test.{sameBacking, namesNone, pageOk, pagesOk, recordOk, sandboxOk, soundb};
 use areas::area::Areas;
 use areas::slot::backing_at;
 use areas::slot::is_committed;
@@ -94,20 +93,57 @@ fn sandbox_ok(b: Sandbox, table: &[u16], s: u8, images: u8) -> bool
     record_ok(b.opened, b.share, b.taken, present.count, snapshot.count)
 }
 
+// Without areas no page is looked at, only the entries.
 fn pages_ok(present: Areas, snapshot: Areas, table: &[u16], s: u8) -> bool
     requires { ⌜ s < 4 ⌝ }
     requires { ⌜ length (now table) ≡ 512 ⌝ }
-    requires { ⌜ Near (present .list) ⌝ }
-    requires { ⌜ Near (snapshot .list) ⌝ }
+    requires { ⌜ Formed present ⌝ }
+    requires { ⌜ Formed snapshot ⌝ }
     ensures { λ r. ⌜ ((h : Words) (pool : List ℕ) → r ≡ pagesOk (kept h pool (now (table .entry))) s present snapshot) ⌝ }
 {
+    if (present.count == 0) & (snapshot.count == 0) {
+        return names_none(table, s);
+    }
+    each_page_ok(present, snapshot, table, s)
+}
+
+// Whether no entry of the sandbox names a frame. All are looked at, which takes no branch.
+fn names_none(table: &[u16], s: u8) -> bool
+    requires { ⌜ s < 4 ⌝ }
+    requires { ⌜ length (now table) ≡ 512 ⌝ }
+    ensures { λ r. ⌜ ((h : Words) (pool : List ℕ) → r ≡ every (namesNone (kept h pool (now (table .entry))) s) 0 64) ⌝ }
+{
+    let mut none = true;
     for i in 0..64u8 {
         let page = PageNo(i);
         let front = table::entry::front(table, s, page);
         let back = table::entry::back(table, s, page);
-        if !page_ok(present.slot(page), snapshot.slot(page), front, back) {
+        none = none & ((front == 0) & (back == 0));
+    }
+    none
+}
+
+// Page by page, with a walk along the present areas and one along the snapshot's.
+fn each_page_ok(present: Areas, snapshot: Areas, table: &[u16], s: u8) -> bool
+    requires { ⌜ s < 4 ⌝ }
+    requires { ⌜ length (now table) ≡ 512 ⌝ }
+    requires { ⌜ Formed present ⌝ }
+    requires { ⌜ Formed snapshot ⌝ }
+    ensures { λ r. ⌜ ((h : Words) (pool : List ℕ) → r ≡ pagesOk (kept h pool (now (table .entry))) s present snapshot) ⌝ }
+{
+    let mut p: u8 = 0;
+    let mut q: u8 = 0;
+    for i in 0..64u8 {
+        let page = PageNo(i);
+        let here = present.list[p as usize];
+        let there = snapshot.list[q as usize];
+        let front = table::entry::front(table, s, page);
+        let back = table::entry::back(table, s, page);
+        if !page_ok(here.slot_here(page), there.slot_here(page), front, back) {
             return false;
         }
+        p = here.next_place(p, present.count, PageNo(i + 1));
+        q = there.next_place(q, snapshot.count, PageNo(i + 1));
     }
     true
 }
@@ -116,8 +152,12 @@ fn page_ok(present: Slot, snapshot: Slot, front: u16, back: u16) -> bool
     ensures { λ r. ⌜ r ≡ pageOk present snapshot front back ⌝ }
 {
     let mapped = is_mapped(present);
-    let committed = is_committed(present);
     let copied = is_mapped(snapshot);
+    // Most pages are in neither.
+    if !mapped & !copied {
+        return (front == 0) & (back == 0);
+    }
+    let committed = is_committed(present);
     let agrees = same_backing(backing_at(present), backing_at(snapshot));
     let fronts = !!mapped | (front == 0);
     let backs = !!copied | (back == 0);

@@ -4,7 +4,8 @@ ghost use Prim.Native.Nat.{_≤_};
 ghost use lib.ListN.{getD};
 ghost use Rattle.basics.specs.Ranges.{sum};
 ghost use Rattle.interface.specs.Slots.{chargeOf};
-ghost use Rattle.areas.specs.Areas.{slots, Near};
+ghost use Rattle.areas.specs.Areas.{slots};
+ghost use Rattle.areas.specs.Walk.{Formed};
 ghost use Rattle.state.specs.World.{closedSandbox, freshMachine, withOpened, withShare, withPresent, withTaken, withSnapshot, copyOf};
 use areas::area::Areas;
 use frames::Held;
@@ -99,8 +100,8 @@ impl Sandbox {
 
     // The charge: "its mapped pages before a snapshot. Afterwards it is 2 × the snapshot's pages, mapped or not, plus the uncommitted mapped pages."
     pub fn charge(self) -> u8
-        requires { ⌜ Near (self .present .list) ⌝ }
-        requires { ⌜ Near (self .snapshot .list) ⌝ }
+        requires { ⌜ Formed (self .present) ⌝ }
+        requires { ⌜ Formed (self .snapshot) ⌝ }
         ensures { λ r. ⌜ r ≡ chargeOf (slots (self .present)) (copyOf self) ⌝ }
     {
         let present = self.present;

@@ -1,15 +1,19 @@
-use borrow.Author.Tests.{le-leb, lt-leb}
-use Rattle.basics.specs.Ranges.{inside}
+use borrow.Author.Needs.{needs}
+use Rattle.basics.proofs.RangeLaws.{inside-ends}
 use Rattle.areas.proofs.basic.is_inside.Statement.{statement}
 use Rattle.areas.proofs.basic.is_inside.Tie as tie
 
-returns : tie.Need-returns
-unfolding inside
-returns c = simp (le-leb _ _ (c .before .before .if1 .taken))
+cast-end : tie.Need-cast-end
+cast-end c = search needs
 
-returns-2 : tie.Need-returns-2
-unfolding inside
-returns-2 c = simp (lt-leb _ _ (c .if1 .left))
+add-end : tie.Need-add-end
+add-end c = search needs
+
+cast-result : tie.Need-cast-result
+cast-result c = search needs
+
+returns : tie.Need-returns
+returns c = inside-ends _ _ _
 
 pub is-inside-spec : {M : Type 1} → statement M
-is-inside-spec = tie.close (tie.spec returns returns-2)
+is-inside-spec = tie.close (tie.spec cast-end add-end cast-result returns)

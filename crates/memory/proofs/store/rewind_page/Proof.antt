@@ -7,7 +7,7 @@ use Rattle.memory.proofs.store.rewind_page.Statement.{statement}
 use Rattle.memory.proofs.store.rewind_page.Tie as tie
 
 front-requires : tie.Need-front-requires
-front-requires c κs = (c .before .before .before .before .pre .0, (c .before .before .before .before .pre .1 .0, c .before .before .before .before .pre .1 .1 .1 .1 .0 .entries))
+front-requires c κs = let s = c .before .before .before .before in (s .pre .0, (s .pre .1 .0, s .pre .1 .1 .1 .0 .entries))
 
 same-length : tie.Need-same-length
 same-length c = search needs
@@ -21,9 +21,6 @@ slot-requires c κs = search needs
 is-committed-requires : tie.Need-is-committed-requires
 is-committed-requires c κs = search needs
 
-slot-requires-2 : tie.Need-slot-requires-2
-slot-requires-2 c κs = search needs
-
 backing-at-requires : tie.Need-backing-at-requires
 backing-at-requires c κs = search needs
 
@@ -31,7 +28,9 @@ source-of-requires : tie.Need-source-of-requires
 source-of-requires c κs = search needs
 
 restore-page-requires : tie.Need-restore-page-requires
-restore-page-requires c κs = (c .before .before .before .before .before .before .before .before .before .before .before .before .before .pre .0, (c .before .before .before .before .before .before .before .before .before .before .before .before .before .pre .1 .0, (c .before .before .before .before .before .before .before .before .before .before .before .before .before .pre .1 .1 .1 .1 .0, rw (c .before .before .source-of .ensures ∙ ap sourceOf (c .before .before .before .backing-at .ensures ∙ ap backingAt (c .before .before .before .before .slot2 .ensures))) (c .before .before .before .before .before .before .before .before .before .before .before .before .before .pre .1 .1 .1 .1 .1))))
+restore-page-requires c κs =
+    let s = c .before .before .before .before .before .before .before .before .before .before .before .before in
+    (s .pre .0, (s .pre .1 .0, (s .pre .1 .1 .1 .0, rw (c .before .before .source-of .ensures ∙ ap sourceOf (c .before .before .before .backing-at .ensures ∙ ap backingAt (c .before .before .before .before .before .slot .ensures))) (s .pre .1 .1 .1 .1))))
 
 same-length-2 : tie.Need-same-length-2
 same-length-2 c = search needs
@@ -40,7 +39,9 @@ same-length-3 : tie.Need-same-length-3
 same-length-3 c = search needs
 
 returns-2 : tie.Need-returns-2
-returns-2 c = rw (← (c .before .before .before .before .before .before .before .source-of .ensures ∙ ap sourceOf (c .before .before .before .before .before .before .before .before .backing-at .ensures ∙ ap backingAt (c .before .before .before .before .before .before .before .before .before .slot2 .ensures))), ← (c .before .before .before .before .before .before .before .before .before .before .is-committed .ensures ∙ ap isCommitted (c .before .before .before .before .before .before .before .before .before .before .before .slot .ensures))) (c .before .before .before .before .restore-page .ensures)
+returns-2 c =
+    rw (← (c .before .before .before .before .before .before .before .source-of .ensures ∙ ap sourceOf (c .before .before .before .before .before .before .before .before .backing-at .ensures ∙ ap backingAt (c .before .before .before .before .before .before .before .before .before .before .slot .ensures))), ← (c .before .before .before .before .before .before .before .before .before .is-committed .ensures ∙ ap isCommitted (c .before .before .before .before .before .before .before .before .before .before .slot .ensures)))
+    (c .before .before .before .before .restore-page .ensures)
 
 pub rewind-page-spec : {M : Type 1} → statement M
 rewind-page-spec =
@@ -51,7 +52,6 @@ rewind-page-spec =
     returns
     slot-requires
     is-committed-requires
-    slot-requires-2
     backing-at-requires
     source-of-requires
     restore-page-requires

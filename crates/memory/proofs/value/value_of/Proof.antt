@@ -1,5 +1,6 @@
 use Rattle.table.specs.Store.{kept}
 use Rattle.areas.proofs.FormedLaws.{near}
+use Rattle.areas.proofs.WalkLaws.{settled}
 use Rattle.memory.proofs.ValueLaws.{map-value, read-value, snapshot-value, report-value, no-value}
 use borrow.Author.Needs.{needs}
 use Rattle.memory.proofs.value.value_of.Statement.{statement}
@@ -24,7 +25,7 @@ returns-2 : tie.Need-returns-2
 returns-2 c = λ h. read-value (c .before .before .before .before .before .before .before .args .image .now) (c .before .before .before .before .before .before .before .args .q) (c .before .before .before .before .before .before .before .args .b) (kept h (c .before .before .before .before .before .before .before .args .pool .now) (c .before .before .before .before .before .before .before .args .table .now)) (c .read .result) (c .before .if2 .taken) (c .read .ensures h)
 
 mapped-pages-requires : tie.Need-mapped-pages-requires
-mapped-pages-requires c κs = near (c .before .before .before .before .before .before .before .args .images) (c .before .before .before .before .before .before .before .args .b .present) ((c .before .before .before .before .before .before .before .pre .1 .1 .0) .present) ((c .before .before .before .before .before .before .before .pre .1 .1 .0) .few)
+mapped-pages-requires c κs = settled (c .before .before .before .before .before .before .before .args .images) (c .before .before .before .before .before .before .before .args .b .present) ((c .before .before .before .before .before .before .before .pre .1 .1 .0) .present) ((c .before .before .before .before .before .before .before .pre .1 .1 .0) .few)
 
 cast-result-3 : tie.Need-cast-result-3
 cast-result-3 c = search needs

@@ -1,4 +1,4 @@
-use Rattle.areas.proofs.FormedLaws.{near}
+use Rattle.areas.proofs.WalkLaws.{settled}
 use Rattle.rules.proofs.ShareLaws.{exceeds-open, exceeds-map, exceeds-snapshot, exceeds-not}
 use borrow.Author.Needs.{needs}
 use Rattle.rules.proofs.rows.exceeds.Statement.{statement}
@@ -17,7 +17,7 @@ cast-result-2 : tie.Need-cast-result-2
 cast-result-2 c = search needs
 
 charge-requires : tie.Need-charge-requires
-charge-requires c κs = (near (c .before .before .before .args .images) (c .before .before .before .args .b .present) (c .before .before .before .pre .0 .present) (c .before .before .before .pre .0 .few), near (c .before .before .before .args .images) (c .before .before .before .args .b .snapshot) (c .before .before .before .pre .0 .snapshot) (c .before .before .before .pre .0 .few))
+charge-requires c κs = (settled (c .before .before .before .args .images) (c .before .before .before .args .b .present) (c .before .before .before .pre .0 .present) (c .before .before .before .pre .0 .few), settled (c .before .before .before .args .images) (c .before .before .before .args .b .snapshot) (c .before .before .before .pre .0 .snapshot) (c .before .before .before .pre .0 .few))
 
 cast-result-3 : tie.Need-cast-result-3
 cast-result-3 c = search needs
@@ -35,7 +35,7 @@ cast-result-5 : tie.Need-cast-result-5
 cast-result-5 c = search needs
 
 mapped-pages-requires : tie.Need-mapped-pages-requires
-mapped-pages-requires c κs = near (c .before .before .before .before .before .args .images) (c .before .before .before .before .before .args .b .present) (c .before .before .before .before .before .pre .0 .present) (c .before .before .before .before .before .pre .0 .few)
+mapped-pages-requires c κs = settled (c .before .before .before .before .before .args .images) (c .before .before .before .before .before .args .b .present) (c .before .before .before .before .before .pre .0 .present) (c .before .before .before .before .before .pre .0 .few)
 
 cast-result-6 : tie.Need-cast-result-6
 cast-result-6 c = search needs

@@ -1,60 +1,51 @@
-use Prim.Native.Nat.{ℕ, _-_, _≤_}
-use mathlib.Core.Bool.{Bool}
-use mathlib.Core.Path.{_≡_, refl, sym, _∙_, ap}
+use Prim.Native.Nat.{_+_, _-_, _≤_}
+use mathlib.Core.Path.{_≡_}
 use native.Mathlib.Omega.{arith}
-use Rattle.basics.proofs.LoopLaws.{count-next}
-use Rattle.basics.proofs.CountLaws.{one-small, count-small}
-use Rattle.basics.specs.Ranges.{count}
-use Rattle.areas.specs.Areas.{slots, counts}
+use Rattle.areas.proofs.CountedLaws.{Counted, counted-start, counted-next, counted-small, counted-all}
 use Rattle.areas.proofs.area.Areas.pages.Statement.{statement}
 use Rattle.areas.proofs.area.Areas.pages.Tie as tie
 
 abbrev Inv-loop : tie.InvT-loop
-Inv-loop self committed n₀ i₀ n i = (i ≤ 64) × (n ≡ count (λ j. counts committed (slots self j)) i)
+Inv-loop committed self n₀ k₀ n k = (k ≤ 8) × Counted self committed k n
 
 abbrev μ-loop : tie.MeasureT-loop
-μ-loop self committed n₀ i₀ n i = 64 - i
+μ-loop committed self n₀ k₀ n k = 8 - k
 
-abbrev test : tie.Start Inv-loop μ-loop → ℕ → Bool
-test c j = counts (c .args .committed) (slots (c .args .self) j)
+-- what is counted with the next area
+next : (c : tie.After-counted Inv-loop μ-loop) → Counted (c .before .before .before .before .args .t1) (c .before .before .before .before .args .committed) (c .before .before .before .loop .k + 1) (c .before .before .before .loop .n + c .counted .result)
+next c =
+    let s = c .before .before .before .before in
+    rw (c .counted .ensures) (counted-next (s .args .t1) (s .pre) (s .args .committed) (c .before .before .before .loop .k) (c .before .before .before .loop .n) (c .before .before .before .loop .inv .1))
 
 loop-holds : tie.Need-loop-holds Inv-loop μ-loop
-unfolding count
-loop-holds c = (omega arith, refl)
+loop-holds c = (omega arith, counted-start (c .args .t1) (c .args .committed))
 
-slot-requires : tie.Need-slot-requires Inv-loop μ-loop
-slot-requires c κs = (c .before .before .pre, c .loop-test .taken)
+mul-area : tie.Need-mul-area Inv-loop μ-loop
+mul-area c = omega arith
 
-does-count-requires : tie.Need-does-count-requires Inv-loop μ-loop
-does-count-requires c κs = tt
+element-copy-out-area : tie.Need-element-copy-out-area Inv-loop μ-loop
+element-copy-out-area c = omega arith
 
-one-requires : tie.Need-one-requires Inv-loop μ-loop
-one-requires c κs = tt
+counted-requires : tie.Need-counted-requires Inv-loop μ-loop
+counted-requires c κs = tt
 
 add-n : tie.Need-add-n Inv-loop μ-loop
-add-n c =
-    omega (
-      arith,
-      count-small (test (c .before .before .before .before .before)) (c .before .before .before .before .loop .i),
-      one-small (c .before .does-count .result),
-      c .one .ensures,
-    )
+add-n c = record { fits = omega (arith, counted-small _ _ _ _ (next c)) }
 
-add-i : tie.Need-add-i Inv-loop μ-loop
-add-i c = omega arith
+add-k : tie.Need-add-k Inv-loop μ-loop
+add-k c = omega arith
 
 loop-less : tie.Need-loop-less Inv-loop μ-loop
 loop-less c = omega arith
 
 loop-again : tie.Need-loop-again Inv-loop μ-loop
-loop-again c = (
-  omega arith,
-  rw (c .one .ensures, c .before .does-count .ensures, c .before .before .slot .ensures, c .before .before .before .before .loop .inv .1)
-      (sym (count-next (test (c .before .before .before .before .before)) (c .before .before .before .before .loop .i))),
-)
+loop-again c = (omega arith, next c)
 
 returns : tie.Need-returns Inv-loop μ-loop
-returns c = c .before .loop .inv .1 ∙ ap (count (test (c .before .before))) (omega arith)
+returns c =
+    let s = c .before .before in
+    let e : c .before .loop .k ≡ 8 = omega (arith, c .loop-test .left, c .before .loop .inv .0) in
+    counted-all (s .args .t1) (s .pre) (s .args .committed) (c .before .loop .n) (rw e at (c .before .loop .inv .1))
 
 pub pages-spec : {M : Type 1} → statement M
 pages-spec =
@@ -63,11 +54,11 @@ pages-spec =
     Inv-loop
     μ-loop
     loop-holds
-    slot-requires
-    does-count-requires
-    one-requires
+    mul-area
+    element-copy-out-area
+    counted-requires
     add-n
-    add-i
+    add-k
     loop-less
     loop-again
     returns)

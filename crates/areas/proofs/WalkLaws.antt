@@ -1,0 +1,102 @@
+-- Laws of a walk along well formed areas: what stands at a page, where the walk goes next, and what is counted up to a place.
+use Prim.Native.Nat.{ℕ, zero, suc, _+_, _-_, _≤_, _<_}
+use mathlib.Core.Path.{_≡_, sym, _∙_}
+use mathlib.Core.Bool.{true, false, _&&_, false≢true}
+use native.Mathlib.Omega.{arith}
+use native.Mathlib.Decide.{decLt, ℕ-discrete}
+use lib.Dec.{leb, ltb}
+use lib.ListN.{getD}
+use borrow.Author.Tests.{ltb-true, leb-true, leb-false, lt-ltb}
+use Rattle.basics.proofs.TestLaws.{by-cases, when-cases, and-left, and-right}
+use Rattle.basics.proofs.RangeLaws.{inside-yes, inside-below, inside-past}
+use Rattle.interface.specs.declared.page.Slot.the-variants.{Unmapped}
+use Rattle.areas.specs.declared.area.Area.{Area}
+use Rattle.areas.specs.declared.area.Areas.{Areas}
+use Rattle.areas.specs.Areas.{none, covers, slots, Near}
+use Rattle.areas.specs.Formed.{WellFormed}
+use Rattle.areas.specs.Walk.{Formed, Reached, endOf, nextPlace, slotHere}
+use Rattle.areas.proofs.SlotLaws.{covers-none, slot-past, slot-hit}
+use Rattle.areas.proofs.FormedLaws.{near}
+
+-- what `near` is said of
+pub settled : (images : ℕ) (s : Areas) → WellFormed images s → images ≤ 64 → Formed s
+settled images s w g = record { images = images; few = g; formed = w }
+
+module _ (s : Areas) (F : Formed s) where
+  abbrev at : ℕ → Area
+  at k = getD (s .list) k none
+
+  pub near-formed : Near (s .list)
+  near-formed = near (F .images) s (F .formed) (F .few)
+
+  -- an area ends before each later one starts
+  in-order : (j d : ℕ) → j + suc d < s .count → endOf s j ≤ at (j + suc d) .first .0
+  in-order j zero l =
+      let e : j + 1 ≡ j + suc zero = omega arith in
+      rw e at (F .formed .apart j (omega arith) .after)
+  in-order j (suc d) l =
+      let e : j + suc d + 1 ≡ j + suc (suc d) = omega arith in
+      let b = F .formed .apart (j + suc d) (omega arith) .after in
+      omega (arith, in-order j d (omega arith), rw e at b)
+
+  pub order : (j k : ℕ) → j < k → k < s .count → endOf s j ≤ at k .first .0
+  order j k d l =
+      let e : j + suc (k - suc j) ≡ k = omega arith in
+      rw e at (in-order j (k - suc j) (omega arith))
+
+  -- no area covers a page that lies behind those before a place and before the others
+  pub between : (page place : ℕ) → ((j : ℕ) → j < place → endOf s j ≤ page) → ((j : ℕ) → place ≤ j → j < s .count → page < at j .first .0)
+      → slots s page ≡ Unmapped
+  between page place passed ahead = slot-past (s .list) page (λ k. go k (decLt k place) (decLt k (s .count)))
+    where
+      go : (k : ℕ) → Dec (k < place) → Dec (k < s .count) → covers (at k) page ≡ false
+      go k (yes d) e = inside-past _ _ page (passed k d)
+      go k (no d) (yes e) = inside-below _ _ page (ahead k (omega arith) e)
+      go k (no d) (no e) = rw (F .formed .rest k (omega arith)) (covers-none page)
+
+  -- the walk
+
+  -- its area says what stands at the page
+  pub walk-slot : (page place : ℕ) → Reached s page (page + 1) place → slots s page ≡ slotHere (at place) page
+  walk-slot page place r =
+      by-cases (covers (at place) page)
+      (λ c. slot-hit (s .list) page place c (λ j d. inside-past _ _ page (r .passed j d)) ∙ rw c)
+      (λ c. slot-past (s .list) page (λ j. go c j (decLt j place) (ℕ-discrete place j) (decLt j (s .count))) ∙ rw c)
+    where
+      go : covers (at place) page ≡ false → (j : ℕ) → Dec (j < place) → Dec (place ≡ j) → Dec (j < s .count) → covers (at j) page ≡ false
+      go c j (yes d) e l = inside-past _ _ page (r .passed j d)
+      go c j (no d) (yes e) l = rw e at c
+      go c j (no d) (no e) (no l) = rw (F .formed .rest j (omega arith)) (covers-none page)
+      go c j (no d) (no e) (yes l) = inside-below _ _ page (below (decLt page (at place .first .0)))
+        where
+          below : Dec (page < at place .first .0) → page < at j .first .0
+          below (yes b) = omega (arith, order place j (omega arith) l)
+          below (no b) = absurd (false≢true (sym c ∙ inside-yes _ _ page (omega arith) (omega (arith, r .ahead (omega arith)))))
+
+  -- the next place
+  walk-next : (page place : ℕ) → Reached s page page place → Reached s page (page + 1) (nextPlace s place page)
+  walk-next page place r =
+      when-cases (Reached s page (page + 1)) (ltb (place + 1) (s .count) && leb (endOf s place) page)
+      (λ e. goes (ltb-true _ _ (and-left _ _ e)) (leb-true _ _ (and-right (ltb (place + 1) (s .count)) _ e)))
+      (λ e. record { small = r .small; passed = r .passed; ahead = λ l. stays e l })
+    where
+      goes : place + 1 < s .count → endOf s place ≤ page → Reached s page (page + 1) (place + 1)
+      goes l h = record {
+        small = omega (arith, F .formed .few);
+        passed = λ j d. up j d (ℕ-discrete place j);
+        ahead = λ d. omega (arith, order place (place + 1) (omega arith) l, r .ahead l, F .formed .each (place + 1) l .some);
+      }
+        where
+          up : (j : ℕ) → j < place + 1 → Dec (place ≡ j) → endOf s j ≤ page
+          up j d (yes e) = rw e at h
+          up j d (no e) = r .passed j (omega arith)
+
+      stays : (ltb (place + 1) (s .count) && leb (endOf s place) page) ≡ false → place + 1 < s .count → page + 1 ≤ endOf s place
+      stays e l = omega (arith, leb-false (endOf s place) page (rw (lt-ltb (place + 1) (s .count) l) at e))
+
+  -- at the page after
+  pub walk-on : (page place : ℕ) → Reached s page (page + 1) place → Reached s (page + 1) (page + 1 + 1) (nextPlace s place (page + 1))
+  walk-on page place r = walk-next (page + 1) place (record { small = r .small; passed = λ j d. omega (arith, r .passed j d); ahead = r .ahead })
+
+  pub walk-start : Reached s 0 1 0
+  walk-start = record { small = omega arith; passed = λ j d. absurd (omega arith); ahead = λ l. omega (arith, F .formed .each 0 (omega arith) .some) }

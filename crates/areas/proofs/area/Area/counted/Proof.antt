@@ -1,0 +1,11 @@
+use Rattle.areas.proofs.area.Area.counted.Statement.{statement}
+use Rattle.areas.proofs.area.Area.counted.Tie as tie
+
+returns : tie.Need-returns
+returns c = rw (c .if1 .taken)
+
+returns-2 : tie.Need-returns-2
+returns-2 c = rw (c .if1 .left)
+
+pub counted-spec : {M : Type 1} → statement M
+counted-spec = tie.close (tie.spec returns returns-2)
