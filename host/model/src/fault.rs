@@ -56,11 +56,25 @@ pub enum Fault {
     TightestGap,
     /// A page mapped anew shows what its number held before an unmap or a rewind.
     StaleBytesInNewPage,
+    /// A read takes a frame for its page.
+    ReadTakesFrame,
+    /// A write refused for want of the right stores its byte all the same.
+    RefusedWriteStores,
+    /// A rewind rewinds every sandbox that has a snapshot.
+    RewindsEverySandbox,
+    /// Of refusals 13 and 14, where both apply, 14 is answered.
+    AnswersLaterRefusal,
+    /// A snapshot that would just fill the share is refused 13.
+    RefusesFittingSnapshot,
+    /// An open that would just share out the pool is refused 13.
+    RefusesLastOpen,
+    /// A second snapshot takes the place of the first.
+    SnapshotsAgain,
 }
 
 impl Fault {
     /// Every fault, without `None`.
-    pub const ALL: [Fault; 21] = [
+    pub const ALL: [Fault; 28] = [
         Fault::HandsOutRewoundPlace,
         Fault::SearchesPastRewoundPlace,
         Fault::DropsSnapshotFrame,
@@ -82,5 +96,12 @@ impl Fault {
         Fault::ImagePagesNeverRunOn,
         Fault::TightestGap,
         Fault::StaleBytesInNewPage,
+        Fault::ReadTakesFrame,
+        Fault::RefusedWriteStores,
+        Fault::RewindsEverySandbox,
+        Fault::AnswersLaterRefusal,
+        Fault::RefusesFittingSnapshot,
+        Fault::RefusesLastOpen,
+        Fault::SnapshotsAgain,
     ];
 }

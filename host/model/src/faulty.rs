@@ -32,6 +32,11 @@ impl Faulty {
         Faulty { machine, fault, memory: [Memory::default(); SANDBOXES] }
     }
 
+    /// What the wrong machine keeps.
+    pub fn machine(&self) -> &Machine {
+        &self.machine
+    }
+
     /// Where a faulty map at 64 puts its pages; `None` for the right place.
     fn wrong_place(&self, call: &Call) -> Option<usize> {
         let sandbox = self.machine.sandboxes.get(usize::from(call.sandbox))?;
@@ -79,6 +84,20 @@ impl Faulty {
                 self.machine.sandboxes[usize::from(call.sandbox)].copy = true_copy;
                 return reply;
             }
+            (Fault::RefusedWriteStores, 6) if number == Refusal::NoWriteRight as u16 => {
+                sandbox.write(usize::from(p1) / PAGE_BYTES, usize::from(p1) % PAGE_BYTES, p2 as u8);
+                return (number, 0);
+            }
+            (Fault::AnswersLaterRefusal, 2) if too_few_frames => {
+                // Ask as if frames were plenty: then 14 is answered if it applies.
+                let mut plenty = self.machine.clone();
+                (plenty.frames, plenty.sandboxes[usize::from(call.sandbox)].share) = (9_999, 999);
+                let (later, _) = plenty.answer(call);
+                return (number.max(later), 0);
+            }
+            (Fault::SnapshotsAgain, 7) if number == Refusal::SnapshotTaken as u16 => {
+                return (0, sandbox.snapshot() as u32);
+            }
             _ => return (number, 0),
         }
         (0, 0)
@@ -89,11 +108,18 @@ impl Faulty {
     fn spoil_accepted(&mut self, call: &Call, before: Box<Sandbox>, value: u32) -> Reply {
         let number = usize::from(call.sandbox);
         let memory = &mut self.memory[number];
+        let all_shared_out = self.machine.shares() == self.machine.frames;
         let Machine { image, sandboxes, .. } = &mut self.machine;
         let sandbox = &mut sandboxes[number];
         match (self.fault, call.code) {
             (Fault::RefusesAll, _) => return refuse(sandbox, before, Refusal::TooFewFrames),
             (Fault::RefusesThirteenEarly, 2) if sandbox.charge() == sandbox.share => {
+                return refuse(sandbox, before, Refusal::TooFewFrames);
+            }
+            (Fault::RefusesFittingSnapshot, 7) if sandbox.charge() == sandbox.share => {
+                return refuse(sandbox, before, Refusal::TooFewFrames);
+            }
+            (Fault::RefusesLastOpen, 1) if all_shared_out => {
                 return refuse(sandbox, before, Refusal::TooFewFrames);
             }
             (Fault::ImagePagesNeverRunOn, 2) if areas_with_split_image(sandbox) > AREAS => {
@@ -105,12 +131,24 @@ impl Faulty {
             }
             (Fault::StaleBytesInNewPage, 2) => {
                 for (page, was) in newly_mapped(sandbox, &before) {
-                    page.bytes = was.bytes;
+                    if was.bytes != [0; PAGE_BYTES] {
+                        page.bytes = was.bytes;
+                    }
                 }
             }
             (Fault::UnmapFreesBack, 3) => {
                 for page in sandbox.pages.iter_mut().filter(|page| !page.mapped) {
                     page.back = false;
+                }
+            }
+            (Fault::ReadTakesFrame, 5) => {
+                sandbox.pages[usize::from(call.parameters[0]) / PAGE_BYTES].front = true;
+            }
+            (Fault::RewindsEverySandbox, 8) => {
+                for sandbox in sandboxes {
+                    if let Some(copy) = sandbox.copy.clone() {
+                        sandbox.rewind(&copy);
+                    }
                 }
             }
             (Fault::ZeroUnderWrittenImagePage, 6) => {

@@ -48,7 +48,7 @@ pub trait Answering {
 pub struct Machine {
     /// `None` where a lent length is wrong: then every call is refused 3.
     pub(crate) image: Option<Vec<[u8; PAGE_BYTES]>>,
-    frames: usize,
+    pub(crate) frames: usize,
     pub(crate) sandboxes: [Box<Sandbox>; SANDBOXES],
 }
 
@@ -84,6 +84,11 @@ impl Machine {
 
     pub fn frames(&self) -> usize {
         self.frames
+    }
+
+    /// Whether every lent length is right, so that a start clears pool and table.
+    pub fn lengths_are_right(&self) -> bool {
+        self.image.is_some()
     }
 
     /// The image, empty where its length is wrong.

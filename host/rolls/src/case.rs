@@ -30,23 +30,31 @@ impl Case {
     pub fn random(seed: u64) -> Case {
         let mut prng = Prng::new(seed);
         let frames = random_frames(&mut prng);
-        Case::with_frames(prng, frames)
+        Case::with_frames(prng, frames, None)
+    }
+
+    /// The case of a seed, with 1 to 128 frames and this many lines.
+    pub fn of_lines(seed: u64, lines: usize) -> Case {
+        let mut prng = Prng::new(seed);
+        let frames = random_frames(&mut prng);
+        Case::with_frames(prng, frames, Some(lines))
     }
 
     /// The case of a seed for the player.
     pub fn for_player(seed: u64) -> Case {
-        Case::with_frames(Prng::new(seed), PLAYER_FRAMES)
+        Case::with_frames(Prng::new(seed), PLAYER_FRAMES, None)
     }
 
-    fn with_frames(mut prng: Prng, frames: usize) -> Case {
+    fn with_frames(mut prng: Prng, frames: usize, lines: Option<usize>) -> Case {
         let image = random_image(&mut prng);
         let mut machine = Machine::fresh(&image, frames);
-        let (fewest, most) = match machine.image().len() * PAGE_BYTES == image.len() {
+        let (fewest, most) = match machine.lengths_are_right() {
             true => prng.weighted(&[(1, (0, 12)), (6, (30, 150)), (1, (150, 400))]),
             // Of a wrong length: every line is refused.
             false => (0, 80),
         };
-        let lines = prng.within(fewest..=most);
+        let drawn = prng.within(fewest..=most);
+        let lines = lines.unwrap_or(drawn);
         let cut = if prng.chance(15) { prng.within(1..=42) } else { 0 };
         let mut steering = Steering::new(prng);
         let mut roll = Vec::new();

@@ -17,7 +17,7 @@ mod spoil;
 mod steering;
 
 pub use case::{Case, PLAYER_FRAMES};
-pub use pair::{List, Pair};
+pub use pair::{without_report_values, List, Pair};
 pub use prng::Prng;
 pub use shrink::shrink;
 pub use spoil::{boundary_call, malformed_line, wild_call};

@@ -7,7 +7,7 @@ use crate::case::{random_frames, random_whole_image};
 use crate::prng::Prng;
 use crate::spoil::{boundary_call, wild_call};
 use crate::steering::Steering;
-use model::{Answering, Call, Machine, Reply, SANDBOXES};
+use model::{Answering, Call, Machine, Reply, Sandbox, SANDBOXES};
 
 /// One of the two lists, with the places of the snapshot and of the rewind in it.
 #[derive(Clone, Debug)]
@@ -108,16 +108,41 @@ impl Pair {
         Pair { sandbox: sandbox as u16, image, frames, lists }
     }
 
+    /// What the plain machine keeps for the sandbox just before the rewind of a list:
+    /// where the two differ, the rewind has something to hide.
+    pub fn before_rewind(&self, which: usize) -> Sandbox {
+        let list = &self.lists[which];
+        let mut machine = Machine::fresh(&self.image, self.frames);
+        for call in &list.calls[..list.rewind] {
+            machine.answer(call);
+        }
+        machine.sandbox(usize::from(self.sandbox)).clone()
+    }
+
     /// A machine's answers to the calls of a list that are compared; `None` where it
     /// refuses the snapshot or the rewind, so that nothing is claimed.
     pub fn compared(&self, list: &List, machine: &mut dyn Answering) -> Option<Vec<(Call, Reply)>> {
         let replies: Vec<Reply> = list.calls.iter().map(|call| machine.answer(call)).collect();
+        self.compared_of(list, &replies)
+    }
+
+    /// The same of answers already given, one for each call of the list.
+    pub fn compared_of(&self, list: &List, replies: &[Reply]) -> Option<Vec<(Call, Reply)>> {
         if replies[list.snapshot].0 != 0 || replies[list.rewind].0 != 0 {
             return None;
         }
-        let after = list.calls.iter().copied().zip(replies).skip(list.rewind + 1);
+        let after = list.calls.iter().copied().zip(replies.iter().copied()).skip(list.rewind + 1);
         Some(after.filter(|(call, _)| call.sandbox == self.sandbox).collect())
     }
+}
+
+/// "apart from the value of an accepted report": that value is struck out.
+pub fn without_report_values(answers: &[(Call, Reply)]) -> Vec<(Call, Reply)> {
+    let strike = |&(call, (number, value)): &(Call, Reply)| match (call.code, number) {
+        (9, 0) => (call, (0, 0)),
+        _ => (call, (number, value)),
+    };
+    answers.iter().map(strike).collect()
 }
 
 fn sometimes_spoilt(prng: &mut Prng, call: Call) -> Call {

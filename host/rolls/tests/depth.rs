@@ -194,6 +194,11 @@ fn rolls_for_the_player_do_so_too() {
 }
 
 #[test]
+fn rolls_of_200_lines_do_so_too() {
+    assert_deep(&measured(|seed| Case::of_lines(seed, 200), 1_000), 20);
+}
+
+#[test]
 fn a_seed_gives_the_same_case_again() {
     for seed in 0..50 {
         assert_eq!(Case::random(seed), Case::random(seed));

@@ -2,25 +2,17 @@
 //! what happened between its snapshot and the rewind. "Each of these calls has the
 //! same number and value in both, apart from the value of an accepted report."
 
-use model::{Answering, Call, Fault, Faulty, Machine, Reply};
-use rolls::Pair;
+use model::{Answering, Call, Fault, Faulty, Machine};
+use rolls::{without_report_values, Pair};
 
 const PAIRS: u64 = 2_000;
-
-fn without_report_value(answers: &[(Call, Reply)]) -> Vec<(Call, Reply)> {
-    let strike = |&(call, (number, value)): &(Call, Reply)| match (call.code, number) {
-        (9, 0) => (call, (0, 0)),
-        _ => (call, (number, value)),
-    };
-    answers.iter().map(strike).collect()
-}
 
 /// Whether a machine built with a fault answers alike in both lists; `None` where
 /// nothing is claimed.
 fn alike(pair: &Pair, fault: Fault) -> Option<bool> {
     let answers = pair.lists.each_ref().map(|list| {
         let mut machine = Faulty::fresh(&pair.image, pair.frames, fault);
-        pair.compared(list, &mut machine).map(|answers| without_report_value(&answers))
+        pair.compared(list, &mut machine).map(|answers| without_report_values(&answers))
     });
     let [first, second] = answers;
     Some(first? == second?)
@@ -57,27 +49,17 @@ fn answers_after_a_rewind_do_not_tell_what_was_before_it() {
             let mut machine = Machine::fresh(&pair.image, pair.frames);
             pair.compared(list, &mut machine).expect("snapshot and rewind are accepted")
         });
-        assert_eq!(without_report_value(&first), without_report_value(&second), "seed {seed}");
+        assert_eq!(without_report_values(&first), without_report_values(&second), "seed {seed}");
         compared += first.len();
         accepted += first.iter().filter(|(_, (number, _))| *number == 0).count();
         reports_differ += usize::from(first != second);
-        secrets += usize::from(secret(&pair, 0) != secret(&pair, 1));
+        secrets += usize::from(pair.before_rewind(0) != pair.before_rewind(1));
     }
     println!("{compared} calls compared, {accepted} of them accepted");
     println!("{secrets} pairs differ before the rewind, {reports_differ} in a report after it");
     assert!(2 * accepted > compared, "too few accepted calls");
     assert!(secrets as u64 > PAIRS / 2, "too few secrets");
     assert!(reports_differ > 20, "the exception for reports is hardly met");
-}
-
-/// What the plain machine keeps for the sandbox just before the rewind.
-fn secret(pair: &Pair, which: usize) -> model::Sandbox {
-    let list = &pair.lists[which];
-    let mut machine = Machine::fresh(&pair.image, pair.frames);
-    for call in &list.calls[..list.rewind] {
-        machine.answer(call);
-    }
-    machine.sandbox(usize::from(pair.sandbox)).clone()
 }
 
 /// Machines that let something through a rewind.

@@ -1,0 +1,42 @@
+//! The proved machine measured beside unproved ones.
+//!
+//! - `unproved`: the same design in ordinary Rust; `same_steps`: the same again, with the
+//!   proved machine's steps where it looks up a page; `copying`: whole copies;
+//! - `roll` and `states`: the calls that are measured, and the states before them;
+//! - `work` and `meter`: what is measured, and instructions and times of it;
+//! - `calls`, `mixed`, `rewind`, `snapshot`, `frames`, `rounds`: the tables;
+//! - `reach`: what is reached and what is not;
+//! - `table`, `svg` and `document`: how they are written.
+
+pub mod calls;
+pub mod copying;
+pub mod document;
+mod frames;
+pub mod meter;
+mod mixed;
+pub mod reach;
+pub mod rewind;
+mod roll;
+mod rounds;
+// Two machines from one set of files; see there.
+#[allow(clippy::duplicate_mod)]
+pub mod same_steps;
+mod snapshot;
+mod states;
+mod svg;
+pub mod table;
+pub mod unproved;
+mod work;
+
+use table::Table;
+
+/// The tables of docs/BENCHMARK.md.
+pub const TABLES: [Table; 7] = [
+    calls::TABLE,
+    mixed::TABLE,
+    rewind::TABLE,
+    snapshot::TABLE,
+    frames::TABLE,
+    rounds::TABLE,
+    rounds::ADVERSE,
+];

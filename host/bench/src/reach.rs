@@ -1,0 +1,88 @@
+//! What is reached and what is not, judged by what was measured.
+
+use crate::calls::{dearest, Dearest};
+use crate::rewind::{extra, Extra, DIRTY};
+use crate::table::{markdown, Costs};
+
+/// A call of the proved machine, beside the same call of another.
+const MOST_RATIO: f64 = 1.5;
+/// A rewind's extra over a report, beside a bare copy of the dirty pages.
+const MOST_COPIES: f64 = 2.0;
+/// The dirty pages at which a rewind should take under a quarter of the copying machine's.
+const FEW: u16 = 7;
+
+/// What was measured, and whether that reaches the aim.
+type Judgement = (String, bool);
+type Judge = fn(&Extra) -> Judgement;
+
+/// The part of the report that says so.
+pub fn written(calls: &Costs, rewind: &Costs) -> String {
+    let mut rows = Vec::new();
+    for (other, name) in [(1, "the unproved machine"), (2, "the one with the same steps")] {
+        let (counted, timed) = dearest(calls, other);
+        rows.push(row(
+            format!("(a) dearest accepted call, at most 1.5 × {name}"),
+            judged_call(&counted),
+            timed.as_ref().map(judged_call),
+        ));
+    }
+    let (counted, timed) = extra(rewind);
+    let criteria: [(&str, Judge); 5] = [
+        ("(b) a rewind's own work grows with the dirty pages", grows),
+        ("(b) rewind − report, at most 2 × the bare copy, for all of 1 to 64 pages", within_copies),
+        ("(b) each further page, at most 2 × the bare copy's", slope_within_copies),
+        ("(b) rewind − report at 7 pages, under ¼ of the copying machine", few_over_report),
+        ("(b) a rewind's own work at 7 pages, under ¼ of the copying machine", few_own_work),
+    ];
+    for (name, judge) in criteria {
+        rows.push(row(name.to_string(), judge(&counted), timed.as_ref().map(judge)));
+    }
+    markdown(&["aim", "instructions", "reached", "time", "reached"], &rows)
+}
+
+fn row(name: String, counted: Judgement, timed: Option<Judgement>) -> Vec<String> {
+    let word = |reached: bool| if reached { "yes" } else { "**no**" }.to_string();
+    let (time, time_reached) = match timed {
+        Some((text, reached)) => (text, word(reached)),
+        None => ("–".to_string(), "–".to_string()),
+    };
+    vec![name, counted.0, word(counted.1), time, time_reached]
+}
+
+fn judged_call(dearest: &Dearest) -> Judgement {
+    (format!("{:.2} ({})", dearest.ratio, dearest.name), dearest.ratio <= MOST_RATIO)
+}
+
+fn grows(extra: &Extra) -> Judgement {
+    let own: Vec<f64> = extra.rows.iter().map(|row| row.1).collect();
+    let (first, last) = (own[0], own[own.len() - 1]);
+    (format!("{first:.0} to {last:.0}"), own.windows(2).all(|pair| pair[0] < pair[1]))
+}
+
+fn within_copies(extra: &Extra) -> Judgement {
+    let ratios = extra.rows.iter().zip(DIRTY).skip(1).map(|(row, dirty)| (row.0 / row.2, dirty));
+    let most = ratios.max_by(|a, b| a.0.total_cmp(&b.0));
+    let (ratio, dirty) = most.expect("there are rows");
+    (format!("{ratio:.2} × at {dirty} pages"), ratio <= MOST_COPIES)
+}
+
+fn slope_within_copies(extra: &Extra) -> Judgement {
+    let (first, last) = (extra.rows[0], extra.rows[DIRTY.len() - 1]);
+    let pages = f64::from(DIRTY[DIRTY.len() - 1] - DIRTY[0]);
+    let (page, copied) = ((last.1 - first.1) / pages, (last.2 - first.2) / pages);
+    (format!("{page:.0} beside {copied:.0}, {:.2} ×", page / copied), page <= MOST_COPIES * copied)
+}
+
+fn few_over_report(extra: &Extra) -> Judgement {
+    few(extra, |row| row.0)
+}
+
+fn few_own_work(extra: &Extra) -> Judgement {
+    few(extra, |row| row.1)
+}
+
+fn few(extra: &Extra, cost: fn(&(f64, f64, f64)) -> f64) -> Judgement {
+    let index = DIRTY.iter().position(|&dirty| dirty == FEW).expect("it is measured");
+    let (cost, copying) = (cost(&extra.rows[index]), extra.copying);
+    (format!("{cost:.0} of {copying:.0}"), cost < copying / 4.0)
+}

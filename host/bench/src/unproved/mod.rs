@@ -1,0 +1,27 @@
+//! The machine of the Rattle crates, written in ordinary Rust without a proof: the
+//! same state, the same work at each call, the same test of soundness before each.
+//!
+//! - `page`: numbers, backings and attributes of pages;
+//! - `areas`, `lookup` and `pack`: a sandbox's mapped pages as at most 8 runs;
+//! - `held`: the marks of the held frames;
+//! - `memory`: the lent pool, page table and image;
+//! - `request`: a call, its limits and its refusals;
+//! - `sandbox` and `soundness`: what is kept, and the test of it;
+//! - `rules` and `machine`: what is refused, and what an accepted call does;
+//! - `text` and `roll`: the lines, and the player.
+
+mod areas;
+mod held;
+mod lookup;
+mod machine;
+mod memory;
+mod pack;
+mod page;
+mod request;
+mod roll;
+mod rules;
+mod sandbox;
+mod soundness;
+mod text;
+
+pub use roll::{play, play_dropping};

@@ -1,0 +1,147 @@
+//! What is measured: a roll played by one of the machines, or one step of the copying
+//! machine, or a bare copy.
+
+use crate::copying::Copying;
+use crate::{same_steps, unproved};
+use model::PAGE_BYTES;
+use std::hint::black_box;
+
+const FRAMES: usize = 128;
+
+/// Which machine plays a roll.
+#[derive(Clone, Copy, PartialEq, Eq, Debug)]
+pub enum Player {
+    Proved,
+    Unproved,
+    /// The unproved machine with the proved one's steps where it looks up a page.
+    SameSteps,
+    /// The unproved machine with a rewind that frees every front.
+    Dropping,
+}
+
+/// A piece of work. Each can be done again and again, and is the same each time.
+#[derive(Clone, Debug)]
+pub enum Work {
+    Play {
+        player: Player,
+        roll: Vec<u8>,
+        image: Vec<u8>,
+    },
+    /// The copying machine's snapshot: all 64 pages and their mappings.
+    CopyingSnapshot,
+    /// The copying machine's rewind: all 64 pages and their mappings.
+    CopyingRewind,
+    /// So many pages copied, one after the other.
+    BareCopy {
+        pages: usize,
+    },
+}
+
+/// What a played roll leaves.
+pub struct Played {
+    pub table: Vec<u16>,
+    pub out: Vec<u8>,
+}
+
+impl Work {
+    pub fn play(player: Player, roll: Vec<u8>) -> Work {
+        Work::Play { player, roll, image: crate::roll::image() }
+    }
+
+    /// The work, ready to be done: nothing is allocated or prepared within it.
+    pub fn prepared(&self) -> Box<dyn FnMut() + '_> {
+        match self {
+            Work::Play { player, roll, image } => {
+                let (mut pool, mut table, mut out) = lent(roll);
+                Box::new(move || {
+                    let lines = player.play(roll, image, &mut pool, &mut table, &mut out);
+                    black_box(lines);
+                })
+            }
+            Work::CopyingSnapshot => {
+                let mut machine = Copying::new();
+                Box::new(move || black_box(&mut machine).snapshot())
+            }
+            Work::CopyingRewind => {
+                let mut machine = Copying::new();
+                machine.snapshot();
+                Box::new(move || black_box(&mut machine).rewind())
+            }
+            Work::BareCopy { pages } => {
+                let from = vec![1u8; pages * PAGE_BYTES];
+                let mut to = vec![2u8; pages * PAGE_BYTES];
+                Box::new(move || copy_pages(black_box(&from), black_box(&mut to)))
+            }
+        }
+    }
+}
+
+fn copy_pages(from: &[u8], to: &mut [u8]) {
+    for (to, from) in to.chunks_exact_mut(PAGE_BYTES).zip(from.chunks_exact(PAGE_BYTES)) {
+        to.copy_from_slice(from);
+    }
+}
+
+/// A pool, a table and room for the replies of a roll.
+fn lent(roll: &[u8]) -> (Vec<u8>, Vec<u16>, Vec<u8>) {
+    let lines = roll.len().div_ceil(model::LINE_BYTES);
+    (vec![0; FRAMES * PAGE_BYTES], vec![0; 512], vec![0; 19 * lines])
+}
+
+impl Player {
+    pub fn play(
+        self,
+        roll: &[u8],
+        image: &[u8],
+        pool: &mut [u8],
+        table: &mut [u16],
+        out: &mut [u8],
+    ) -> usize {
+        match self {
+            Player::Proved => gazhuppin::play(roll, image, pool, table, out).unwrap_or(0),
+            Player::Unproved => unproved::play(roll, image, pool, table, out),
+            Player::SameSteps => same_steps::play(roll, image, pool, table, out),
+            Player::Dropping => unproved::play_dropping(roll, image, pool, table, out),
+        }
+    }
+
+    /// Plays a roll over the common image, for what it leaves.
+    pub fn played(self, roll: &[u8]) -> Played {
+        let (mut pool, mut table, mut out) = lent(roll);
+        let lines = self.play(roll, &crate::roll::image(), &mut pool, &mut table, &mut out);
+        assert_eq!(lines, roll.len() / model::LINE_BYTES);
+        Played { table, out }
+    }
+}
+
+impl Played {
+    /// Asserts that the last `lines` were answered with this number, and all before them
+    /// accepted.
+    pub fn expect_last(&self, lines: usize, number: u32) {
+        let last = self.out.len() / 19 - lines;
+        for line in 0..self.out.len() / 19 {
+            let expected = if line < last { 0 } else { number };
+            assert_eq!(self.reply(line).0, expected, "line {line} of a measured roll");
+        }
+    }
+
+    /// How many fronts sandbox 0 has.
+    pub fn fronts(&self) -> usize {
+        self.table[..64].iter().filter(|&&entry| entry != 0).count()
+    }
+
+    /// How many frames sandbox 0 holds.
+    pub fn held(&self) -> usize {
+        self.table[..128].iter().filter(|&&entry| entry != 0).count()
+    }
+
+    /// The number and value of a line's reply, from 0 on.
+    pub fn reply(&self, line: usize) -> (u32, u32) {
+        let field = |at: usize| {
+            let columns = &self.out[19 * line + at..19 * line + at + 6];
+            let text = std::str::from_utf8(columns).expect("replies are text");
+            text.trim().parse().expect("a reply has numbers")
+        };
+        (field(6), field(12))
+    }
+}

@@ -1,0 +1,101 @@
+//! Which calls were accepted and which refusals were met.
+
+use gazhuppin::REPLY_BYTES;
+use model::{parse_line, LINE_BYTES};
+use rolls::Case;
+use std::collections::BTreeSet;
+use std::fmt;
+
+const NAMES: [&str; 11] = [
+    "malformed",
+    "unknown",
+    "1 open",
+    "2 map",
+    "3 unmap",
+    "4 protect",
+    "5 read",
+    "6 write",
+    "7 snapshot",
+    "8 rewind",
+    "9 report",
+];
+const MALFORMED: usize = 0;
+const UNKNOWN: usize = 1;
+/// Number 0, accepted, and refusals 1 to 14.
+const NUMBERS: usize = 15;
+
+#[derive(Clone, Default, Debug)]
+pub struct Coverage {
+    pub rolls: u64,
+    pub lines: u64,
+    answers: [[u64; NUMBERS]; NAMES.len()],
+    /// Frames of the pools, and bytes of the images.
+    pub pools: BTreeSet<usize>,
+    pub images: BTreeSet<usize>,
+}
+
+impl Coverage {
+    /// Count the replies to a case's roll.
+    pub fn add(&mut self, case: &Case, replies: &[u8]) {
+        self.rolls += 1;
+        self.pools.insert(case.frames);
+        self.images.insert(case.image.len());
+        for (line, reply) in case.roll.chunks(LINE_BYTES).zip(replies.chunks(REPLY_BYTES)) {
+            let row = match parse_line(line) {
+                None => MALFORMED,
+                Some(call) if !(1..=9).contains(&call.code) => UNKNOWN,
+                Some(call) => UNKNOWN + usize::from(call.code),
+            };
+            self.lines += 1;
+            self.answers[row][usize::from(number(reply))] += 1;
+        }
+    }
+
+    pub fn join(&mut self, other: &Coverage) {
+        self.rolls += other.rolls;
+        self.lines += other.lines;
+        self.pools.extend(&other.pools);
+        self.images.extend(&other.images);
+        for (row, others) in self.answers.iter_mut().zip(&other.answers) {
+            row.iter_mut().zip(others).for_each(|(count, more)| *count += more);
+        }
+    }
+
+    /// How often a call of this code was answered with this number.
+    pub fn answered(&self, code: u16, number: u16) -> u64 {
+        self.answers[UNKNOWN + usize::from(code)][usize::from(number)]
+    }
+
+    /// How often the number was answered to any line.
+    pub fn of_number(&self, number: u16) -> u64 {
+        self.answers.iter().map(|row| row[usize::from(number)]).sum()
+    }
+}
+
+/// The refusal number of a printed reply, 0 where the call was accepted.
+pub fn number(reply: &[u8]) -> u16 {
+    field(&reply[6..12]) as u16
+}
+
+/// The value of a printed reply.
+pub fn value(reply: &[u8]) -> u32 {
+    field(&reply[12..18])
+}
+
+fn field(columns: &[u8]) -> u32 {
+    let text = std::str::from_utf8(columns).expect("a reply is text");
+    text.trim_start().parse().expect("a reply has three numbers")
+}
+
+impl fmt::Display for Coverage {
+    fn fmt(&self, to: &mut fmt::Formatter) -> fmt::Result {
+        write!(to, "{:<10} {:>9}", "call", "accepted")?;
+        (1..NUMBERS).try_for_each(|number| write!(to, " {number:>7}"))?;
+        for (name, row) in NAMES.iter().zip(&self.answers) {
+            write!(to, "\n{name:<10} {:>9}", row[0])?;
+            row[1..].iter().try_for_each(|count| write!(to, " {count:>7}"))?;
+        }
+        write!(to, "\n{:<10} {:>9}", "all", self.of_number(0))?;
+        (1..NUMBERS).try_for_each(|number| write!(to, " {:>7}", self.of_number(number as u16)))
+    }
+}

@@ -1,0 +1,94 @@
+//! What can differ between a program and the plain machine.
+
+use std::fmt;
+
+/// "64 front entries, then 64 back entries".
+#[derive(Clone, Copy, PartialEq, Eq, Debug)]
+pub enum Side {
+    Front,
+    Back,
+}
+
+/// An entry of the page table.
+#[derive(Clone, Copy, PartialEq, Eq, Debug)]
+pub struct Place {
+    pub sandbox: usize,
+    pub page: usize,
+    pub side: Side,
+}
+
+#[derive(Clone, PartialEq, Eq, Debug)]
+pub enum Difference {
+    /// Not as many replies as lines, or not whole ones.
+    ReplyBytes { program: usize, model: usize },
+    /// The first line, counted from 1, that is answered otherwise.
+    Reply { line: usize, program: String, model: String },
+    /// A byte of the pool changed though a lent length is wrong.
+    PoolTouched { at: usize },
+    /// An entry of the table changed though a lent length is wrong.
+    TableTouched { at: usize },
+    /// A sandbox has more or fewer entries than the plain machine has marks.
+    Held { sandbox: usize, program: usize, model: usize },
+    /// An entry where the plain machine has no mark, or none where it has one.
+    Entry { place: Place, entry: u16 },
+    /// An entry that names no frame of the pool.
+    OutsidePool { place: Place, entry: u16, frames: usize },
+    /// An entry that names a frame which an earlier entry names.
+    NamedTwice { place: Place, frame: usize },
+    /// A frame that does not hold its page's bytes.
+    Bytes { place: Place, offset: usize, program: u8, model: u8 },
+    /// A frame that no entry names and that is not zero.
+    NotCleared { frame: usize, offset: usize, byte: u8 },
+}
+
+impl fmt::Display for Place {
+    fn fmt(&self, formatter: &mut fmt::Formatter) -> fmt::Result {
+        let side = match self.side {
+            Side::Front => "front",
+            Side::Back => "back",
+        };
+        write!(formatter, "the {side} of page {} of sandbox {}", self.page, self.sandbox)
+    }
+}
+
+impl fmt::Display for Difference {
+    fn fmt(&self, to: &mut fmt::Formatter) -> fmt::Result {
+        match self {
+            Difference::ReplyBytes { program, model } => {
+                write!(to, "the program wrote {program} bytes of replies, the model {model}")
+            }
+            Difference::Reply { line, program, model } => {
+                write!(to, "line {line}: the program answers {program}, the model {model}")
+            }
+            Difference::PoolTouched { at } => {
+                write!(to, "byte {at} of the pool was changed though a lent length is wrong")
+            }
+            Difference::TableTouched { at } => {
+                write!(to, "entry {at} of the table was changed though a lent length is wrong")
+            }
+            Difference::Held { sandbox, program, model } => {
+                write!(to, "sandbox {sandbox} has {program} entries, the model {model} marks")
+            }
+            Difference::Entry { place, entry: 0 } => {
+                write!(to, "{place} has no entry, but the model marks it")
+            }
+            Difference::Entry { place, entry } => {
+                write!(to, "{place} has the entry {entry}, but the model does not mark it")
+            }
+            Difference::OutsidePool { place, entry, frames } => {
+                write!(to, "{place} has the entry {entry}, but the pool has {frames} frames")
+            }
+            Difference::NamedTwice { place, frame } => {
+                write!(to, "{place} names frame {frame}, which another entry names too")
+            }
+            Difference::Bytes { place, offset, program, model } => {
+                write!(to, "{place} holds {program} at offset {offset}, the model {model}")
+            }
+            Difference::NotCleared { frame, offset, byte } => {
+                write!(to, "frame {frame}, which no entry names, holds {byte} at offset {offset}")
+            }
+        }
+    }
+}
+
+impl std::error::Error for Difference {}

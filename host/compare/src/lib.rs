@@ -1,0 +1,45 @@
+//! The proved machine against the plain machine: every reply of a roll, and pool and
+//! table after it.
+//!
+//! - `difference`: what can differ, in words;
+//! - `check`: replies and memory of a program against the plain machine;
+//! - `played`: a case played by the proved machine, in memory that was not clean;
+//! - `run`: many random rolls over all cores, and a failing one shrunk;
+//! - `coverage`: which calls were accepted and which refusals were met;
+//! - `pairs`: the two lists of demand 3, played by the proved machine;
+//! - `with_frames`: the plain machine with frames, and faults that only memory shows;
+//! - `mutants`: wrong machines, and the roll that tells each of them.
+
+mod check;
+mod coverage;
+mod difference;
+mod mutants;
+mod pairs;
+mod played;
+mod run;
+mod with_frames;
+
+pub use check::{check, Expected};
+pub use coverage::Coverage;
+pub use difference::{Difference, Place, Side};
+pub use mutants::{table, tell, Mutant, Told};
+pub use pairs::{compare_pair, PairSeen};
+pub use played::{play, Lengths};
+pub use run::{run, Failure};
+pub use with_frames::{MemoryFault, WithFrames};
+
+use gazhuppin::Played;
+use rolls::Case;
+
+/// Play a case on the proved machine and on the plain one, and compare them.
+pub fn compare(case: &Case) -> Result<(), Difference> {
+    compare_with(case, Lengths::of(case)).map(|_| ())
+}
+
+/// The same with lent memory of these lengths, right or wrong. Gives what the proved
+/// machine left.
+pub fn compare_with(case: &Case, lengths: Lengths) -> Result<Played, Difference> {
+    let played = play(case, lengths);
+    check(&played, &Expected::of(case, lengths))?;
+    Ok(played)
+}

@@ -1,0 +1,157 @@
+//! The plain machine with frames: a pool and a table kept after its marks. Without a
+//! fault it leaves what the checks ask for; with one, something that no reply need
+//! show and the checks of memory must.
+
+use crate::difference::{Place, Side};
+use crate::played::{filled_pool, filled_table, Lengths};
+use gazhuppin::Played;
+use model::{parse_line, reply_line, Answering, Call, Machine, Page, Sandbox};
+use model::{LINES, LINE_BYTES, PAGES, PAGE_BYTES, SANDBOXES};
+use rolls::Case;
+
+#[derive(Clone, Copy, PartialEq, Eq, Debug)]
+pub enum MemoryFault {
+    None,
+    /// A start does not clear the pool.
+    StartLeavesPool,
+    /// A start does not clear the last entry of the table.
+    StartLeavesLastEntry,
+    /// A start clears pool and table though a lent length is wrong.
+    WrongLengthClears,
+    /// An unmap frees a front but does not clear its frame.
+    UnmapLeavesBytes,
+    /// A rewind frees a front but does not clear its frame.
+    RewindLeavesBytes,
+    /// An unmap clears a front's frame but leaves the entry.
+    UnmapLeavesEntry,
+    /// A snapshot enters the front's frame as back, but leaves it as front as well.
+    SnapshotLeavesFront,
+    /// The first write to a committed page goes into its back frame.
+    WritesIntoBack,
+    /// A rewind restores all bytes of a front but the last.
+    RewindForgetsLastByte,
+    /// A write stores its byte in the next frame of the pool too.
+    WriteSpills,
+}
+
+impl MemoryFault {
+    /// Every fault, without `None`.
+    pub const ALL: [MemoryFault; 10] = [
+        MemoryFault::StartLeavesPool,
+        MemoryFault::StartLeavesLastEntry,
+        MemoryFault::WrongLengthClears,
+        MemoryFault::UnmapLeavesBytes,
+        MemoryFault::RewindLeavesBytes,
+        MemoryFault::UnmapLeavesEntry,
+        MemoryFault::SnapshotLeavesFront,
+        MemoryFault::WritesIntoBack,
+        MemoryFault::RewindForgetsLastByte,
+        MemoryFault::WriteSpills,
+    ];
+}
+
+pub struct WithFrames {
+    machine: Machine,
+    pool: Vec<u8>,
+    table: Vec<u16>,
+    fault: MemoryFault,
+}
+
+impl WithFrames {
+    /// Play a case, in memory filled as it is for the proved machine.
+    pub fn play(case: &Case, fault: MemoryFault) -> Played {
+        let mut program = WithFrames::start(case, fault);
+        let mut replies = Vec::new();
+        for (index, line) in case.roll.chunks(LINE_BYTES).take(LINES).enumerate() {
+            let (number, value) = match parse_line(line) {
+                Some(call) => program.answer(&call),
+                None => (1, 0),
+            };
+            replies.extend(reply_line(index + 1, number, value));
+        }
+        Played { replies, pool: program.pool, table: program.table }
+    }
+
+    fn start(case: &Case, fault: MemoryFault) -> WithFrames {
+        let machine = Machine::fresh(&case.image, case.frames);
+        let lengths = Lengths::of(case);
+        let (mut pool, mut table) = (filled_pool(lengths.pool), filled_table(lengths.table));
+        if machine.lengths_are_right() || fault == MemoryFault::WrongLengthClears {
+            if fault != MemoryFault::StartLeavesPool {
+                pool.fill(0);
+            }
+            let left = usize::from(fault == MemoryFault::StartLeavesLastEntry);
+            let cleared = table.len() - left;
+            table[..cleared].fill(0);
+        }
+        WithFrames { machine, pool, table, fault }
+    }
+
+    fn answer(&mut self, call: &Call) -> model::Reply {
+        let sandbox = usize::from(call.sandbox);
+        let before = (sandbox < SANDBOXES).then(|| self.machine.sandbox(sandbox).clone());
+        let reply = self.machine.answer(call);
+        if let (0, Some(before)) = (reply.0, before) {
+            self.follow(call, &before);
+        }
+        reply
+    }
+
+    /// Take, fill, move, clear and free frames as the marks of an accepted call say.
+    fn follow(&mut self, call: &Call, before: &Sandbox) {
+        let sandbox = usize::from(call.sandbox);
+        for at in 0..PAGES {
+            let (was, now) = (&before.pages[at], self.machine.sandbox(sandbox).pages[at]);
+            let place = |side| Place { sandbox, page: at, side }.index();
+            let (front, back) = (place(Side::Front), place(Side::Back));
+            if call.code == 7 {
+                self.table[back] = self.table[front];
+                if self.fault != MemoryFault::SnapshotLeavesFront {
+                    self.table[front] = 0;
+                }
+            } else if now.front {
+                if self.table[front] == 0 {
+                    let into_back = self.fault == MemoryFault::WritesIntoBack && now.committed;
+                    let kept = self.table[back];
+                    self.table[front] = if into_back && kept != 0 { kept } else { self.take() };
+                }
+                self.store(call, at, &now, self.table[front]);
+            } else if was.front {
+                let left = match self.fault {
+                    MemoryFault::UnmapLeavesBytes => call.code == 3,
+                    MemoryFault::RewindLeavesBytes => call.code == 8,
+                    _ => false,
+                };
+                if !left {
+                    self.frame(self.table[front]).fill(0);
+                }
+                if self.fault != MemoryFault::UnmapLeavesEntry || call.code != 3 {
+                    self.table[front] = 0;
+                }
+            }
+        }
+    }
+
+    /// The entry of a frame that no entry names.
+    fn take(&self) -> u16 {
+        let frames = self.pool.len() / PAGE_BYTES;
+        let unheld = (1..=frames as u16).rev().find(|entry| !self.table.contains(entry));
+        // Only a wrong machine runs out of frames.
+        unheld.unwrap_or(1)
+    }
+
+    fn store(&mut self, call: &Call, at: usize, page: &Page, entry: u16) {
+        let forgets = self.fault == MemoryFault::RewindForgetsLastByte && call.code == 8;
+        let restored = PAGE_BYTES - usize::from(forgets);
+        self.frame(entry)[..restored].copy_from_slice(&page.bytes[..restored]);
+        let written = call.code == 6 && usize::from(call.parameters[0]) / PAGE_BYTES == at;
+        let next = usize::from(entry) * PAGE_BYTES + usize::from(call.parameters[0]) % PAGE_BYTES;
+        if self.fault == MemoryFault::WriteSpills && written && next < self.pool.len() {
+            self.pool[next] = call.parameters[1] as u8;
+        }
+    }
+
+    fn frame(&mut self, entry: u16) -> &mut [u8] {
+        &mut self.pool[(usize::from(entry) - 1) * PAGE_BYTES..][..PAGE_BYTES]
+    }
+}

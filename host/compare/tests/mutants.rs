@@ -1,0 +1,48 @@
+//! The comparison tells every wrong machine, and no right one.
+
+use compare::{check, compare, table, tell, Expected, Lengths, MemoryFault, Mutant, WithFrames};
+use model::Fault;
+use rolls::Case;
+use std::path::Path;
+
+#[test]
+fn every_fault_is_told_as_docs_mutants_has_it() {
+    let mut all = Vec::new();
+    for mutant in Mutant::all() {
+        let told = tell(mutant, 300).unwrap_or_else(|| panic!("{mutant} passed 300 rolls"));
+        assert!(told.lines() <= 12, "{mutant}: {} lines", told.lines());
+        let by_replies = matches!(mutant, Mutant::Machine(_));
+        assert_eq!(told.seed_by_replies.is_some(), by_replies, "{mutant}");
+        // It is the mutant that is told: the right machine passes the same roll.
+        assert_eq!(compare(&told.shrunk), Ok(()), "{mutant}");
+        all.push(told);
+    }
+    let document = Path::new(env!("CARGO_MANIFEST_DIR")).join("../../docs/MUTANTS.md");
+    let document = std::fs::read_to_string(&document).expect("docs/MUTANTS.md");
+    let printed = table(&all);
+    assert!(document.contains(&printed), "`compare --mutants` now prints:\n{printed}");
+}
+
+#[test]
+fn no_roll_tells_a_machine_without_fault() {
+    for seed in 0..300 {
+        let case = Case::random(seed);
+        assert_eq!(Mutant::Machine(Fault::None).difference(&case), None, "seed {seed}");
+        assert_eq!(Mutant::Memory(MemoryFault::None).difference(&case), None, "seed {seed}");
+    }
+}
+
+/// Faults of memory alone are not told by replies, so it is the memory that is looked at.
+#[test]
+fn faults_of_memory_answer_as_the_right_machine_does() {
+    for (seed, fault) in (0..20).flat_map(|seed| MemoryFault::ALL.map(|fault| (seed, fault))) {
+        let case = Case::random(seed);
+        let expected = Expected::of(&case, Lengths::of(&case));
+        let mut played = WithFrames::play(&case, fault);
+        assert!(played.replies == expected.replies, "{fault:?}, seed {seed}");
+        // With the right memory under the same replies nothing is told.
+        let right = WithFrames::play(&case, MemoryFault::None);
+        (played.pool, played.table) = (right.pool, right.table);
+        assert_eq!(check(&played, &expected), Ok(()), "{fault:?}, seed {seed}");
+    }
+}

@@ -1,0 +1,28 @@
+//! Demand 3's two lists, played by the proved machine: what it answers after a rewind
+//! does not tell what happened before it.
+
+use compare::{compare_pair, PairSeen};
+use rolls::Pair;
+
+const PAIRS: u64 = 3_000;
+
+#[test]
+fn answers_after_a_rewind_do_not_tell_what_was_before_it() {
+    let mut seen = Vec::new();
+    for seed in 0..PAIRS {
+        let pair = Pair::random(seed);
+        seen.push(compare_pair(&pair).unwrap_or_else(|error| panic!("seed {seed}: {error}")));
+    }
+    let sum = |of: fn(&PairSeen) -> usize| seen.iter().map(of).sum::<usize>();
+    let (compared, accepted) = (sum(|pair| pair.compared), sum(|pair| pair.accepted));
+    let secrets = sum(|pair| usize::from(pair.secret));
+    let after_secrets = sum(|pair| if pair.secret { pair.accepted } else { 0 });
+    let reports = sum(|pair| usize::from(pair.report_differs));
+    println!("{PAIRS} pairs, {compared} calls compared, {accepted} of them accepted");
+    println!("{secrets} pairs differ before the rewind, {reports} in a report after it");
+    assert!(2 * accepted > compared, "too few accepted calls");
+    // The pairs that count are those with something to hide.
+    assert!(secrets as u64 > PAIRS * 3 / 4, "only {secrets} pairs differ before the rewind");
+    assert!(after_secrets > 10_000, "too few accepted calls after a secret");
+    assert!(reports > 20, "the exception for reports is hardly met");
+}
