@@ -1,7 +1,8 @@
 // Areas packed anew: what stands at each page is changed, and the pages are pushed from left to right.
 ghost use mathlib.Core.Path.{_≡_};
 ghost use Prim.Native.Nat.{_≤_, _<_};
-ghost use Rattle.areas.specs.Areas.{slots, Near};
+ghost use Rattle.areas.specs.Areas.{slots};
+ghost use Rattle.areas.specs.Walk.{Formed};
 ghost use Rattle.areas.specs.Pack.{goesOn, single, longer, start, last, continues, extended, added, push, pack, changeAt, changeTo, changed, changeStart};
 use crate::area::Area;
 use crate::area::Areas;
@@ -32,15 +33,18 @@ pub struct Packed {
 impl Areas {
     // The areas after a change of n pages from first on.
     pub fn repack(self, first: PageNo, n: u8, change: Change) -> Packed
-        requires { ⌜ Near (self .list) ⌝ }
+        requires { ⌜ Formed self ⌝ }
         requires { ⌜ changeStart change ≤ 64 ⌝ }
         ensures { λ r. ⌜ r ≡ pack (changed (slots self) (first .0) n change) ⌝ }
     {
         let mut packed = Packed::start();
+        let mut place: u8 = 0;
         for i in 0..Areas::PAGES {
             let page = PageNo(i);
-            let slot = change.slot(first, n, page, self.slot(page));
+            let area = self.list[place as usize];
+            let slot = change.slot(first, n, page, area.slot_here(page));
             packed = packed.push(page, slot);
+            place = area.next_place(place, self.count, PageNo(i + 1));
         }
         packed
     }

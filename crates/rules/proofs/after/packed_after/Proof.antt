@@ -1,5 +1,6 @@
 use native.Mathlib.Omega.{arith}
 use Rattle.areas.proofs.FormedLaws.{near}
+use Rattle.areas.proofs.WalkLaws.{settled}
 use Rattle.rules.proofs.FitLaws.{start-small}
 use Rattle.rules.proofs.PackedLaws.{packed-map, packed-unmap, packed-protect, packed-snapshot, packed-rewind, packed-none}
 use borrow.Author.Needs.{needs}
@@ -16,7 +17,7 @@ new-page-requires : tie.Need-new-page-requires
 new-page-requires c κs = search needs
 
 repack-requires : tie.Need-repack-requires
-repack-requires c κs = (near (c .before .before .before .before .before .args .images) (c .before .before .before .before .before .args .b .present) (c .before .before .before .before .before .pre .0 .present) (c .before .before .before .before .before .pre .0 .few), rw (c .new-page .ensures) (start-small (c .before .before .before .before .before .args .q) (c .before .before .before .before .before .pre .1) (c .before .before .before .if1 .taken)))
+repack-requires c κs = (settled (c .before .before .before .before .before .args .images) (c .before .before .before .before .before .args .b .present) (c .before .before .before .before .before .pre .0 .present) (c .before .before .before .before .before .pre .0 .few), rw (c .new-page .ensures) (start-small (c .before .before .before .before .before .args .q) (c .before .before .before .before .before .pre .1) (c .before .before .before .if1 .taken)))
 
 returns : tie.Need-returns
 returns c = packed-map (c .before .before .before .before .before .before .args .q) (c .before .before .before .before .before .before .args .b) (c .repack .result) (c .before .before .before .before .if1 .taken) (c .before .before .before .first-of .result) (c .before .new-page .result) (c .before .before .before .first-of .ensures) (c .before .new-page .ensures) (c .repack .ensures)
@@ -28,7 +29,7 @@ cast-repack-2 : tie.Need-cast-repack-2
 cast-repack-2 c = omega (arith, c .before .before .before .before .before .pre .1 .unmapped (c .before .before .if2 .taken))
 
 repack-requires-2 : tie.Need-repack-requires-2
-repack-requires-2 c κs = (near (c .before .before .before .before .before .args .images) (c .before .before .before .before .before .args .b .present) (c .before .before .before .before .before .pre .0 .present) (c .before .before .before .before .before .pre .0 .few), omega arith)
+repack-requires-2 c κs = (settled (c .before .before .before .before .before .args .images) (c .before .before .before .before .before .args .b .present) (c .before .before .before .before .before .pre .0 .present) (c .before .before .before .before .before .pre .0 .few), omega arith)
 
 returns-2 : tie.Need-returns-2
 returns-2 c = packed-unmap (c .before .before .before .before .before .before .args .q) (c .before .before .before .before .before .before .args .b) (c .repack2 .result) (c .before .before .before .if2 .taken) (c .repack2 .ensures)
@@ -43,13 +44,13 @@ cast-t20 : tie.Need-cast-t20
 cast-t20 c = omega (arith, c .before .before .before .before .before .before .before .pre .1 .protected (c .before .before .before .if3 .taken) .1)
 
 repack-requires-3 : tie.Need-repack-requires-3
-repack-requires-3 c κs = (near (c .before .before .before .before .before .before .before .args .images) (c .before .before .before .before .before .before .before .args .b .present) (c .before .before .before .before .before .before .before .pre .0 .present) (c .before .before .before .before .before .before .before .pre .0 .few), omega arith)
+repack-requires-3 c κs = (settled (c .before .before .before .before .before .before .before .args .images) (c .before .before .before .before .before .before .before .args .b .present) (c .before .before .before .before .before .before .before .pre .0 .present) (c .before .before .before .before .before .before .before .pre .0 .few), omega arith)
 
 returns-3 : tie.Need-returns-3
 returns-3 c = packed-protect (c .before .before .before .before .before .before .before .before .args .q) (c .before .before .before .before .before .before .before .before .args .b) (c .repack3 .result) (c .before .before .before .before .if3 .taken) (c .repack3 .ensures)
 
 repack-requires-4 : tie.Need-repack-requires-4
-repack-requires-4 c κs = (near (c .before .before .before .before .before .args .images) (c .before .before .before .before .before .args .b .present) (c .before .before .before .before .before .pre .0 .present) (c .before .before .before .before .before .pre .0 .few), omega arith)
+repack-requires-4 c κs = (settled (c .before .before .before .before .before .args .images) (c .before .before .before .before .before .args .b .present) (c .before .before .before .before .before .pre .0 .present) (c .before .before .before .before .before .pre .0 .few), omega arith)
 
 returns-4 : tie.Need-returns-4
 returns-4 c = packed-snapshot (c .before .before .before .before .before .before .args .q) (c .before .before .before .before .before .before .args .b) (c .repack4 .result) (c .before .before .before .before .before .before .args .images) (c .before .before .before .before .before .before .pre .0 .present) (c .before .if4 .taken) (c .repack4 .ensures)
