@@ -1,7 +1,7 @@
 -- Laws of a line: it has one accepted form, the print of its request; and of a roll's lines.
 use Prim.Native.Nat.{ℕ, zero, suc, _+_, _-_, _*_, _/_, _≤_, _<_}
 use mathlib.Core.Path.{_≡_, refl, sym, ap, _∙_}
-use mathlib.Core.Bool.{true, false, _&&_}
+use mathlib.Core.Bool.{Bool, true, false, _&&_}
 use mathlib.Core.List.{List, [], _∷_, _++_}
 use native.Mathlib.Omega.{arith}
 use lib.ListN.{length, getD, take, drop, length-take, length-drop, take-append-drop}
@@ -53,6 +53,19 @@ number-known Bad h = never false h refl
 small-listed : (n : ℕ) (f : ℕ → ℕ) → ((k : ℕ) → k < n → f k ≤ 65535) → UpTo 65535 (listed f n)
 small-listed zero f h = tt
 small-listed (suc n) f h = (h 0 (omega arith), small-listed n (λ k. f (suc k)) (λ k l. h (suc k) (omega arith)))
+
+-- a line of 43 bytes is well formed where it has its line feed and each field a number
+and-end : (b : Bool) → b ≡ (b && true)
+and-end true = refl
+and-end false = refl
+
+pub formed-by-fields : (line : List ℕ) → length line ≡ 43
+    → let n = hasNumber line in (eqb (getD line 42 0) 10 && (n 0 && (n 1 && (n 2 && (n 3 && (n 4 && (n 5 && n 6))))))) ≡ wellFormed line
+unfolding wellFormed every
+formed-by-fields line h =
+    rw (eq-eqb (length line) 43 h)
+    (ap (λ b. eqb (getD line 42 0) 10 && (hasNumber line 0 && (hasNumber line 1 && (hasNumber line 2 && (hasNumber line 3 && (hasNumber line 4 && (hasNumber line 5 && b)))))))
+    (and-end (hasNumber line 6)))
 
 module _ (line : List ℕ) (formed : wellFormed line ≡ true) where
   formed-parts : (eqb (length line) 43 ≡ true) × ((eqb (getD line 42 0) 10 && every (hasNumber line) 0 7) ≡ true)

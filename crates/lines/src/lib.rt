@@ -5,8 +5,8 @@
 ghost use mathlib.Core.Path.{_≡_};
 ghost use Prim.Native.Nat.{_+_, _*_, _≤_, _<_};
 ghost use lib.ListN.{length};
-ghost use Rattle.lines.specs.Fields.{withDigit, withColumn, fieldOf, isNumber};
-ghost use Rattle.lines.specs.Lines.{fieldAt, numberAt, wellFormed, parsed, linesOf, lineAt};
+ghost use Rattle.lines.specs.Fields.{withDigit, withColumn, fieldOf, isNumber, numberIn};
+ghost use Rattle.lines.specs.Lines.{fieldAt, parsed, linesOf, lineAt};
 ghost use Rattle.lines.specs.Prints.{lastDigit, column, printedField, printedReply};
 use interface::request::Request;
 
@@ -32,17 +32,27 @@ pub fn parse(line: &[u8]) -> Line
     if line.len() != Line::BYTES {
         return Line::Malformed;
     }
-    if !well_formed(line) {
+    let code = field_at(line, 0);
+    let sandbox = field_at(line, 1);
+    let p1 = field_at(line, 2);
+    let p2 = field_at(line, 3);
+    let p3 = field_at(line, 4);
+    let p4 = field_at(line, 5);
+    let p5 = field_at(line, 6);
+    let last = is_number(p4) & is_number(p5);
+    let middle = is_number(p1) & (is_number(p2) & (is_number(p3) & last));
+    let numbers = is_number(code) & (is_number(sandbox) & middle);
+    if !((line[42] == b'\n') & numbers) {
         return Line::Malformed;
     }
     Line::Call(Request {
-        code: number_at(line, 0),
-        sandbox: number_at(line, 1),
-        p1: number_at(line, 2),
-        p2: number_at(line, 3),
-        p3: number_at(line, 4),
-        p4: number_at(line, 5),
-        p5: number_at(line, 6),
+        code: number_in(code),
+        sandbox: number_in(sandbox),
+        p1: number_in(p1),
+        p2: number_in(p2),
+        p3: number_in(p3),
+        p4: number_in(p4),
+        p5: number_in(p5),
     })
 }
 
@@ -119,24 +129,6 @@ enum Field {
     Bad,
 }
 
-// Whether a line of 43 bytes has its line feed, and a number in each of its 7 fields.
-fn well_formed(line: &[u8]) -> bool
-    requires { ⌜ length (now line) ≡ 43 ⌝ }
-    ensures { λ r. ⌜ r ≡ wellFormed (now (line .entry)) ⌝ }
-{
-    if line[42] != b'\n' {
-        return false;
-    }
-    let mut k = 0;
-    while k < 7 {
-        if !is_number(field_at(line, k)) {
-            return false;
-        }
-        k += 1;
-    }
-    true
-}
-
 // Whether a field says a number.
 fn is_number(field: Field) -> bool
     ensures { λ r. ⌜ r ≡ isNumber field ⌝ }
@@ -147,12 +139,11 @@ fn is_number(field: Field) -> bool
     }
 }
 
-// The number that a field of the line says.
-fn number_at(line: &[u8], k: usize) -> u16
-    requires { ⌜ (length (now line) ≡ 43) × (k < 7) ⌝ }
-    ensures { λ r. ⌜ r ≡ numberAt (now (line .entry)) k ⌝ }
+// The number that a field says.
+fn number_in(field: Field) -> u16
+    ensures { λ r. ⌜ r ≡ numberIn field ⌝ }
 {
-    match field_at(line, k) {
+    match field {
         Field::Number(n) => n,
         Field::Bad => 0,
     }

@@ -58,12 +58,11 @@ loop-less c = omega arith
 loop-again : tie.Need-loop-again Inv-loop μ-loop
 loop-again c =
     let s = c .before .before .before .before .before .before .before .before in
-    let l = c .before .before .before .before .before .before .loop in
-    (
+    let l = c .before .before .before .before .before .before .loop in (
       omega arith,
       c .before .push .ensures
-      ∙ repack-step (slots (s .args .t1)) _ _ (s .args .change) _ _ _ _ (l .inv .1)
-      (c .before .before .before .slot-here .ensures ∙ sym (walk-slot (s .args .t1) (s .pre .0) (l .i) (l .place) (l .inv .2))) (c .before .before .slot .ensures),
+          ∙ repack-step (slots (s .args .t1)) _ _ (s .args .change) _ _ _ _ (l .inv .1)
+          (c .before .before .before .slot-here .ensures ∙ sym (walk-slot (s .args .t1) (s .pre .0) (l .i) (l .place) (l .inv .2))) (c .before .before .slot .ensures),
       subst (Reached (s .args .t1) (l .i + 1) (l .i + 1 + 1)) (sym (c .next-place .ensures)) (walk-on (s .args .t1) (s .pre .0) (l .i) (l .place) (l .inv .2)),
     )
 
