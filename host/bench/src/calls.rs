@@ -131,9 +131,17 @@ pub const HEAD: [&str; 9] = [
     "same steps, ns",
 ];
 
-/// The accepted call that is dearest beside another machine (1 unproved, 2 same steps):
-/// its name, and how often it takes the other's instructions; and the same in time.
-pub fn dearest(costs: &Costs, other: usize) -> (Dearest, Option<Dearest>) {
+/// Which rows are looked at: those of the nine calls, accepted or refused, or the lines
+/// whose code is no call's, which are refused before the test of soundness.
+#[derive(Clone, Copy, PartialEq, Eq, Debug)]
+pub enum Lines {
+    OfCalls,
+    OfNoCall,
+}
+
+/// The row that is dearest beside another machine (1 unproved, 2 same steps): its name,
+/// and how often it takes the other's instructions; and the same in time.
+pub fn dearest(costs: &Costs, other: usize, lines: Lines) -> (Dearest, Option<Dearest>) {
     let rows = rows();
     let ratio = |row: usize, cost: &dyn Fn(usize, usize) -> f64| {
         let [proved, base] = [0, other].map(|player| {
@@ -143,8 +151,9 @@ pub fn dearest(costs: &Costs, other: usize) -> (Dearest, Option<Dearest>) {
         proved / base
     };
     let most = |cost: &dyn Fn(usize, usize) -> f64| {
-        let accepted = (0..rows.len()).filter(|&row| rows[row].number == 0);
-        let ratios = accepted.map(|row| (ratio(row, cost), row));
+        let looked_at =
+            (0..rows.len()).filter(|&row| (rows[row].number == 2) == (lines == Lines::OfNoCall));
+        let ratios = looked_at.map(|row| (ratio(row, cost), row));
         let (ratio, row) = ratios.max_by(|a, b| a.0.total_cmp(&b.0)).expect("there are rows");
         Dearest { ratio, name: format!("{}: {}", rows[row].state.name(), rows[row].name) }
     };

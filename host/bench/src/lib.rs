@@ -1,7 +1,8 @@
 //! The proved machine measured beside unproved ones.
 //!
 //! - `unproved`: the same design in ordinary Rust; `same_steps`: the same again, with the
-//!   proved machine's steps where it looks up a page; `copying`: whole copies;
+//!   proved machine's steps in the test of soundness and where a page is looked up;
+//!   `copying`: whole copies;
 //! - `roll` and `states`: the calls that are measured, and the states before them;
 //! - `work` and `meter`: what is measured, and instructions and times of it;
 //! - `calls`, `mixed`, `rewind`, `snapshot`, `frames`, `rounds`: the tables;

@@ -1,6 +1,6 @@
 //! What is reached and what is not, judged by what was measured.
 
-use crate::calls::{dearest, Dearest};
+use crate::calls::{dearest, Dearest, Lines};
 use crate::rewind::{extra, Extra, DIRTY};
 use crate::table::{markdown, Costs};
 
@@ -15,38 +15,44 @@ const FEW: u16 = 7;
 type Judgement = (String, bool);
 type Judge = fn(&Extra) -> Judgement;
 
-/// The part of the report that says so.
+/// The part of the report that says so: the aims, then what stands beside them.
 pub fn written(calls: &Costs, rewind: &Costs) -> String {
-    let mut rows = Vec::new();
-    for (other, name) in [(1, "the unproved machine"), (2, "the one with the same steps")] {
-        let (counted, timed) = dearest(calls, other);
-        rows.push(row(
-            format!("(a) dearest accepted call, at most 1.5 × {name}"),
-            judged_call(&counted),
-            timed.as_ref().map(judged_call),
-        ));
-    }
+    let call = |name: &str, other: usize, lines: Lines| {
+        let (counted, timed) = dearest(calls, other, lines);
+        row(name, judged_call(&counted), timed.as_ref().map(judged_call))
+    };
     let (counted, timed) = extra(rewind);
-    let criteria: [(&str, Judge); 5] = [
-        ("(b) a rewind's own work grows with the dirty pages", grows),
-        ("(b) rewind − report, at most 2 × the bare copy, for all of 1 to 64 pages", within_copies),
-        ("(b) each further page, at most 2 × the bare copy's", slope_within_copies),
-        ("(b) rewind − report at 7 pages, under ¼ of the copying machine", few_over_report),
-        ("(b) a rewind's own work at 7 pages, under ¼ of the copying machine", few_own_work),
+    let of_rewind =
+        |name: &str, judge: Judge| row(name, judge(&counted), timed.as_ref().map(judge));
+    let rows = [
+        call("(a) dearest call, at most 1.5 × the unproved machine", 1, Lines::OfCalls),
+        of_rewind("(b) rewind − report grows with the dirty pages", grows),
+        of_rewind(
+            "(b) rewind − report, at most 2 × the bare copy, for all of 1 to 64 pages",
+            within_copies,
+        ),
+        of_rewind(
+            "(b) rewind − report at 7 pages, under ¼ of the copying machine",
+            few_over_report,
+        ),
+        call("beside (a): dearest call, 1.5 × the one with the same steps", 2, Lines::OfCalls),
+        call("beside (a): unknown code, 1.5 × the unproved machine", 1, Lines::OfNoCall),
+        of_rewind("beside (b): each further page, 2 × the bare copy's", slope_within_copies),
+        of_rewind(
+            "beside (b): a rewind's own work at 7 pages, ¼ of the copying machine",
+            few_own_work,
+        ),
     ];
-    for (name, judge) in criteria {
-        rows.push(row(name.to_string(), judge(&counted), timed.as_ref().map(judge)));
-    }
     markdown(&["aim", "instructions", "reached", "time", "reached"], &rows)
 }
 
-fn row(name: String, counted: Judgement, timed: Option<Judgement>) -> Vec<String> {
+fn row(name: &str, counted: Judgement, timed: Option<Judgement>) -> Vec<String> {
     let word = |reached: bool| if reached { "yes" } else { "**no**" }.to_string();
     let (time, time_reached) = match timed {
         Some((text, reached)) => (text, word(reached)),
         None => ("–".to_string(), "–".to_string()),
     };
-    vec![name, counted.0, word(counted.1), time, time_reached]
+    vec![name.to_string(), counted.0, word(counted.1), time, time_reached]
 }
 
 fn judged_call(dearest: &Dearest) -> Judgement {
@@ -54,9 +60,9 @@ fn judged_call(dearest: &Dearest) -> Judgement {
 }
 
 fn grows(extra: &Extra) -> Judgement {
-    let own: Vec<f64> = extra.rows.iter().map(|row| row.1).collect();
-    let (first, last) = (own[0], own[own.len() - 1]);
-    (format!("{first:.0} to {last:.0}"), own.windows(2).all(|pair| pair[0] < pair[1]))
+    let over: Vec<f64> = extra.rows.iter().map(|row| row.0).collect();
+    let (first, last) = (over[0], over[over.len() - 1]);
+    (format!("{first:.0} to {last:.0}"), over.windows(2).all(|pair| pair[0] < pair[1]))
 }
 
 fn within_copies(extra: &Extra) -> Judgement {

@@ -13,7 +13,8 @@ const FRAMES: usize = 128;
 pub enum Player {
     Proved,
     Unproved,
-    /// The unproved machine with the proved one's steps where it looks up a page.
+    /// The unproved machine with the proved one's steps in the test of soundness and
+    /// where a page is looked up.
     SameSteps,
     /// The unproved machine with a rewind that frees every front.
     Dropping,

@@ -1,8 +1,8 @@
-//! What stands at a page, and how many pages are mapped, in the proved machine's steps:
-//! all 8 places are tried, and pages are counted one by one.
+//! What stands at a page, where all 8 places are tried; and how many pages are mapped, by
+//! the lengths in all 8 places.
 
 use super::areas::Areas;
-use super::page::{Attributes, PageNo, PAGES};
+use super::page::{Attributes, PageNo};
 
 impl Areas {
     /// What stands at a page; `None` where it is not mapped.
@@ -16,14 +16,11 @@ impl Areas {
     }
 
     pub fn mapped_pages(&self) -> usize {
-        self.pages().filter(Option::is_some).count()
+        self.list.iter().map(|area| usize::from(area.pages)).sum()
     }
 
     pub fn uncommitted_pages(&self) -> usize {
-        self.pages().flatten().filter(|page| !page.committed).count()
-    }
-
-    fn pages(&self) -> impl Iterator<Item = Option<Attributes>> + '_ {
-        (0..PAGES as u8).map(|page| self.slot(PageNo(page)))
+        let uncommitted = self.list.iter().filter(|area| !area.attributes.committed);
+        uncommitted.map(|area| usize::from(area.pages)).sum()
     }
 }

@@ -1,5 +1,10 @@
-//! The unproved machine once more, from the same files, but for `lookup`, which goes by
-//! the proved machine's steps. It shows what those steps cost, and what is left then.
+//! The unproved machine once more, from the same files, but for four that go by the
+//! proved machine's steps. They part what a step costs from what the proof or the
+//! compiler costs:
+//!
+//! - `lookup`: all 8 places are tried for a page, and all 8 lengths are counted;
+//! - `walk` and `soundness`: the test of soundness walks the areas along with the pages;
+//! - `rewind`: one look-up for each front.
 
 #[path = "../unproved/areas.rs"]
 mod areas;
@@ -16,15 +21,16 @@ mod pack;
 mod page;
 #[path = "../unproved/request.rs"]
 mod request;
+mod rewind;
 #[path = "../unproved/roll.rs"]
 mod roll;
 #[path = "../unproved/rules.rs"]
 mod rules;
 #[path = "../unproved/sandbox.rs"]
 mod sandbox;
-#[path = "../unproved/soundness.rs"]
 mod soundness;
 #[path = "../unproved/text.rs"]
 mod text;
+mod walk;
 
 pub use roll::{play, play_dropping};

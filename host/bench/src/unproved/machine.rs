@@ -2,8 +2,9 @@
 
 use super::held::Held;
 use super::memory::Memory;
-use super::page::{Backing, PageNo, PAGES, PAGE_BYTES};
+use super::page::{PageNo, PAGE_BYTES};
 use super::request::{Refusal, Request};
+use super::rewind::rewind;
 use super::rules::{decide, page_at, Accepted};
 use super::sandbox::Sandbox;
 
@@ -107,28 +108,6 @@ fn write(sandbox: &Sandbox, held: &mut Held, memory: &mut Memory, s: usize, q: &
     });
     if let Some(frame) = front {
         memory.store(frame, offset, q.p2 as u8);
-    }
-}
-
-/// Each front keeps its frame with the snapshot's bytes, or is freed and cleared.
-fn rewind<const KEEPS_FRONTS: bool>(
-    sandbox: &Sandbox,
-    held: &mut Held,
-    memory: &mut Memory,
-    s: usize,
-) {
-    for page in (0..PAGES as u8).map(PageNo) {
-        let Some(frame) = memory.front(s, page) else {
-            continue;
-        };
-        let present = sandbox.present.slot(page);
-        if KEEPS_FRONTS && present.is_some_and(|page| page.committed) {
-            let copy = sandbox.snapshot.and_then(|snapshot| snapshot.slot(page));
-            let backing = copy.map_or(Backing::Anonymous, |copy| copy.backing);
-            memory.fill(frame, memory.back(s, page), backing);
-        } else {
-            memory.free_front(held, s, page);
-        }
     }
 }
 

@@ -7,7 +7,7 @@
 //! - `memory`: the lent pool, page table and image;
 //! - `request`: a call, its limits and its refusals;
 //! - `sandbox` and `soundness`: what is kept, and the test of it;
-//! - `rules` and `machine`: what is refused, and what an accepted call does;
+//! - `rules`, `machine` and `rewind`: what is refused, and what an accepted call does;
 //! - `text` and `roll`: the lines, and the player.
 
 mod areas;
@@ -18,6 +18,7 @@ mod memory;
 mod pack;
 mod page;
 mod request;
+mod rewind;
 mod roll;
 mod rules;
 mod sandbox;

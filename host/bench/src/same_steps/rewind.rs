@@ -1,0 +1,27 @@
+//! A rewind's work on the lent memory: a committed page agrees with the snapshot's in
+//! backing, so that it is looked up once, in the present areas.
+
+use super::held::Held;
+use super::memory::Memory;
+use super::page::{PageNo, PAGES};
+use super::sandbox::Sandbox;
+
+/// Each front keeps its frame with the snapshot's bytes, or is freed and cleared.
+pub fn rewind<const KEEPS_FRONTS: bool>(
+    sandbox: &Sandbox,
+    held: &mut Held,
+    memory: &mut Memory,
+    s: usize,
+) {
+    for page in (0..PAGES as u8).map(PageNo) {
+        let Some(frame) = memory.front(s, page) else {
+            continue;
+        };
+        match sandbox.present.slot(page) {
+            Some(slot) if KEEPS_FRONTS && slot.committed => {
+                memory.fill(frame, memory.back(s, page), slot.backing);
+            }
+            _ => memory.free_front(held, s, page),
+        }
+    }
+}

@@ -1,0 +1,29 @@
+//! A rewind's work on the lent memory: whether a page is still committed is looked up in
+//! the present areas, its backing in the snapshot's.
+
+use super::held::Held;
+use super::memory::Memory;
+use super::page::{Backing, PageNo, PAGES};
+use super::sandbox::Sandbox;
+
+/// Each front keeps its frame with the snapshot's bytes, or is freed and cleared.
+pub fn rewind<const KEEPS_FRONTS: bool>(
+    sandbox: &Sandbox,
+    held: &mut Held,
+    memory: &mut Memory,
+    s: usize,
+) {
+    for page in (0..PAGES as u8).map(PageNo) {
+        let Some(frame) = memory.front(s, page) else {
+            continue;
+        };
+        let present = sandbox.present.slot(page);
+        if KEEPS_FRONTS && present.is_some_and(|page| page.committed) {
+            let copy = sandbox.snapshot.and_then(|snapshot| snapshot.slot(page));
+            let backing = copy.map_or(Backing::Anonymous, |copy| copy.backing);
+            memory.fill(frame, memory.back(s, page), backing);
+        } else {
+            memory.free_front(held, s, page);
+        }
+    }
+}
