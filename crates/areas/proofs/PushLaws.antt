@@ -1,7 +1,7 @@
 -- Laws of one page pushed: when it goes on where the last area ends, and what a loop over pages keeps.
 use Prim.Native.Nat.{ℕ, zero, suc, _+_, _-_, _≤_, _<_}
-use mathlib.Core.Path.{_≡_, refl, ap}
-use mathlib.Core.Bool.{Bool, true, false, _&&_}
+use mathlib.Core.Path.{_≡_, refl, sym, ap}
+use mathlib.Core.Bool.{Bool, true, false, _&&_, false≢true}
 use native.Mathlib.Omega.{arith}
 use native.Mathlib.Numerals.{add-one}
 use lib.Dec.{ltb, eqb}
@@ -13,7 +13,7 @@ use Rattle.interface.specs.declared.page.Backing.the-variants.{Anonymous, Image
 use Rattle.interface.specs.declared.page.Attributes.{Attributes}
 use Rattle.interface.specs.declared.page.Slot.{Slot}
 use Rattle.interface.specs.declared.page.Slot.the-variants.{Unmapped, Mapped}
-use Rattle.interface.specs.Slots.{Slots, advance, follows, joins}
+use Rattle.interface.specs.Slots.{Slots, isMapped, advance, follows, joins}
 use Rattle.areas.specs.declared.area.Area.{Area}
 use Rattle.areas.specs.declared.area.Areas.{Areas}
 use Rattle.areas.specs.declared.pack.Packed.{Packed}
@@ -109,3 +109,9 @@ count-pack f (suc n) = count-push (packTo f n) n (f n) (count-pack f n)
 pub pack-step : (f : Slots) (i : ℕ) (b : Packed) (s : Slot) → b ≡ packTo f i → s ≡ f i → push b i s ≡ packTo f (i + 1)
 unfolding packTo
 pack-step f i b s p q = rw (p, q, add-one i)
+
+-- a page that is not mapped leaves what is packed
+pub push-none : (b : Packed) (page : ℕ) (slot : Slot) → isMapped slot ≡ false → push b page slot ≡ b
+unfolding push
+push-none b page Unmapped e = refl
+push-none b page (Mapped t) e = absurd (false≢true (sym e))

@@ -1,7 +1,7 @@
 -- Laws of a walk along well formed areas: what stands at a page, where the walk goes next, and what is counted up to a place.
 use Prim.Native.Nat.{ℕ, zero, suc, _+_, _-_, _≤_, _<_}
-use mathlib.Core.Path.{_≡_, sym, _∙_}
-use mathlib.Core.Bool.{true, false, _&&_, false≢true}
+use mathlib.Core.Path.{_≡_, refl, sym, _∙_}
+use mathlib.Core.Bool.{Bool, true, false, _&&_, false≢true}
 use native.Mathlib.Omega.{arith}
 use native.Mathlib.Decide.{decLt, ℕ-discrete}
 use lib.Dec.{leb, ltb}
@@ -12,7 +12,7 @@ use Rattle.basics.proofs.RangeLaws.{inside-yes, inside-below, inside-past}
 use Rattle.interface.specs.declared.page.Slot.the-variants.{Unmapped}
 use Rattle.areas.specs.declared.area.Area.{Area}
 use Rattle.areas.specs.declared.area.Areas.{Areas}
-use Rattle.areas.specs.Areas.{none, covers, slots, Near}
+use Rattle.areas.specs.Areas.{none, covers, slots, startOf, Near}
 use Rattle.areas.specs.Formed.{WellFormed}
 use Rattle.areas.specs.Walk.{Formed, Reached, endOf, nextPlace, slotHere}
 use Rattle.areas.proofs.SlotLaws.{covers-none, slot-past, slot-hit}
@@ -21,6 +21,11 @@ use Rattle.areas.proofs.FormedLaws.{near}
 -- what `near` is said of
 pub settled : (images : ℕ) (s : Areas) → WellFormed images s → images ≤ 64 → Formed s
 settled images s w g = record { images = images; few = g; formed = w }
+
+-- a walk that has come to a page with the area of its place in hand
+pub record Standing (s : Areas) (page place : ℕ) (a : Area) : Type 0 where
+  pub reached : Reached s page (page + 1) place
+  pub area : a ≡ getD (s .list) place none
 
 module _ (s : Areas) (F : Formed s) where
   abbrev at : ℕ → Area
@@ -100,3 +105,24 @@ module _ (s : Areas) (F : Formed s) where
 
   pub walk-start : Reached s 0 1 0
   walk-start = record { small = omega arith; passed = λ j d. absurd (omega arith); ahead = λ l. omega (arith, F .formed .each 0 (omega arith) .some) }
+
+  -- with the area in hand
+
+  pub stand-start : Standing s 0 0 (at 0)
+  stand-start = record { reached = walk-start; area = refl }
+
+  module _ (page place : ℕ) (a : Area) (h : Standing s page place a) where
+    pub stand-slot : slots s page ≡ slotHere a page
+    stand-slot = rw (h .area) (walk-slot page place (h .reached))
+
+    pub stand-near : startOf (a .backing) ≤ 64
+    stand-near = rw (h .area) (near-formed .at place (h .reached .small))
+
+    abbrev left : Bool
+    left = ltb (place + 1) (s .count) && leb (a .first .0 + a .pages) (page + 1)
+
+    pub stand-stays : left ≡ false → Standing s (page + 1) place a
+    stand-stays e = record { reached = rw (rw (h .area) at e) at (walk-on page place (h .reached)); area = h .area }
+
+    pub stand-goes : left ≡ true → Standing s (page + 1) (place + 1) (at (place + 1))
+    stand-goes e = record { reached = rw (rw (h .area) at e) at (walk-on page place (h .reached)); area = refl }

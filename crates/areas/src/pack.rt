@@ -9,6 +9,7 @@ use crate::area::Areas;
 use crate::basic::is_inside;
 use crate::basic::is_same;
 use crate::slot::follows;
+use crate::slot::is_mapped;
 use crate::slot::page_on;
 use crate::slot::with_committed;
 use crate::slot::with_rights;
@@ -39,12 +40,18 @@ impl Areas {
     {
         let mut packed = Packed::start();
         let mut place: u8 = 0;
+        let mut area = self.list[0];
         for i in 0..Areas::PAGES {
             let page = PageNo(i);
-            let area = self.list[place as usize];
             let slot = change.slot(first, n, page, area.slot_here(page));
-            packed = packed.push(page, slot);
-            place = area.next_place(place, self.count, PageNo(i + 1));
+            if area.is_left(place, self.count, PageNo(i + 1)) {
+                place += 1;
+                area = self.list[place as usize];
+            }
+            // What is packed is copied for a mapped page only.
+            if is_mapped(slot) {
+                packed = packed.push(page, slot);
+            }
         }
         packed
     }

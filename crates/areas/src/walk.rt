@@ -3,7 +3,6 @@ ghost use mathlib.Core.Path.{_≡_};
 ghost use mathlib.Core.Bool.{_&&_};
 ghost use Prim.Native.Nat.{_+_, _≤_, _<_};
 ghost use lib.Dec.{leb, ltb};
-ghost use Rattle.basics.specs.Choice.{_when_else_};
 ghost use Rattle.areas.specs.Areas.{startOf};
 ghost use Rattle.areas.specs.Walk.{slotHere};
 use crate::area::Area;
@@ -11,17 +10,13 @@ use interface::page::PageNo;
 use interface::page::Slot;
 
 impl Area {
-    // The walk's place at the page, from the place of this area, one of so many.
-    pub fn next_place(self, place: u8, count: u8, page: PageNo) -> u8
+    // Whether the walk leaves this area at the page: it has ended, and it is not the last of so many.
+    pub fn is_left(self, place: u8, count: u8, page: PageNo) -> bool
         requires { ⌜ place < 8 ⌝ }
-        ensures { λ r. ⌜ r ≡ (place + 1 when (ltb (place + 1) count && leb (self .first .0 + self .pages) (page .0)) else place) ⌝ }
+        ensures { λ r. ⌜ r ≡ (ltb (place + 1) count && leb (self .first .0 + self .pages) (page .0)) ⌝ }
     {
         let ended = self.first.0 as usize + self.pages as usize <= page.0 as usize;
-        if (place + 1 < count) & ended {
-            place + 1
-        } else {
-            place
-        }
+        (place + 1 < count) & ended
     }
 
     // What stands at the page as this area says it.

@@ -133,17 +133,23 @@ fn each_page_ok(present: Areas, snapshot: Areas, table: &[u16], s: u8) -> bool
 {
     let mut p: u8 = 0;
     let mut q: u8 = 0;
+    let mut here = present.list[0];
+    let mut there = snapshot.list[0];
     for i in 0..64u8 {
         let page = PageNo(i);
-        let here = present.list[p as usize];
-        let there = snapshot.list[q as usize];
         let front = table::entry::front(table, s, page);
         let back = table::entry::back(table, s, page);
         if !page_ok(here.slot_here(page), there.slot_here(page), front, back) {
             return false;
         }
-        p = here.next_place(p, present.count, PageNo(i + 1));
-        q = there.next_place(q, snapshot.count, PageNo(i + 1));
+        if here.is_left(p, present.count, PageNo(i + 1)) {
+            p += 1;
+            here = present.list[p as usize];
+        }
+        if there.is_left(q, snapshot.count, PageNo(i + 1)) {
+            q += 1;
+            there = snapshot.list[q as usize];
+        }
     }
     true
 }

@@ -1,6 +1,7 @@
 use native.Mathlib.Omega.{arith}
 use Prim.Native.Nat.{ℕ, _+_, _-_, _≤_}
-use mathlib.Core.Path.{_≡_, refl, sym, _∙_, subst}
+use mathlib.Core.Path.{_≡_, refl, sym, _∙_}
+use mathlib.Core.Logic.{⊎-elim}
 use mathlib.Core.Bool.{Bool}
 use mathlib.Core.List.{List}
 use lib.ListN.{getD}
@@ -10,9 +11,8 @@ use Rattle.basics.specs.Ranges.{every}
 use Rattle.basics.proofs.LoopLaws.{every-next, every-stop, every-end}
 use Rattle.table.specs.Store.{frontOf, backOf}
 use Rattle.areas.specs.declared.area.Areas.{Areas}
-use Rattle.areas.specs.Areas.{slots}
-use Rattle.areas.specs.Walk.{Reached}
-use Rattle.areas.proofs.WalkLaws.{near-formed, walk-start, walk-on, walk-slot}
+use Rattle.areas.specs.Areas.{none, slots}
+use Rattle.areas.proofs.WalkLaws.{Standing, stand-start, stand-slot, stand-near, stand-stays, stand-goes}
 use Rattle.state.specs.Test.{pageOk, pagesOk}
 use Rattle.soundness.proofs.sound.each_page_ok.Statement.{statement}
 use Rattle.soundness.proofs.sound.each_page_ok.Tie as tie
@@ -22,61 +22,82 @@ abbrev of : Areas → Areas → List ℕ → ℕ → ℕ → Bool
 of present snapshot table s i = pageOk (slots present i) (slots snapshot i) (getD table (frontOf s i) 0) (getD table (backOf s i) 0)
 
 abbrev Inv-loop : tie.InvT-loop
-Inv-loop table s present snapshot p₀ q₀ i₀ p q i =
-    (i ≤ 64) × (every (of present snapshot table s) 0 64 ≡ every (of present snapshot table s) i (64 - i)) × Reached present i (i + 1) p
-    × Reached snapshot i (i + 1) q
+Inv-loop table s present snapshot p₀ q₀ here₀ there₀ i₀ p q here there i =
+    (i ≤ 64) × (every (of present snapshot table s) 0 64 ≡ every (of present snapshot table s) i (64 - i)) × Standing present i p here
+    × Standing snapshot i q there
 
 abbrev μ-loop : tie.MeasureT-loop
-μ-loop table s present snapshot p₀ q₀ i₀ p q i = 64 - i
+μ-loop table s present snapshot p₀ q₀ here₀ there₀ i₀ p q here there i = 64 - i
 
-here : (c : tie.After-page-ok Inv-loop μ-loop) → c .page-ok .result ≡ (of (c .before .before .before .before .before .before .before .before .before .before .args .t1) (c .before .before .before .before .before .before .before .before .before .before .args .t2) (c .before .before .before .before .before .before .before .before .before .before .args .table .now) (c .before .before .before .before .before .before .before .before .before .before .args .s)) (c .before .before .before .before .before .before .before .before .loop .i)
-here c =
+-- the page's test, and where the walks are at the next page
+tested : (c : tie.After-page-ok Inv-loop μ-loop) → c .page-ok .result ≡ (of (c .before .before .before .before .before .before .before .before .before .before .args .t1) (c .before .before .before .before .before .before .before .before .before .before .args .t2) (c .before .before .before .before .before .before .before .before .before .before .args .table .now) (c .before .before .before .before .before .before .before .before .before .before .args .s)) (c .before .before .before .before .before .before .loop .i)
+tested c =
     let s = c .before .before .before .before .before .before .before .before .before .before in
-    let l = c .before .before .before .before .before .before .before .before .loop in
+    let l = c .before .before .before .before .before .before .loop in
     c .page-ok .ensures
     ∙ rw (
       c .before .slot-here2 .ensures,
       c .before .before .slot-here .ensures,
       c .before .before .before .back .ensures,
       c .before .before .before .before .front .ensures,
-      walk-slot (s .args .t1) (s .pre .1 .1 .0) (l .i) (l .p) (l .inv .2),
-      walk-slot (s .args .t2) (s .pre .1 .1 .1) (l .i) (l .q) (l .inv .3),
+      stand-slot (s .args .t1) (s .pre .1 .1 .0) (l .i) (l .p) (l .here) (l .inv .2),
+      stand-slot (s .args .t2) (s .pre .1 .1 .1) (l .i) (l .q) (l .there) (l .inv .3),
     )
+
+present-goes : (c : tie.Then2 Inv-loop μ-loop) → Standing (c .before .before .before .before .before .before .before .before .before .before .before .before .before .args .t1) (c .before .before .before .before .before .before .before .before .before .loop .i + 1) (c .before .before .before .before .before .before .before .before .before .loop .p + 1) (getD (c .before .before .before .before .before .before .before .before .before .before .before .before .before .args .t1 .list) (c .before .before .before .before .before .before .before .before .before .loop .p + 1) none)
+present-goes c =
+    let s = c .before .before .before .before .before .before .before .before .before .before .before .before .before in
+    let l = c .before .before .before .before .before .before .before .before .before .loop in
+    stand-goes (s .args .t1) (s .pre .1 .1 .0) (l .i) (l .p) (l .here) (l .inv .2) (sym (c .before .is-left .ensures) ∙ c .if2 .taken)
+
+present-at : (c : tie.Joined2 Inv-loop μ-loop) → Standing (c .before .before .before .before .before .before .before .before .before .before .before .before .before .args .t1) (c .before .before .before .before .before .before .before .before .before .loop .i + 1) (c .if2 .p) (c .if2 .here)
+present-at c =
+    let s = c .before .before .before .before .before .before .before .before .before .before .before .before .before in
+    let l = c .before .before .before .before .before .before .before .before .before .loop in
+    ⊎-elim (λ w. rw (w .2, w .3) (present-goes (record { before = c .before; if2 = w .0 })))
+    (λ w. rw (w .1, w .2) (stand-stays (s .args .t1) (s .pre .1 .1 .0) (l .i) (l .p) (l .here) (l .inv .2) (sym (c .before .is-left .ensures) ∙ w .0 .left))) (c .if2 .came)
+
+snapshot-goes : (c : tie.Then3 Inv-loop μ-loop) → Standing (c .before .before .before .before .before .before .before .before .before .before .before .before .before .before .before .args .t2) (c .before .before .before .before .before .before .before .before .before .before .before .loop .i + 1) (c .before .before .before .before .before .before .before .before .before .before .before .loop .q + 1) (getD (c .before .before .before .before .before .before .before .before .before .before .before .before .before .before .before .args .t2 .list) (c .before .before .before .before .before .before .before .before .before .before .before .loop .q + 1) none)
+snapshot-goes c =
+    let s = c .before .before .before .before .before .before .before .before .before .before .before .before .before .before .before in
+    let l = c .before .before .before .before .before .before .before .before .before .before .before .loop in
+    stand-goes (s .args .t2) (s .pre .1 .1 .1) (l .i) (l .q) (l .there) (l .inv .3) (sym (c .before .is-left2 .ensures) ∙ c .if3 .taken)
+
+snapshot-at : (c : tie.Joined3 Inv-loop μ-loop) → Standing (c .before .before .before .before .before .before .before .before .before .before .before .before .before .before .before .args .t2) (c .before .before .before .before .before .before .before .before .before .before .before .loop .i + 1) (c .if3 .q) (c .if3 .there)
+snapshot-at c =
+    let s = c .before .before .before .before .before .before .before .before .before .before .before .before .before .before .before in
+    let l = c .before .before .before .before .before .before .before .before .before .before .before .loop in
+    ⊎-elim (λ w. rw (w .2, w .3) (snapshot-goes (record { before = c .before; if3 = w .0 })))
+    (λ w. rw (w .1, w .2) (stand-stays (s .args .t2) (s .pre .1 .1 .1) (l .i) (l .q) (l .there) (l .inv .3) (sym (c .before .is-left2 .ensures) ∙ w .0 .left))) (c .if3 .came)
+
+element-copy-out-here : tie.Need-element-copy-out-here Inv-loop μ-loop
+element-copy-out-here c = search needs
+
+element-copy-out-there : tie.Need-element-copy-out-there Inv-loop μ-loop
+element-copy-out-there c = search needs
 
 loop-holds : tie.Need-loop-holds Inv-loop μ-loop
 loop-holds c =
-    let s = c .before in
-    (omega arith, refl, walk-start (s .args .t1) (s .pre .1 .1 .0), walk-start (s .args .t2) (s .pre .1 .1 .1))
-
-cast-here : tie.Need-cast-here Inv-loop μ-loop
-cast-here c = search needs
-
-mul-here : tie.Need-mul-here Inv-loop μ-loop
-mul-here c = omega (arith, c .before .loop .inv .2 .small)
-
-element-copy-out-here : tie.Need-element-copy-out-here Inv-loop μ-loop
-element-copy-out-here c = omega (arith, c .before .loop .inv .2 .small)
-
-cast-there : tie.Need-cast-there Inv-loop μ-loop
-cast-there c = search needs
-
-mul-there : tie.Need-mul-there Inv-loop μ-loop
-mul-there c = omega (arith, c .before .before .loop .inv .3 .small)
-
-element-copy-out-there : tie.Need-element-copy-out-there Inv-loop μ-loop
-element-copy-out-there c = omega (arith, c .before .before .loop .inv .3 .small)
+    let s = c .before .before .before in
+    (omega arith, refl, stand-start (s .args .t1) (s .pre .1 .1 .0), stand-start (s .args .t2) (s .pre .1 .1 .1))
 
 front-requires : tie.Need-front-requires Inv-loop μ-loop
-front-requires c κs = (c .before .before .before .before .before .pre .0, (c .before .before .loop-test .taken, c .before .before .before .before .before .pre .1 .0))
+front-requires c κs = (c .before .before .before .before .before .pre .0, (c .loop-test .taken, c .before .before .before .before .before .pre .1 .0))
 
 back-requires : tie.Need-back-requires Inv-loop μ-loop
-back-requires c κs = (c .before .before .before .before .before .before .pre .0, (c .before .before .before .loop-test .taken, c .before .before .before .before .before .before .pre .1 .0))
+back-requires c κs = (c .before .before .before .before .before .before .pre .0, (c .before .loop-test .taken, c .before .before .before .before .before .before .pre .1 .0))
 
 slot-here-requires : tie.Need-slot-here-requires Inv-loop μ-loop
-slot-here-requires c κs = (near-formed (c .before .before .before .before .before .before .before .args .t1) (c .before .before .before .before .before .before .before .pre .1 .1 .0) .at _ (c .before .before .before .before .before .loop .inv .2 .small), c .before .before .before .before .loop-test .taken)
+slot-here-requires c κs =
+    let s = c .before .before .before .before .before .before .before in
+    let l = c .before .before .before .loop in
+    (stand-near (s .args .t1) (s .pre .1 .1 .0) (l .i) (l .p) (l .here) (l .inv .2), c .before .before .loop-test .taken)
 
 slot-here-requires-2 : tie.Need-slot-here-requires-2 Inv-loop μ-loop
-slot-here-requires-2 c κs = (near-formed (c .before .before .before .before .before .before .before .before .args .t2) (c .before .before .before .before .before .before .before .before .pre .1 .1 .1) .at _ (c .before .before .before .before .before .before .loop .inv .3 .small), c .before .before .before .before .before .loop-test .taken)
+slot-here-requires-2 c κs =
+    let s = c .before .before .before .before .before .before .before .before in
+    let l = c .before .before .before .before .loop in
+    (stand-near (s .args .t2) (s .pre .1 .1 .1) (l .i) (l .q) (l .there) (l .inv .3), c .before .before .before .loop-test .taken)
 
 page-ok-requires : tie.Need-page-ok-requires Inv-loop μ-loop
 page-ok-requires c κs = tt
@@ -85,20 +106,44 @@ returns : tie.Need-returns Inv-loop μ-loop
 unfolding pagesOk
 returns c = λ h pool.
     sym
-    (c .before .before .before .before .before .before .before .before .before .loop .inv .1
-    ∙ every-stop (of (c .before .before .before .before .before .before .before .before .before .before .before .args .t1) (c .before .before .before .before .before .before .before .before .before .before .before .args .t2) (c .before .before .before .before .before .before .before .before .before .before .before .args .table .now) (c .before .before .before .before .before .before .before .before .before .before .before .args .s)) 64 (c .before .before .before .before .before .before .before .before .before .loop .i) (c .before .before .before .before .before .before .before .before .loop-test .taken) (sym (here (c .before)) ∙ not-true _ (c .if1 .taken)))
+    (c .before .before .before .before .before .before .before .loop .inv .1
+    ∙ every-stop (of (c .before .before .before .before .before .before .before .before .before .before .before .args .t1) (c .before .before .before .before .before .before .before .before .before .before .before .args .t2) (c .before .before .before .before .before .before .before .before .before .before .before .args .table .now) (c .before .before .before .before .before .before .before .before .before .before .before .args .s)) 64 (c .before .before .before .before .before .before .before .loop .i) (c .before .before .before .before .before .before .loop-test .taken) (sym (tested (c .before)) ∙ not-true _ (c .if1 .taken)))
 
-add-t27 : tie.Need-add-t27 Inv-loop μ-loop
-add-t27 c = omega (arith, c .before .before .before .before .before .before .before .before .loop-test .taken)
+add-t26 : tie.Need-add-t26 Inv-loop μ-loop
+add-t26 c = omega (arith, c .before .before .before .before .before .before .loop-test .taken)
 
-next-place-requires : tie.Need-next-place-requires Inv-loop μ-loop
-next-place-requires c κs = c .before .before .before .before .before .before .before .before .before .loop .inv .2 .small
+is-left-requires : tie.Need-is-left-requires Inv-loop μ-loop
+is-left-requires c κs = c .before .before .before .before .before .before .before .loop .inv .2 .reached .small
 
-add-t27-2 : tie.Need-add-t27-2 Inv-loop μ-loop
-add-t27-2 c = omega (arith, c .before .before .before .before .before .before .before .before .before .loop-test .taken)
+add-p : tie.Need-add-p Inv-loop μ-loop
+add-p c = omega (arith, present-goes c .reached .small)
 
-next-place-requires-2 : tie.Need-next-place-requires-2 Inv-loop μ-loop
-next-place-requires-2 c κs = c .before .before .before .before .before .before .before .before .before .before .loop .inv .3 .small
+cast-here : tie.Need-cast-here Inv-loop μ-loop
+cast-here c = search needs
+
+mul-here : tie.Need-mul-here Inv-loop μ-loop
+mul-here c = omega (arith, present-goes c .reached .small)
+
+element-copy-out-here-2 : tie.Need-element-copy-out-here-2 Inv-loop μ-loop
+element-copy-out-here-2 c = omega (arith, present-goes c .reached .small)
+
+add-t26-2 : tie.Need-add-t26-2 Inv-loop μ-loop
+add-t26-2 c = omega (arith, c .before .before .before .before .before .before .before .before .loop-test .taken)
+
+is-left-requires-2 : tie.Need-is-left-requires-2 Inv-loop μ-loop
+is-left-requires-2 c κs = c .before .before .before .before .before .before .before .before .before .loop .inv .3 .reached .small
+
+add-q : tie.Need-add-q Inv-loop μ-loop
+add-q c = omega (arith, snapshot-goes c .reached .small)
+
+cast-there : tie.Need-cast-there Inv-loop μ-loop
+cast-there c = search needs
+
+mul-there : tie.Need-mul-there Inv-loop μ-loop
+mul-there c = omega (arith, snapshot-goes c .reached .small)
+
+element-copy-out-there-2 : tie.Need-element-copy-out-there-2 Inv-loop μ-loop
+element-copy-out-there-2 c = omega (arith, snapshot-goes c .reached .small)
 
 add-i : tie.Need-add-i Inv-loop μ-loop
 add-i c = omega arith
@@ -108,18 +153,16 @@ loop-less c = omega arith
 
 loop-again : tie.Need-loop-again Inv-loop μ-loop
 loop-again c =
-    let s = c .before .before .before .before .before .before .before .before .before .before .before .before .before in
-    let l = c .before .before .before .before .before .before .before .before .before .before .before .loop in
-    let i = l .i in (
+    let l = c .before .before .before .before .before .before .before .before .before .before .before .loop in (
       omega arith,
-      l .inv .1 ∙ every-next (of (c .before .before .before .before .before .before .before .before .before .before .before .before .before .args .t1) (c .before .before .before .before .before .before .before .before .before .before .before .before .before .args .t2) (c .before .before .before .before .before .before .before .before .before .before .before .before .before .args .table .now) (c .before .before .before .before .before .before .before .before .before .before .before .before .before .args .s)) 64 i (c .before .before .before .before .before .before .before .before .before .before .loop-test .taken) (sym (here (c .before .before .before)) ∙ not-false _ (c .before .before .if1 .left)),
-      subst (Reached (s .args .t1) (i + 1) (i + 1 + 1)) (sym (c .before .next-place .ensures)) (walk-on (s .args .t1) (s .pre .1 .1 .0) i (l .p) (l .inv .2)),
-      subst (Reached (s .args .t2) (i + 1) (i + 1 + 1)) (sym (c .next-place2 .ensures)) (walk-on (s .args .t2) (s .pre .1 .1 .1) i (l .q) (l .inv .3)),
+      l .inv .1 ∙ every-next (of (c .before .before .before .before .before .before .before .before .before .before .before .before .before .before .before .args .t1) (c .before .before .before .before .before .before .before .before .before .before .before .before .before .before .before .args .t2) (c .before .before .before .before .before .before .before .before .before .before .before .before .before .before .before .args .table .now) (c .before .before .before .before .before .before .before .before .before .before .before .before .before .before .before .args .s)) 64 (l .i) (c .before .before .before .before .before .before .before .before .before .before .loop-test .taken) (sym (tested (c .before .before .before .before .before)) ∙ not-false _ (c .before .before .before .before .if1 .left)),
+      present-at (c .before .before),
+      snapshot-at c,
     )
 
 returns-2 : tie.Need-returns-2 Inv-loop μ-loop
 unfolding pagesOk
-returns-2 c = λ h pool. sym (c .before .loop .inv .1 ∙ every-end (of (c .before .before .before .args .t1) (c .before .before .before .args .t2) (c .before .before .before .args .table .now) (c .before .before .before .args .s)) 64 (c .before .loop .i) (c .loop-test .left))
+returns-2 c = λ h pool. sym (c .before .loop .inv .1 ∙ every-end (of (c .before .before .before .before .before .args .t1) (c .before .before .before .before .before .args .t2) (c .before .before .before .before .before .args .table .now) (c .before .before .before .before .before .args .s)) 64 (c .before .loop .i) (c .loop-test .left))
 
 pub each-page-ok-spec : {M : Type 1} → statement M
 each-page-ok-spec =
@@ -127,23 +170,27 @@ each-page-ok-spec =
     (tie.spec
     Inv-loop
     μ-loop
-    loop-holds
-    cast-here
-    mul-here
     element-copy-out-here
-    cast-there
-    mul-there
     element-copy-out-there
+    loop-holds
     front-requires
     back-requires
     slot-here-requires
     slot-here-requires-2
     page-ok-requires
     returns
-    add-t27
-    next-place-requires
-    add-t27-2
-    next-place-requires-2
+    add-t26
+    is-left-requires
+    add-p
+    cast-here
+    mul-here
+    element-copy-out-here-2
+    add-t26-2
+    is-left-requires-2
+    add-q
+    cast-there
+    mul-there
+    element-copy-out-there-2
     add-i
     loop-less
     loop-again
