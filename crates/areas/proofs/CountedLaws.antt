@@ -13,9 +13,9 @@ use Rattle.interface.specs.declared.page.Slot.the-variants.{Unmapped}
 use Rattle.areas.specs.declared.area.Area.{Area}
 use Rattle.areas.specs.declared.area.Areas.{Areas}
 use Rattle.areas.specs.Areas.{none, slotOf, slots, counts}
-use Rattle.areas.specs.Walk.{Formed, endOf, countedPages}
+use Rattle.areas.specs.Walk.{Formed, countedPages}
 use Rattle.areas.proofs.SlotLaws.{slot-hit}
-use Rattle.areas.proofs.WalkLaws.{order, between}
+use Rattle.areas.proofs.WalkLaws.{endOf, order, between}
 
 -- a run of numbers of which all pass, or none
 count-run : (p : ℕ → Bool) (a n : ℕ) (b : Bool) → ((i : ℕ) → a ≤ i → i < a + n → p i ≡ b) → count p (a + n) ≡ count p a + (n when b else 0)

@@ -1,12 +1,14 @@
 -- Laws of a walk along well formed areas: what stands at a page, where the walk goes next, and what is counted up to a place.
 use Prim.Native.Nat.{ℕ, zero, suc, _+_, _-_, _≤_, _<_}
 use mathlib.Core.Path.{_≡_, refl, sym, _∙_}
+use mathlib.Core.Logic.{_⊎_, ⊎-elim}
 use mathlib.Core.Bool.{Bool, true, false, _&&_, false≢true}
 use native.Mathlib.Omega.{arith}
 use native.Mathlib.Decide.{decLt, ℕ-discrete}
 use lib.Dec.{leb, ltb}
 use lib.ListN.{getD}
 use borrow.Author.Tests.{ltb-true, leb-true, leb-false, lt-ltb}
+use Rattle.basics.specs.Choice.{_when_else_}
 use Rattle.basics.proofs.TestLaws.{by-cases, when-cases, and-left, and-right}
 use Rattle.basics.proofs.RangeLaws.{inside-yes, inside-below, inside-past}
 use Rattle.interface.specs.declared.page.Slot.the-variants.{Unmapped}
@@ -14,13 +16,29 @@ use Rattle.areas.specs.declared.area.Area.{Area}
 use Rattle.areas.specs.declared.area.Areas.{Areas}
 use Rattle.areas.specs.Areas.{none, covers, slots, startOf, Near}
 use Rattle.areas.specs.Formed.{WellFormed}
-use Rattle.areas.specs.Walk.{Formed, Reached, endOf, nextPlace, slotHere}
+use Rattle.areas.specs.Walk.{Formed, slotHere}
 use Rattle.areas.proofs.SlotLaws.{covers-none, slot-past, slot-hit}
 use Rattle.areas.proofs.FormedLaws.{near}
 
 -- what `near` is said of
 pub settled : (images : ℕ) (s : Areas) → WellFormed images s → images ≤ 64 → Formed s
 settled images s w g = record { images = images; few = g; formed = w }
+
+-- ---- the walk's own words
+
+-- the page at which the area of a place ends
+abbrev pub endOf : Areas → ℕ → ℕ
+endOf s k = getD (s .list) k none .first .0 + getD (s .list) k none .pages
+
+-- a walk has come to a place: the areas before it end at page low or before, and its own at page high or after, unless it is the last
+pub record Reached (s : Areas) (low high place : ℕ) : Type 0 where
+  pub small : place < 8
+  pub passed : (j : ℕ) → j < place → endOf s j ≤ low
+  pub ahead : place + 1 < s .count → high ≤ endOf s place
+
+-- the walk's place at a page, from the one before: the next one if there is one and its area has ended
+abbrev nextPlace : Areas → ℕ → ℕ → ℕ
+nextPlace s place page = place + 1 when (ltb (place + 1) (s .count) && leb (endOf s place) page) else place
 
 -- a walk that has come to a page with the area of its place in hand
 pub record Standing (s : Areas) (page place : ℕ) (a : Area) : Type 0 where
@@ -121,8 +139,18 @@ module _ (s : Areas) (F : Formed s) where
     abbrev left : Bool
     left = ltb (place + 1) (s .count) && leb (a .first .0 + a .pages) (page + 1)
 
-    pub stand-stays : left ≡ false → Standing s (page + 1) place a
-    stand-stays e = record { reached = rw (rw (h .area) at e) at (walk-on page place (h .reached)); area = h .area }
+    stays : left ≡ false → Standing s (page + 1) place a
+    stays e = record { reached = rw (rw (h .area) at e) at (walk-on page place (h .reached)); area = h .area }
 
-    pub stand-goes : left ≡ true → Standing s (page + 1) (place + 1) (at (place + 1))
-    stand-goes e = record { reached = rw (rw (h .area) at e) at (walk-on page place (h .reached)); area = refl }
+    goes : left ≡ true → Standing s (page + 1) (place + 1) (at (place + 1))
+    goes e = record { reached = rw (rw (h .area) at e) at (walk-on page place (h .reached)); area = refl }
+
+    -- where the area is left there is a next place
+    pub stand-more : (r : Bool) → r ≡ left → r ≡ true → place + 1 < 8
+    stand-more r e t = goes (sym e ∙ t) .reached .small
+
+    -- at the page after, with the next area in hand where this one was left
+    pub stand-next : (r : Bool) (p : ℕ) (b : Area) → r ≡ left
+        → ((r ≡ true) × (p ≡ place + 1) × (b ≡ at (place + 1))) ⊎ ((r ≡ false) × (p ≡ place) × (b ≡ a))
+        → Standing s (page + 1) p b
+    stand-next r p b e = ⊎-elim (λ w. rw (w .1, w .2) (goes (sym e ∙ w .0))) (λ w. rw (w .1, w .2) (stays (sym e ∙ w .0)))

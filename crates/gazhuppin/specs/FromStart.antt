@@ -9,7 +9,9 @@ use Rattle.state.specs.World.{worldOf}
 use Rattle.state.specs.Start.{startedBy}
 use Rattle.roll.specs.Play.{Played}
 
--- with room for a reply of 19 bytes a line, the whole roll is played from what a start leaves, its lines numbered from 1; without it nothing is touched
+-- With room in out for "3 fields a line, same columns" (19 bytes with the line feed), the whole roll is played from what a start leaves, "line number from 1";
+-- where a lent length is wrong that is "refusal 3 on each line not refused 1 or 2", and pool and table as they were. Lent memory of the wrong length "changes
+-- nothing": without that room, neither pool nor table nor out.
 pub record FromStart (image roll pool₀ table₀ out₀ pool table out : List ℕ) (lines : ℕ) : Type 0 where
   pub answered : linesOf (length roll) * 19 ≤ length out₀ → lines ≡ linesOf (length roll)
   pub played : linesOf (length roll) * 19 ≤ length out₀

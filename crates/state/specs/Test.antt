@@ -40,7 +40,7 @@ pageOk present snapshot front back =
     && (implies (isCommitted present) (sameBacking (backingAt present) (backingAt snapshot))
     && (implies (not (isMapped present)) (eqb front 0) && implies (not (isMapped snapshot)) (eqb back 0))))
 
--- no entry of page i names a frame
+-- page i has neither front nor back: "fronts stand on mapped pages only, backs on snapshot pages only", of a page in neither
 abbrev pub namesNone : Store → ℕ → ℕ → Bool
 namesNone st s i = eqb (entry st (frontOf s i)) 0 && eqb (entry st (backOf s i)) 0
 

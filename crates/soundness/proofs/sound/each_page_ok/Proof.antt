@@ -1,7 +1,7 @@
 use native.Mathlib.Omega.{arith}
-use Prim.Native.Nat.{ℕ, _+_, _-_, _≤_}
+use Prim.Native.Nat.{ℕ, _+_, _-_, _≤_, _<_}
 use mathlib.Core.Path.{_≡_, refl, sym, _∙_}
-use mathlib.Core.Logic.{⊎-elim}
+use mathlib.Core.Logic.{inl, inr, ⊎-elim}
 use mathlib.Core.Bool.{Bool}
 use mathlib.Core.List.{List}
 use lib.ListN.{getD}
@@ -11,8 +11,8 @@ use Rattle.basics.specs.Ranges.{every}
 use Rattle.basics.proofs.LoopLaws.{every-next, every-stop, every-end}
 use Rattle.table.specs.Store.{frontOf, backOf}
 use Rattle.areas.specs.declared.area.Areas.{Areas}
-use Rattle.areas.specs.Areas.{none, slots}
-use Rattle.areas.proofs.WalkLaws.{Standing, stand-start, stand-slot, stand-near, stand-stays, stand-goes}
+use Rattle.areas.specs.Areas.{slots}
+use Rattle.areas.proofs.WalkLaws.{Standing, stand-start, stand-slot, stand-near, stand-more, stand-next}
 use Rattle.state.specs.Test.{pageOk, pagesOk}
 use Rattle.soundness.proofs.sound.each_page_ok.Statement.{statement}
 use Rattle.soundness.proofs.sound.each_page_ok.Tie as tie
@@ -44,31 +44,31 @@ tested c =
       stand-slot (s .args .t2) (s .pre .1 .1 .1) (l .i) (l .q) (l .there) (l .inv .3),
     )
 
-present-goes : (c : tie.Then2 Inv-loop μ-loop) → Standing (c .before .before .before .before .before .before .before .before .before .before .before .before .before .args .t1) (c .before .before .before .before .before .before .before .before .before .loop .i + 1) (c .before .before .before .before .before .before .before .before .before .loop .p + 1) (getD (c .before .before .before .before .before .before .before .before .before .before .before .before .before .args .t1 .list) (c .before .before .before .before .before .before .before .before .before .loop .p + 1) none)
-present-goes c =
+present-more : (c : tie.Then2 Inv-loop μ-loop) → c .before .before .before .before .before .before .before .before .before .loop .p + 1 < 8
+present-more c =
     let s = c .before .before .before .before .before .before .before .before .before .before .before .before .before in
     let l = c .before .before .before .before .before .before .before .before .before .loop in
-    stand-goes (s .args .t1) (s .pre .1 .1 .0) (l .i) (l .p) (l .here) (l .inv .2) (sym (c .before .is-left .ensures) ∙ c .if2 .taken)
+    stand-more (s .args .t1) (s .pre .1 .1 .0) (l .i) (l .p) (l .here) (l .inv .2) (c .before .is-left .result) (c .before .is-left .ensures) (c .if2 .taken)
 
 present-at : (c : tie.Joined2 Inv-loop μ-loop) → Standing (c .before .before .before .before .before .before .before .before .before .before .before .before .before .args .t1) (c .before .before .before .before .before .before .before .before .before .loop .i + 1) (c .if2 .p) (c .if2 .here)
 present-at c =
     let s = c .before .before .before .before .before .before .before .before .before .before .before .before .before in
     let l = c .before .before .before .before .before .before .before .before .before .loop in
-    ⊎-elim (λ w. rw (w .2, w .3) (present-goes (record { before = c .before; if2 = w .0 })))
-    (λ w. rw (w .1, w .2) (stand-stays (s .args .t1) (s .pre .1 .1 .0) (l .i) (l .p) (l .here) (l .inv .2) (sym (c .before .is-left .ensures) ∙ w .0 .left))) (c .if2 .came)
+    stand-next (s .args .t1) (s .pre .1 .1 .0) (l .i) (l .p) (l .here) (l .inv .2) (c .before .is-left .result) (c .if2 .p) (c .if2 .here) (c .before .is-left .ensures)
+    (⊎-elim (λ w. inl (w .0 .taken, w .2, w .3)) (λ w. inr (w .0 .left, w .1, w .2)) (c .if2 .came))
 
-snapshot-goes : (c : tie.Then3 Inv-loop μ-loop) → Standing (c .before .before .before .before .before .before .before .before .before .before .before .before .before .before .before .args .t2) (c .before .before .before .before .before .before .before .before .before .before .before .loop .i + 1) (c .before .before .before .before .before .before .before .before .before .before .before .loop .q + 1) (getD (c .before .before .before .before .before .before .before .before .before .before .before .before .before .before .before .args .t2 .list) (c .before .before .before .before .before .before .before .before .before .before .before .loop .q + 1) none)
-snapshot-goes c =
+snapshot-more : (c : tie.Then3 Inv-loop μ-loop) → c .before .before .before .before .before .before .before .before .before .before .before .loop .q + 1 < 8
+snapshot-more c =
     let s = c .before .before .before .before .before .before .before .before .before .before .before .before .before .before .before in
     let l = c .before .before .before .before .before .before .before .before .before .before .before .loop in
-    stand-goes (s .args .t2) (s .pre .1 .1 .1) (l .i) (l .q) (l .there) (l .inv .3) (sym (c .before .is-left2 .ensures) ∙ c .if3 .taken)
+    stand-more (s .args .t2) (s .pre .1 .1 .1) (l .i) (l .q) (l .there) (l .inv .3) (c .before .is-left2 .result) (c .before .is-left2 .ensures) (c .if3 .taken)
 
 snapshot-at : (c : tie.Joined3 Inv-loop μ-loop) → Standing (c .before .before .before .before .before .before .before .before .before .before .before .before .before .before .before .args .t2) (c .before .before .before .before .before .before .before .before .before .before .before .loop .i + 1) (c .if3 .q) (c .if3 .there)
 snapshot-at c =
     let s = c .before .before .before .before .before .before .before .before .before .before .before .before .before .before .before in
     let l = c .before .before .before .before .before .before .before .before .before .before .before .loop in
-    ⊎-elim (λ w. rw (w .2, w .3) (snapshot-goes (record { before = c .before; if3 = w .0 })))
-    (λ w. rw (w .1, w .2) (stand-stays (s .args .t2) (s .pre .1 .1 .1) (l .i) (l .q) (l .there) (l .inv .3) (sym (c .before .is-left2 .ensures) ∙ w .0 .left))) (c .if3 .came)
+    stand-next (s .args .t2) (s .pre .1 .1 .1) (l .i) (l .q) (l .there) (l .inv .3) (c .before .is-left2 .result) (c .if3 .q) (c .if3 .there) (c .before .is-left2 .ensures)
+    (⊎-elim (λ w. inl (w .0 .taken, w .2, w .3)) (λ w. inr (w .0 .left, w .1, w .2)) (c .if3 .came))
 
 element-copy-out-here : tie.Need-element-copy-out-here Inv-loop μ-loop
 element-copy-out-here c = search needs
@@ -116,16 +116,16 @@ is-left-requires : tie.Need-is-left-requires Inv-loop μ-loop
 is-left-requires c κs = c .before .before .before .before .before .before .before .loop .inv .2 .reached .small
 
 add-p : tie.Need-add-p Inv-loop μ-loop
-add-p c = omega (arith, present-goes c .reached .small)
+add-p c = omega (arith, present-more c)
 
 cast-here : tie.Need-cast-here Inv-loop μ-loop
 cast-here c = search needs
 
 mul-here : tie.Need-mul-here Inv-loop μ-loop
-mul-here c = omega (arith, present-goes c .reached .small)
+mul-here c = omega (arith, present-more c)
 
 element-copy-out-here-2 : tie.Need-element-copy-out-here-2 Inv-loop μ-loop
-element-copy-out-here-2 c = omega (arith, present-goes c .reached .small)
+element-copy-out-here-2 c = omega (arith, present-more c)
 
 add-t26-2 : tie.Need-add-t26-2 Inv-loop μ-loop
 add-t26-2 c = omega (arith, c .before .before .before .before .before .before .before .before .loop-test .taken)
@@ -134,16 +134,16 @@ is-left-requires-2 : tie.Need-is-left-requires-2 Inv-loop μ-loop
 is-left-requires-2 c κs = c .before .before .before .before .before .before .before .before .before .loop .inv .3 .reached .small
 
 add-q : tie.Need-add-q Inv-loop μ-loop
-add-q c = omega (arith, snapshot-goes c .reached .small)
+add-q c = omega (arith, snapshot-more c)
 
 cast-there : tie.Need-cast-there Inv-loop μ-loop
 cast-there c = search needs
 
 mul-there : tie.Need-mul-there Inv-loop μ-loop
-mul-there c = omega (arith, snapshot-goes c .reached .small)
+mul-there c = omega (arith, snapshot-more c)
 
 element-copy-out-there-2 : tie.Need-element-copy-out-there-2 Inv-loop μ-loop
-element-copy-out-there-2 c = omega (arith, snapshot-goes c .reached .small)
+element-copy-out-there-2 c = omega (arith, snapshot-more c)
 
 add-i : tie.Need-add-i Inv-loop μ-loop
 add-i c = omega arith

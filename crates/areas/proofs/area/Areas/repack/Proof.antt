@@ -1,14 +1,13 @@
-use Prim.Native.Nat.{_+_, _-_, _≤_}
+use Prim.Native.Nat.{_+_, _-_, _≤_, _<_}
 use mathlib.Core.Path.{_≡_, sym, _∙_, ap}
-use mathlib.Core.Logic.{⊎-elim}
+use mathlib.Core.Logic.{inl, inr, ⊎-elim}
 use native.Mathlib.Omega.{arith}
-use lib.ListN.{getD}
 use borrow.Author.Needs.{needs}
 use Rattle.areas.specs.Pack.{packTo, changed}
-use Rattle.areas.specs.Areas.{none, slots}
+use Rattle.areas.specs.Areas.{slots}
 use Rattle.areas.proofs.ChangeLaws.{repack-step}
 use Rattle.areas.proofs.PushLaws.{count-pack, push-none}
-use Rattle.areas.proofs.WalkLaws.{Standing, stand-start, stand-slot, stand-near, stand-stays, stand-goes}
+use Rattle.areas.proofs.WalkLaws.{Standing, stand-start, stand-slot, stand-near, stand-more, stand-next}
 use Rattle.areas.proofs.area.Areas.repack.Statement.{statement}
 use Rattle.areas.proofs.area.Areas.repack.Tie as tie
 
@@ -19,19 +18,19 @@ Inv-loop first n change self packed₀ place₀ area₀ i₀ packed place area i
 abbrev μ-loop : tie.MeasureT-loop
 μ-loop first n change self packed₀ place₀ area₀ i₀ packed place area i = 64 - i
 
--- where the walk is at the next page
-goes : (c : tie.Then1 Inv-loop μ-loop) → Standing (c .before .before .before .before .before .before .before .before .args .t1) (c .before .before .before .before .before .loop .i + 1) (c .before .before .before .before .before .loop .place + 1) (getD (c .before .before .before .before .before .before .before .before .args .t1 .list) (c .before .before .before .before .before .loop .place + 1) none)
-goes c =
+-- where the area is left there is a next one, and the walk stands at the next page
+more : (c : tie.Then1 Inv-loop μ-loop) → c .before .before .before .before .before .loop .place + 1 < 8
+more c =
     let s = c .before .before .before .before .before .before .before .before in
     let l = c .before .before .before .before .before .loop in
-    stand-goes (s .args .t1) (s .pre .0) (l .i) (l .place) (l .area) (l .inv .2) (sym (c .before .is-left .ensures) ∙ c .if1 .taken)
+    stand-more (s .args .t1) (s .pre .0) (l .i) (l .place) (l .area) (l .inv .2) (c .before .is-left .result) (c .before .is-left .ensures) (c .if1 .taken)
 
 walked : (c : tie.Joined1 Inv-loop μ-loop) → Standing (c .before .before .before .before .before .before .before .before .args .t1) (c .before .before .before .before .before .loop .i + 1) (c .if1 .place) (c .if1 .area)
 walked c =
     let s = c .before .before .before .before .before .before .before .before in
     let l = c .before .before .before .before .before .loop in
-    ⊎-elim (λ w. rw (w .2, w .3) (goes (record { before = c .before; if1 = w .0 })))
-    (λ w. rw (w .1, w .2) (stand-stays (s .args .t1) (s .pre .0) (l .i) (l .place) (l .area) (l .inv .2) (sym (c .before .is-left .ensures) ∙ w .0 .left))) (c .if1 .came)
+    stand-next (s .args .t1) (s .pre .0) (l .i) (l .place) (l .area) (l .inv .2) (c .before .is-left .result) (c .if1 .place) (c .if1 .area) (c .before .is-left .ensures)
+    (⊎-elim (λ w. inl (w .0 .taken, w .2, w .3)) (λ w. inr (w .0 .left, w .1, w .2)) (c .if1 .came))
 
 start-requires : tie.Need-start-requires Inv-loop μ-loop
 start-requires c κs = tt
@@ -59,16 +58,16 @@ is-left-requires : tie.Need-is-left-requires Inv-loop μ-loop
 is-left-requires c κs = c .before .before .before .loop .inv .2 .reached .small
 
 add-place : tie.Need-add-place Inv-loop μ-loop
-add-place c = omega (arith, goes c .reached .small)
+add-place c = omega (arith, more c)
 
 cast-area : tie.Need-cast-area Inv-loop μ-loop
 cast-area c = search needs
 
 mul-area : tie.Need-mul-area Inv-loop μ-loop
-mul-area c = omega (arith, goes c .reached .small)
+mul-area c = omega (arith, more c)
 
 element-copy-out-area-2 : tie.Need-element-copy-out-area-2 Inv-loop μ-loop
-element-copy-out-area-2 c = omega (arith, goes c .reached .small)
+element-copy-out-area-2 c = omega (arith, more c)
 
 is-mapped-requires : tie.Need-is-mapped-requires Inv-loop μ-loop
 is-mapped-requires c κs = tt
