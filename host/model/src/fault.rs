@@ -6,7 +6,7 @@ pub enum Fault {
     #[default]
     None,
 
-    // "Plausible and wrong".
+    // MACHINE 15.1: "Plausible and wrong".
     /// "Handing out a rewound area's old address": a map at 64 prefers the place of
     /// an area that the last rewind took away.
     HandsOutRewoundPlace,
@@ -23,7 +23,7 @@ pub enum Fault {
     /// "Restoring bytes but not rights."
     RewindKeepsRights,
 
-    // "What a contract must hold", item 3.
+    // MACHINE 15.2: "What a contract must hold", item 3.
     /// "a rewind that leaves the pages dirty".
     RewindLeavesPagesDirty,
     /// "one that restores after the first request and merely reports success later".
@@ -37,7 +37,7 @@ pub enum Fault {
     /// "one with a constant reply".
     ConstantReply,
 
-    // Slips near the rules.
+    // Slips near the rules of MACHINE 2 to 6.
     /// A rewind keeps fronts of snapshot pages that were mapped anew.
     RewindKeepsAllFronts,
     /// A rewind frees the fronts that it should keep.

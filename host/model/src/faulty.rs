@@ -10,7 +10,7 @@ use crate::roll::Call;
 use crate::sandbox::{Sandbox, AREAS};
 use std::sync::Arc;
 
-/// What a wrong machine remembers of a sandbox beyond what the right one keeps.
+/// Beyond MACHINE 9.2: what a wrong machine remembers of a sandbox.
 #[derive(Clone, Copy, Default)]
 struct Memory {
     rewinds: usize,
@@ -18,7 +18,7 @@ struct Memory {
     rewound: Option<(usize, usize)>,
 }
 
-/// The plain machine built with a fault; with `Fault::None` it is the right one.
+/// MACHINE 15: The plain machine built with a fault; with `Fault::None` it is the right one.
 #[derive(Clone)]
 pub struct Faulty {
     machine: Machine,
@@ -27,17 +27,19 @@ pub struct Faulty {
 }
 
 impl Faulty {
+    /// MACHINE 9.3: fresh, with a fault.
     pub fn fresh(image: &[u8], frames: usize, fault: Fault) -> Faulty {
         let machine = Machine::fresh(image, frames);
         Faulty { machine, fault, memory: [Memory::default(); SANDBOXES] }
     }
 
-    /// What the wrong machine keeps.
+    /// MACHINE 9.2: What the wrong machine keeps.
     pub fn machine(&self) -> &Machine {
         &self.machine
     }
 
-    /// Where a faulty map at 64 puts its pages; `None` for the right place.
+    /// Against MACHINE 4.14: Where a faulty map at 64 puts its pages; `None` for the
+    /// right place.
     fn wrong_place(&self, call: &Call) -> Option<usize> {
         let sandbox = self.machine.sandboxes.get(usize::from(call.sandbox))?;
         let count = usize::from(call.parameters[1]);
@@ -62,7 +64,7 @@ impl Faulty {
         }
     }
 
-    /// The answer to a call that the right machine refuses.
+    /// Against MACHINE 6: The answer to a call that the right machine refuses.
     fn spoil_refused(&mut self, call: &Call, number: u16) -> Reply {
         let sandbox = &mut self.machine.sandboxes[usize::from(call.sandbox)];
         let [p1, p2, p3, ..] = call.parameters;
@@ -103,8 +105,8 @@ impl Faulty {
         (0, 0)
     }
 
-    /// The answer to a call that the right machine accepts, with `before` the sandbox
-    /// as it was.
+    /// Against MACHINE 9.6 to 9.14: The answer to a call that the right machine accepts,
+    /// with `before` the sandbox as it was.
     fn spoil_accepted(&mut self, call: &Call, before: Box<Sandbox>, value: u32) -> Reply {
         let number = usize::from(call.sandbox);
         let memory = &mut self.memory[number];
@@ -172,6 +174,7 @@ impl Faulty {
 }
 
 impl Answering for Faulty {
+    /// Against MACHINE 9.5: lets the right machine answer, then spoils.
     fn answer(&mut self, call: &Call) -> Reply {
         if self.fault == Fault::ConstantReply {
             return (0, 0);
@@ -189,11 +192,13 @@ impl Answering for Faulty {
     }
 }
 
+/// Against MACHINE 6.2: a refusal where none applies; the sandbox stays.
 fn refuse(sandbox: &mut Box<Sandbox>, before: Box<Sandbox>, refusal: Refusal) -> Reply {
     *sandbox = before;
     (refusal as u16, 0)
 }
 
+/// Against MACHINE 9.12: what a wrong rewind leaves.
 fn spoil_rewind(fault: Fault, rewinds: usize, sandbox: &mut Sandbox, before: &Sandbox) {
     if fault == Fault::RewindsOnlyOnce && rewinds > 1 {
         *sandbox = before.clone();
@@ -215,7 +220,8 @@ fn spoil_rewind(fault: Fault, rewinds: usize, sandbox: &mut Sandbox, before: &Sa
     }
 }
 
-/// The snapshot's bytes of the pages just mapped become those of their backing.
+/// Against MACHINE 4.15: The snapshot's bytes of the pages just mapped become those of
+/// their backing.
 fn drop_snapshot_frames(sandbox: &mut Sandbox, before: &Sandbox, image: &[[u8; PAGE_BYTES]]) {
     let Some(copy) = &mut sandbox.copy else { return };
     let kept_pages = Arc::make_mut(copy).iter_mut();
@@ -231,6 +237,7 @@ fn drop_snapshot_frames(sandbox: &mut Sandbox, before: &Sandbox, image: &[[u8; P
     }
 }
 
+/// MACHINE 9.7: the pages just mapped, with what they were.
 fn newly_mapped<'a>(
     sandbox: &'a mut Sandbox,
     before: &'a Sandbox,
@@ -239,16 +246,18 @@ fn newly_mapped<'a>(
     pairs.filter(|(page, was)| page.mapped && !was.mapped)
 }
 
-/// A page with neither front nor back, over an image page.
+/// MACHINE 3.2: A page with neither front nor back, over an image page.
 fn reads_image(page: &Page) -> bool {
     let framed = page.front || (page.committed && page.back);
     !framed && page.backing != Backing::Anonymous
 }
 
+/// MACHINE 4.13: a snapshot page without a back, over an image page.
 fn reads_image_in_copy(page: &Page) -> bool {
     !page.back && page.backing != Backing::Anonymous
 }
 
+/// Against MACHINE 2.7: areas, if image pages never ran on.
 fn areas_with_split_image(sandbox: &Sandbox) -> usize {
     let mut pages = sandbox.pages;
     for page in pages.iter_mut().filter(|page| page.backing != Backing::Anonymous) {
@@ -257,11 +266,13 @@ fn areas_with_split_image(sandbox: &Sandbox) -> usize {
     count_areas(&pages)
 }
 
+/// MACHINE 4.14: how many unmapped pages run from this one on.
 fn unmapped_from(sandbox: &Sandbox, first: usize) -> usize {
     sandbox.pages[first..].iter().take_while(|page| !page.mapped).count()
 }
 
-/// The lowest run of pages mapped since the snapshot, which a rewind takes away.
+/// MACHINE 4.16: The lowest run of pages mapped since the snapshot, which a rewind takes
+/// away.
 fn lowest_new_area(sandbox: &Sandbox) -> Option<(usize, usize)> {
     let new = |page: &Page| page.mapped && !page.committed;
     let start = sandbox.pages.iter().position(new)?;

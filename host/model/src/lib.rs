@@ -1,7 +1,8 @@
 //! The plain machine of "Rewinding sandboxes: pages, frames and the call roll",
 //! and the player of its roll.
 //!
-//! Sentences in quotation marks are the document's. The machine knows no frames:
+//! Sentences in quotation marks are the document's; MACHINE and a number is a clause of
+//! docs/MACHINE.md, which states the document whole. The machine knows no frames:
 //! where a program holds a frame, it keeps a front or a back mark on a page.
 //!
 //! Read in this order:

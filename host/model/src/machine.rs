@@ -6,14 +6,14 @@ use crate::roll::Call;
 use crate::sandbox::{Sandbox, AREAS};
 use std::ops::RangeInclusive;
 
-/// "Four sandboxes stand in a row, numbered 0 to 3."
+/// MACHINE 2.1: "Four sandboxes stand in a row, numbered 0 to 3."
 pub const SANDBOXES: usize = 4;
-/// "The pool is 1 to 128 frames".
+/// MACHINE 1.1: "The pool is 1 to 128 frames".
 pub const FRAMES: RangeInclusive<usize> = 1..=128;
-/// "The image, read only, is 0 to 64 pages".
+/// MACHINE 1.2: "The image, read only, is 0 to 64 pages".
 pub const IMAGE_PAGES: RangeInclusive<usize> = 0..=64;
 
-/// The table "Turned back"; the discriminant is the number answered.
+/// MACHINE 6, the table: "Turned back"; the discriminant is the number answered.
 #[derive(Clone, Copy, PartialEq, Eq, Debug)]
 pub enum Refusal {
     Malformed = 1,
@@ -32,28 +32,30 @@ pub enum Refusal {
     TooManyAreas = 14,
 }
 
-/// Number and value of an answer: "A refusal answers its number and value 0"; an
-/// accepted call has number 0.
+/// MACHINE 4.2 and 6.1: Number and value of an answer: "A refusal answers its number and
+/// value 0"; an accepted call has number 0.
 pub type Reply = (u16, u32);
 
-/// Whatever answers calls one after the other: the plain machine, a wrong one, or
-/// a program under test.
+/// MACHINE 4.2: Whatever answers calls one after the other: the plain machine, a wrong
+/// one, or a program under test.
 pub trait Answering {
+    /// MACHINE 4.2: the number and the value.
     fn answer(&mut self, call: &Call) -> Reply;
 }
 
-/// The plain machine, "fed each call's code, sandbox and parameters, with the image
-/// and the pool's number of frames".
+/// MACHINE 9.1 and 9.2: The plain machine, "fed each call's code, sandbox and parameters,
+/// with the image and the pool's number of frames".
 #[derive(Clone, PartialEq, Eq, Debug)]
 pub struct Machine {
-    /// `None` where a lent length is wrong: then every call is refused 3.
+    /// MACHINE 1.5: `None` where a lent length is wrong: then every call is refused 3.
     pub(crate) image: Option<Vec<[u8; PAGE_BYTES]>>,
     pub(crate) frames: usize,
     pub(crate) sandboxes: [Box<Sandbox>; SANDBOXES],
 }
 
 impl Machine {
-    /// "Fresh, all are closed, nothing is mapped or marked, and there is no copy."
+    /// MACHINE 9.3, and 1.5 for the lengths: "Fresh, all are closed, nothing is mapped or
+    /// marked, and there is no copy."
     pub fn fresh(image: &[u8], frames: usize) -> Machine {
         let sandboxes = std::array::from_fn(|_| Box::new(Sandbox::closed()));
         Machine {
@@ -63,7 +65,7 @@ impl Machine {
         }
     }
 
-    /// One call: the number (0 when accepted) and the value.
+    /// MACHINE 4.1 and 4.2: One call: the number (0 when accepted) and the value.
     #[allow(clippy::too_many_arguments)]
     pub fn call(
         &mut self,
@@ -78,30 +80,35 @@ impl Machine {
         self.answer(&Call { code, sandbox, parameters: [p1, p2, p3, p4, p5] })
     }
 
+    /// MACHINE 9.2: what is kept for a sandbox.
     pub fn sandbox(&self, number: usize) -> &Sandbox {
         &self.sandboxes[number]
     }
 
+    /// MACHINE 9.1: the pool's number of frames.
     pub fn frames(&self) -> usize {
         self.frames
     }
 
-    /// Whether every lent length is right, so that a start clears pool and table.
+    /// MACHINE 1.5 and 7.1: Whether every lent length is right, so that a start clears
+    /// pool and table.
     pub fn lengths_are_right(&self) -> bool {
         self.image.is_some()
     }
 
-    /// The image, empty where its length is wrong.
+    /// MACHINE 1.2: The image, empty where its length is wrong.
     pub fn image(&self) -> &[[u8; PAGE_BYTES]] {
         self.image.as_deref().unwrap_or(&[])
     }
 
+    /// MACHINE 5.2: "the shares together".
     pub fn shares(&self) -> usize {
         self.sandboxes.iter().map(|sandbox| sandbox.share).sum()
     }
 
-    /// The sandbox as the call would leave it, with the call's value; or the first
-    /// refusal that applies: "When several apply, the lowest number is answered."
+    /// MACHINE 6.2 and 6.4: The sandbox as the call would leave it, with the call's
+    /// value; or the first refusal that applies: "When several apply, the lowest number
+    /// is answered."
     fn outcome(&self, call: &Call) -> Result<(Box<Sandbox>, u32), Refusal> {
         // 2: "call code not 1 to 9".
         refuse(!(1..=9).contains(&call.code), Refusal::UnknownCode)?;
@@ -130,7 +137,7 @@ impl Machine {
 }
 
 impl Answering for Machine {
-    /// "It refuses by the table below [...] and then stays as it was."
+    /// MACHINE 9.5: "It refuses by the table below [...] and then stays as it was."
     fn answer(&mut self, call: &Call) -> Reply {
         match self.outcome(call) {
             Ok((after, value)) => {
@@ -142,13 +149,14 @@ impl Answering for Machine {
     }
 }
 
-/// The image's pages, if it is whole pages and not too many.
+/// MACHINE 1.5: The image's pages, if it is whole pages and not too many.
 fn whole_pages(image: &[u8]) -> Option<Vec<[u8; PAGE_BYTES]>> {
     let pages = image.chunks(PAGE_BYTES).map(|page| page.try_into().ok());
     let pages: Vec<_> = pages.collect::<Option<_>>()?;
     IMAGE_PAGES.contains(&pages.len()).then_some(pages)
 }
 
+/// MACHINE 6.2: this refusal, where its condition applies.
 fn refuse(applies: bool, refusal: Refusal) -> Result<(), Refusal> {
     if applies {
         Err(refusal)
@@ -157,8 +165,8 @@ fn refuse(applies: bool, refusal: Refusal) -> Result<(), Refusal> {
     }
 }
 
-/// Refusals 7 to 12, then what the request does and its value: "Value 0 where none
-/// is named."
+/// MACHINE 6, rows 7 to 12, and 9.6 to 9.14: what the call meets, then what the request
+/// does and its value: "Value 0 where none is named."
 fn carry_out(
     sandbox: &mut Sandbox,
     request: Request,

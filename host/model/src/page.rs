@@ -1,11 +1,11 @@
 //! One page, and how neighbouring pages form areas.
 
-/// "frames of 256 bytes": a page has as many.
+/// MACHINE 3.1: "frames of 256 bytes": a page has as many.
 pub const PAGE_BYTES: usize = 256;
-/// "Each has 64 pages".
+/// MACHINE 3.1: "Each has 64 pages".
 pub const PAGES: usize = 64;
 
-/// "Each area has a backing: anonymous, or image with its first image page."
+/// MACHINE 2.4: "Each area has a backing: anonymous, or image with its first image page."
 /// For a single page that is the image page standing under it.
 #[derive(Clone, Copy, PartialEq, Eq, Debug)]
 pub enum Backing {
@@ -14,7 +14,7 @@ pub enum Backing {
 }
 
 impl Backing {
-    /// The backing of the page `distance` pages further on in the same area.
+    /// MACHINE 2.6: The backing of the page `distance` pages further on in the same area.
     pub fn further(self, distance: usize) -> Backing {
         match self {
             Backing::Anonymous => Backing::Anonymous,
@@ -23,7 +23,7 @@ impl Backing {
     }
 }
 
-/// "for each of 64 pages whether it is mapped, its backing, rights, mark,
+/// MACHINE 9.2: "for each of 64 pages whether it is mapped, its backing, rights, mark,
 /// 256 bytes, and two marks more, front and back".
 #[derive(Clone, Copy, PartialEq, Eq, Debug)]
 pub struct Page {
@@ -41,7 +41,7 @@ pub struct Page {
 }
 
 impl Page {
-    /// "nothing is mapped or marked".
+    /// MACHINE 9.3: "nothing is mapped or marked".
     pub const FRESH: Page = Page {
         mapped: false,
         backing: Backing::Anonymous,
@@ -52,7 +52,8 @@ impl Page {
         back: false,
     };
 
-    /// Both mapped, and "agree in rights, mark and backing (image pages running on)".
+    /// MACHINE 2.7: Both mapped, and "agree in rights, mark and backing (image pages
+    /// running on)".
     fn same_area_as_next(&self, next: &Page) -> bool {
         self.mapped
             && next.mapped
@@ -62,11 +63,11 @@ impl Page {
     }
 }
 
-/// The 64 pages of a sandbox, or of its snapshot.
+/// MACHINE 9.2: The 64 pages of a sandbox, or of its snapshot.
 pub type Pages = [Page; PAGES];
 
-/// "Areas are the longest runs of neighbouring pages that agree": an area begins
-/// at every mapped page that does not go on from the page before it.
+/// MACHINE 2.7: "Areas are the longest runs of neighbouring pages that agree": an area
+/// begins at every mapped page that does not go on from the page before it.
 pub fn count_areas(pages: &Pages) -> usize {
     let begins_area =
         |at: usize| pages[at].mapped && (at == 0 || !pages[at - 1].same_area_as_next(&pages[at]));

@@ -6,16 +6,18 @@ use crate::machine::Refusal;
 use crate::page::{Backing, PAGES, PAGE_BYTES};
 use std::ops::Range;
 
-/// "Each has 64 pages, so addresses 0 to 16,383."
+/// MACHINE 3.1: "Each has 64 pages, so addresses 0 to 16,383."
 pub const ADDRESSES: usize = PAGES * PAGE_BYTES;
 
-/// Where a map puts its pages: "p1 first page, or 64 for the lowest gap that fits".
+/// MACHINE 4.14: Where a map puts its pages: "p1 first page, or 64 for the lowest gap
+/// that fits".
 #[derive(Clone, PartialEq, Eq, Debug)]
 pub enum Place {
     Named(usize),
     LowestGap,
 }
 
+/// MACHINE 4.4: the calls, with parameters inside their limits.
 #[derive(Clone, PartialEq, Eq, Debug)]
 pub enum Request {
     Open { share: usize },
@@ -30,7 +32,7 @@ pub enum Request {
 }
 
 impl Request {
-    /// The request of a call whose code is 1 to 9.
+    /// MACHINE 4.4 and 4.5: The request of a call whose code is 1 to 9.
     pub fn within_limits(
         code: u16,
         parameters: [u16; 5],
@@ -96,6 +98,7 @@ impl Request {
     }
 }
 
+/// MACHINE 6, row 6: what is outside a limit is refused.
 fn limit(holds: bool) -> Result<(), Refusal> {
     if holds {
         Ok(())
@@ -104,18 +107,18 @@ fn limit(holds: bool) -> Result<(), Refusal> {
     }
 }
 
-/// "those unused must be 0".
+/// MACHINE 4.3: "those unused must be 0".
 fn unused(parameters: &[usize]) -> Result<(), Refusal> {
     limit(parameters.iter().all(|&parameter| parameter == 0))
 }
 
-/// "first page, 0 to 63; p2 pages, 1 to 64", and not "past page 63".
+/// MACHINE 4.4, unmap: "first page, 0 to 63; p2 pages, 1 to 64", and not "past page 63".
 fn named_pages(first: usize, count: usize) -> Result<Range<usize>, Refusal> {
     limit(first < PAGES && (1..=PAGES).contains(&count) && first + count <= PAGES)?;
     Ok(first..first + count)
 }
 
-/// "rights, 1 for read or 3 for read and write".
+/// MACHINE 2.5: "rights, 1 for read or 3 for read and write".
 fn rights(parameter: usize) -> Result<u16, Refusal> {
     match parameter {
         1 => Ok(1),
@@ -124,7 +127,7 @@ fn rights(parameter: usize) -> Result<u16, Refusal> {
     }
 }
 
-/// An address is a page and an offset in it.
+/// MACHINE 3.1: An address is a page and an offset in it.
 fn address(parameter: usize) -> Result<(usize, usize), Refusal> {
     limit(parameter < ADDRESSES)?;
     Ok((parameter / PAGE_BYTES, parameter % PAGE_BYTES))

@@ -2,13 +2,14 @@
 
 use crate::machine::{Answering, Machine, Refusal};
 
-/// "A line is 7 fields of 6 columns and a line feed, 43 bytes".
+/// MACHINE 12.1: "A line is 7 fields of 6 columns and a line feed, 43 bytes".
 pub const LINE_BYTES: usize = 7 * COLUMNS + 1;
-/// "Lines after the 65,535th are not read."
+/// MACHINE 12.5: "Lines after the 65,535th are not read."
 pub const LINES: usize = 65_535;
+/// MACHINE 12.1: the columns of a field.
 const COLUMNS: usize = 6;
 
-/// A line's fields: "call, sandbox, p1 to p5".
+/// MACHINE 4.1 and 12.1: A line's fields: "call, sandbox, p1 to p5".
 #[derive(Clone, Copy, PartialEq, Eq, Debug)]
 pub struct Call {
     pub code: u16,
@@ -16,7 +17,7 @@ pub struct Call {
     pub parameters: [u16; 5],
 }
 
-/// The call on a line; `None` where the line is malformed.
+/// MACHINE 12.1 and 12.3: The call on a line; `None` where the line is malformed.
 pub fn parse_line(line: &[u8]) -> Option<Call> {
     if line.len() != LINE_BYTES || line[LINE_BYTES - 1] != b'\n' {
         return None;
@@ -29,7 +30,8 @@ pub fn parse_line(line: &[u8]) -> Option<Call> {
     Some(Call { code, sandbox, parameters: [p1, p2, p3, p4, p5] })
 }
 
-/// "A field is a number 0 to 65,535, right-justified over blanks, no leading zeros."
+/// MACHINE 12.2: "A field is a number 0 to 65,535, right-justified over blanks, no
+/// leading zeros."
 fn parse_field(columns: &[u8]) -> Option<u16> {
     let blanks = columns.iter().take_while(|&&byte| byte == b' ').count();
     let digits = &columns[blanks..];
@@ -41,34 +43,35 @@ fn parse_field(columns: &[u8]) -> Option<u16> {
     u16::try_from(number).ok()
 }
 
-/// The line of a call.
+/// MACHINE 12.1: The line of a call.
 pub fn call_line(call: &Call) -> Vec<u8> {
     let [p1, p2, p3, p4, p5] = call.parameters;
     let fields = [call.code, call.sandbox, p1, p2, p3, p4, p5];
     print_fields(&fields.map(u32::from))
 }
 
-/// "It prints 3 fields a line, same columns: line number from 1, refusal number or
-/// 0, value."
+/// MACHINE 12.6: "It prints 3 fields a line, same columns: line number from 1, refusal
+/// number or 0, value."
 pub fn reply_line(line_number: usize, number: u16, value: u32) -> Vec<u8> {
     print_fields(&[line_number as u32, u32::from(number), value])
 }
 
+/// MACHINE 12.2: fields in their columns, and a line feed.
 fn print_fields(fields: &[u32]) -> Vec<u8> {
     let mut line: String = fields.iter().map(|field| format!("{field:>COLUMNS$}")).collect();
     line.push('\n');
     line.into_bytes()
 }
 
-/// What the player prints for a roll. The image is that of `image.bin` ("missing:
-/// empty; not whole pages or above 64: a wrong length, refusal 3 on each line not
-/// refused 1 or 2"); the document's player has 128 frames.
+/// MACHINE 13.1 and 13.2: What the player prints for a roll. The image is that of
+/// `image.bin` ("missing: empty; not whole pages or above 64: a wrong length, refusal 3
+/// on each line not refused 1 or 2"); the document's player has 128 frames.
 pub fn play(roll: &[u8], image: Option<&[u8]>, frames: usize) -> Vec<u8> {
     play_on(roll, &mut Machine::fresh(image.unwrap_or(&[]), frames))
 }
 
-/// "a malformed line is refused and the next 43 bytes follow. A short last line is
-/// malformed."
+/// MACHINE 12.4 to 12.6: "a malformed line is refused and the next 43 bytes follow. A
+/// short last line is malformed."
 pub fn play_on(roll: &[u8], machine: &mut dyn Answering) -> Vec<u8> {
     let mut printed = Vec::new();
     for (index, line) in roll.chunks(LINE_BYTES).take(LINES).enumerate() {

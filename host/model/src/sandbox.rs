@@ -6,10 +6,10 @@ use crate::page::{count_areas, Backing, Page, Pages, PAGES, PAGE_BYTES};
 use std::ops::Range;
 use std::sync::Arc;
 
-/// "A sandbox has at most 8" areas.
+/// MACHINE 2.7: "A sandbox has at most 8" areas.
 pub const AREAS: usize = 8;
 
-/// "For each sandbox it keeps whether it is open, its share, and for each of
+/// MACHINE 9.2: "For each sandbox it keeps whether it is open, its share, and for each of
 /// 64 pages [...]; from its snapshot on, also a copy of these pages."
 #[derive(Clone, PartialEq, Eq, Debug)]
 pub struct Sandbox {
@@ -21,24 +21,27 @@ pub struct Sandbox {
 }
 
 impl Sandbox {
-    /// "Fresh, all are closed, nothing is mapped or marked, and there is no copy."
+    /// MACHINE 9.3: "Fresh, all are closed, nothing is mapped or marked, and there is no
+    /// copy."
     pub fn closed() -> Sandbox {
         Sandbox { open: false, share: 0, pages: [Page::FRESH; PAGES], copy: None }
     }
 
     // Counts.
 
+    /// MACHINE 9.4: the areas, counted by 2.7.
     pub fn areas(&self) -> usize {
         count_areas(&self.pages)
     }
 
+    /// MACHINE 5.1: "its mapped pages".
     pub fn mapped_pages(&self) -> usize {
         self.pages.iter().filter(|page| page.mapped).count()
     }
 
-    /// "The charge of a sandbox is its mapped pages before a snapshot. Afterwards
-    /// it is 2 × the snapshot's pages, mapped or not, plus the uncommitted mapped
-    /// pages."
+    /// MACHINE 5.1: "The charge of a sandbox is its mapped pages before a snapshot.
+    /// Afterwards it is 2 × the snapshot's pages, mapped or not, plus the uncommitted
+    /// mapped pages."
     pub fn charge(&self) -> usize {
         match &self.copy {
             None => self.mapped_pages(),
@@ -51,7 +54,7 @@ impl Sandbox {
         }
     }
 
-    /// "report counts front and back marks".
+    /// MACHINE 9.14: "report counts front and back marks".
     pub fn held(&self) -> usize {
         let fronts = self.pages.iter().filter(|page| page.front).count();
         let backs = self.pages.iter().filter(|page| page.back).count();
@@ -60,30 +63,32 @@ impl Sandbox {
 
     // Questions about pages.
 
+    /// MACHINE 6, row 9: whether no page of these is unmapped.
     pub fn all_mapped(&self, pages: Range<usize>) -> bool {
         self.pages[pages].iter().all(|page| page.mapped)
     }
 
+    /// MACHINE 6, row 10: whether no page of these is mapped.
     pub fn none_mapped(&self, pages: Range<usize>) -> bool {
         self.pages[pages].iter().all(|page| !page.mapped)
     }
 
-    /// "the lowest gap that fits": the first page of the lowest `count` unmapped
-    /// pages in a row.
+    /// MACHINE 4.14: "the lowest gap that fits": the first page of the lowest `count`
+    /// unmapped pages in a row.
     pub fn lowest_gap(&self, count: usize) -> Option<usize> {
         (0..=PAGES - count).find(|&first| self.none_mapped(first..first + count))
     }
 
     // What the calls do.
 
-    /// "Open makes the sandbox open and stores the share."
+    /// MACHINE 9.6: "Open makes the sandbox open and stores the share."
     pub fn open(&mut self, share: usize) {
         self.open = true;
         self.share = share;
     }
 
-    /// "Map makes the pages mapped and uncommitted, with backing, rights and bytes,
-    /// zero or the image's." A back mark stays: it is the snapshot's.
+    /// MACHINE 9.7: "Map makes the pages mapped and uncommitted, with backing, rights and
+    /// bytes, zero or the image's." A back mark stays: it is the snapshot's.
     pub fn map(
         &mut self,
         pages: Range<usize>,
@@ -105,7 +110,7 @@ impl Sandbox {
         }
     }
 
-    /// "Unmap takes away mapping, mark and front mark."
+    /// MACHINE 9.8: "Unmap takes away mapping, mark and front mark."
     pub fn unmap(&mut self, pages: Range<usize>) {
         for page in &mut self.pages[pages] {
             page.mapped = false;
@@ -114,21 +119,21 @@ impl Sandbox {
         }
     }
 
-    /// "Protect stores the rights."
+    /// MACHINE 9.9: "Protect stores the rights."
     pub fn protect(&mut self, pages: Range<usize>, rights: u16) {
         for page in &mut self.pages[pages] {
             page.rights = rights;
         }
     }
 
-    /// "Write stores the byte and sets its page's front mark."
+    /// MACHINE 9.10: "Write stores the byte and sets its page's front mark."
     pub fn write(&mut self, page: usize, offset: usize, byte: u8) {
         self.pages[page].bytes[offset] = byte;
         self.pages[page].front = true;
     }
 
-    /// "Snapshot commits every mapped page, turns front marks into back marks and
-    /// copies all pages." Gives the "pages committed".
+    /// MACHINE 9.11: "Snapshot commits every mapped page, turns front marks into back
+    /// marks and copies all pages." Gives the "pages committed".
     pub fn snapshot(&mut self) -> usize {
         for page in &mut self.pages {
             page.committed = page.mapped;
@@ -139,8 +144,8 @@ impl Sandbox {
         self.mapped_pages()
     }
 
-    /// "Rewind puts the whole copy in place; a front mark stays only where the page
-    /// was still committed."
+    /// MACHINE 9.12: "Rewind puts the whole copy in place; a front mark stays only where
+    /// the page was still committed."
     pub fn rewind(&mut self, copy: &Pages) {
         for (page, kept) in self.pages.iter_mut().zip(copy) {
             let front = page.front && page.committed;
