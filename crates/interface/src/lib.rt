@@ -1,5 +1,5 @@
 // What the machine and its callers speak of: requests, answers, refusals, limits, and what a page is.
-// It promises document 01's number and value for each answer, and one table of refusals (specs/Refusal) that every machine decides by.
+// It promises document 01's number and value for each answer, and one table of refusals (specs/Refusals) that every machine decides by.
 // It stands on `basics` alone.
 pub mod answer;
 pub mod limits;
