@@ -4,7 +4,7 @@ use mathlib.Core.Path.{_≡_, sym, _∙_, ap}
 use mathlib.Core.Bool.{true, false, not, _&&_, _||_}
 use native.Mathlib.Omega.{arith}
 use lib.Dec.{leb, ltb, eqb}
-use borrow.Author.Tests.{leb-true, leb-false, eqb-false, le-leb, lt-ltb, le-ltb, eq-eqb, not-false}
+use borrow.Author.Tests.{leb-true, leb-false, eqb-false, le-leb, lt-ltb, le-ltb, eq-eqb, ne-eqb, not-false}
 use Rattle.basics.specs.Choice.{_when_else_}
 use Rattle.basics.proofs.TestLaws.{by-cases, and-right, and-not-right, or-left, or-right}
 use Rattle.interface.specs.declared.answer.Refusal.{Refusal}
@@ -18,7 +18,6 @@ use Rattle.interface.specs.Refusals.{View, isTaken, allMapped, slotsThen, charg
 use Rattle.interface.proofs.KindLaws.{kind}
 use Rattle.interface.proofs.AcceptedLaws.{gap-some, gap-found, gap-fits}
 use Rattle.interface.proofs.RowLaws.{Settled, row-14}
-use Rattle.areas.specs.declared.area.Areas.{Areas}
 use Rattle.areas.specs.declared.pack.Packed.{Packed}
 use Rattle.areas.specs.Areas.{slots}
 use Rattle.areas.proofs.PackLaws.{pack-fits}
@@ -210,12 +209,14 @@ module _ (v : View) (q : Request) where
 -- ---- decisions
 
 module _ (v : View) (q : Request) (b : Sandbox) where
-  -- a refusal that says the number of the table
-  pub refused : (why : Refusal) (a : Areas) (r : Decision) → r ≡ record { verdict = Refused why; areas = a } → 0 < refusalNumber why → refusalNumber why ≡ refusal v q → Decided v q b r
-  refused why a r told some e = rw told (record { number = e; areas = λ z. absurd (omega (arith, some, e, z)) })
+  -- a refusal that says the number of the table and leaves the areas
+  pub refused : (why : Refusal) (r : Decision) → r ≡ record { verdict = Refused why; areas = b .present } → 0 < refusalNumber why → refusalNumber why ≡ refusal v q → Decided v q b r
+  refused why r told some e =
+      let no : eqb (refusal v q) 0 ≡ false = ne-eqb (refusal v q) 0 (λ z. omega (arith, some, e, z)) in
+      rw told (record { number = e; areas = rw no })
 
   pub accepted : (p : Packed) → p ≡ packedAfter q b → 0 ≡ refusal v q → Decided v q b (record { verdict = Accepted; areas = p .areas })
-  accepted p told e = record { number = e; areas = λ z. ap (λ x. x .areas) told }
+  accepted p told e = record { number = e; areas = rw (← e) (ap (λ x. x .areas) told) }
 
 -- whether there is a snapshot
 pub taken-copy : (b : Sandbox) → isTaken (copyOf b) ≡ b .taken

@@ -1,9 +1,12 @@
--- What is decided of a request: refused or accepted, and the areas that result.
+-- What is decided of a request: refused or accepted, and the sandbox's areas afterwards.
 use mathlib.Core.Path.{_≡_}
 use Prim.Native.Nat.{ℕ}
+use lib.Dec.{eqb}
+use Rattle.basics.specs.Choice.{_when_else_}
 use Rattle.interface.specs.declared.request.Request.{Request}
 use Rattle.interface.specs.Answers.{refusalNumber}
 use Rattle.interface.specs.Refusals.{View, refusal}
+use Rattle.areas.specs.declared.area.Areas.{Areas}
 use Rattle.areas.specs.Areas.{slots}
 use Rattle.state.specs.declared.sandbox.Sandbox.{Sandbox}
 use Rattle.state.specs.World.{copyOf}
@@ -29,7 +32,11 @@ viewFrom frames images shares b = record {
   copy = copyOf b;
 }
 
--- the verdict is that of the table, and the areas of an accepted request are those that result
+-- the areas afterwards: those that result where the request is accepted, the present ones where it is refused ("state .. unchanged")
+abbrev pub areasLeft : View → Request → Sandbox → Areas
+areasLeft v q b = presentAfter q b when eqb (refusal v q) 0 else b .present
+
+-- the verdict is that of the table, and the areas are those afterwards
 pub record Decided (v : View) (q : Request) (b : Sandbox) (r : Decision) : Type 0 where
   pub number : verdictNumber (r .verdict) ≡ refusal v q
-  pub areas : refusal v q ≡ 0 → r .areas ≡ presentAfter q b
+  pub areas : r .areas ≡ areasLeft v q b

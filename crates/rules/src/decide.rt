@@ -24,7 +24,7 @@ pub enum Verdict {
     Refused(Refusal),
 }
 
-// A verdict, and the areas that an accepted request leaves.
+// A verdict, and the areas that the request leaves: those that result, or, where it is refused, the present ones.
 pub struct Decision {
     pub verdict: Verdict,
     pub areas: Areas,
@@ -73,7 +73,7 @@ pub fn decide(b: Sandbox, frames: u8, images: u8, shares: u16, q: Request) -> De
     let packed = packed_after(b, images, q);
     let areas = packed.areas;
     if !packed.fits {
-        return refuse(areas, Refusal::TooManyAreas);
+        return refuse(present, Refusal::TooManyAreas);
     }
     Decision {
         verdict: Verdict::Accepted,
@@ -81,12 +81,12 @@ pub fn decide(b: Sandbox, frames: u8, images: u8, shares: u16, q: Request) -> De
     }
 }
 
-// A refusal; its areas say nothing.
-fn refuse(areas: Areas, why: Refusal) -> Decision
-    ensures { λ r. ⌜ r ≡ record { verdict = Verdict.Refused why; areas = areas } ⌝ }
+// A refusal; the present areas stay.
+fn refuse(present: Areas, why: Refusal) -> Decision
+    ensures { λ r. ⌜ r ≡ record { verdict = Verdict.Refused why; areas = present } ⌝ }
 {
     Decision {
         verdict: Verdict::Refused(why),
-        areas: areas,
+        areas: present,
     }
 }

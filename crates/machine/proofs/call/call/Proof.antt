@@ -42,7 +42,7 @@ module _ (c : tie.Start) (row : c .args .q .sandbox < 4) (shares : ℕ) (all : s
 
   areas-here : refusal (viewAt (c .args .image .now) (worldOf (c .args .machine) (c .args .pool .now) (c .args .table .now)) (c .args .q .sandbox)) (c .args .q) ≡ 0
       → d .areas ≡ presentAfter (c .args .q) (sandboxAt (worldOf (c .args .machine) (c .args .pool .now) (c .args .table .now)) (c .args .q .sandbox))
-  areas-here n = t .areas (rw (all, same-sandbox c row) n) ∙ rw (same-sandbox c row)
+  areas-here n = t .areas ∙ rw (all, same-sandbox c row, n)
 
 refuse-requires : tie.Need-refuse-requires
 refuse-requires c κs = search needs

@@ -60,13 +60,13 @@ refuse-requires : tie.Need-refuse-requires
 refuse-requires c κs = search needs
 
 returns : tie.Need-returns
-returns c = refused _ _ _ NotOpen _ (c .refuse .result) (c .refuse .ensures) (omega arith) (not-open _ _ (c .before .before .before .before .before .pre .0) (le-ltb 3 _ (c .before .before .before .before .before .pre .1 .0)) (c .before .if1 .taken))
+returns c = refused _ _ _ NotOpen (c .refuse .result) (c .refuse .ensures) (omega arith) (not-open _ _ (c .before .before .before .before .before .pre .0) (le-ltb 3 _ (c .before .before .before .before .before .pre .1 .0)) (c .before .if1 .taken))
 
 refuse-requires-2 : tie.Need-refuse-requires-2
 refuse-requires-2 c κs = search needs
 
 returns-2 : tie.Need-returns-2
-returns-2 c = refused _ _ _ AlreadyOpen _ (c .refuse2 .result) (c .refuse2 .ensures) (omega arith) (already-open _ _ (past-open (c .before .before .before .before)) (c .before .if2 .taken))
+returns-2 c = refused _ _ _ AlreadyOpen (c .refuse2 .result) (c .refuse2 .ensures) (omega arith) (already-open _ _ (past-open (c .before .before .before .before)) (c .before .if2 .taken))
 
 within-limits-requires : tie.Need-within-limits-requires
 within-limits-requires c κs = search needs
@@ -75,19 +75,19 @@ refuse-requires-3 : tie.Need-refuse-requires-3
 refuse-requires-3 c κs = search needs
 
 returns-3 : tie.Need-returns-3
-returns-3 c = refused _ _ _ OutsideLimits _ (c .refuse3 .result) (c .refuse3 .ensures) (omega arith) (outside-limits _ _ (past-closed (c .before .before .before)) (sym (c .before .before .within-limits .ensures) ∙ not-true (c .before .before .within-limits .result) (c .before .if3 .taken)))
+returns-3 c = refused _ _ _ OutsideLimits (c .refuse3 .result) (c .refuse3 .ensures) (omega arith) (outside-limits _ _ (past-closed (c .before .before .before)) (sym (c .before .before .within-limits .ensures) ∙ not-true (c .before .before .within-limits .result) (c .before .if3 .taken)))
 
 refuse-requires-4 : tie.Need-refuse-requires-4
 refuse-requires-4 c κs = search needs
 
 returns-4 : tie.Need-returns-4
-returns-4 c = refused _ _ _ SnapshotTaken _ (c .refuse4 .result) (c .refuse4 .ensures) (omega arith) (snapshot-taken _ _ (past-limits (c .before .before .before .before)) (rw (taken-copy (c .before .before .before .before .before .before .before .before .before .before .before .before .before .args .b)) (c .before .if4 .taken)))
+returns-4 c = refused _ _ _ SnapshotTaken (c .refuse4 .result) (c .refuse4 .ensures) (omega arith) (snapshot-taken _ _ (past-limits (c .before .before .before .before)) (rw (taken-copy (c .before .before .before .before .before .before .before .before .before .before .before .before .before .args .b)) (c .before .if4 .taken)))
 
 refuse-requires-5 : tie.Need-refuse-requires-5
 refuse-requires-5 c κs = search needs
 
 returns-5 : tie.Need-returns-5
-returns-5 c = refused _ _ _ NoSnapshot _ (c .refuse5 .result) (c .refuse5 .ensures) (omega arith) (no-snapshot _ _ (past-untaken (c .before .before .before .before)) (rw (taken-copy (c .before .before .before .before .before .before .before .before .before .before .before .before .before .before .before .before .args .b)) (c .before .if5 .taken)))
+returns-5 c = refused _ _ _ NoSnapshot (c .refuse5 .result) (c .refuse5 .ensures) (omega arith) (no-snapshot _ _ (past-untaken (c .before .before .before .before)) (rw (taken-copy (c .before .before .before .before .before .before .before .before .before .before .before .before .before .before .before .before .args .b)) (c .before .if5 .taken)))
 
 all-mapped-requires : tie.Need-all-mapped-requires
 all-mapped-requires c κs = (near-present (c .before .before .before .before .before .before .before .before .before .before .before .before .before .before .before), fits (c .before .before .before .before .before .before))
@@ -96,7 +96,7 @@ refuse-requires-6 : tie.Need-refuse-requires-6
 refuse-requires-6 c κs = search needs
 
 returns-6 : tie.Need-returns-6
-returns-6 c = refused _ _ _ NotMapped _ (c .refuse6 .result) (c .refuse6 .ensures) (omega arith) (not-mapped _ _ (past-taken (c .before .before .before)) (sym (c .before .before .all-mapped .ensures) ∙ not-true (c .before .before .all-mapped .result) (c .before .if6 .taken)))
+returns-6 c = refused _ _ _ NotMapped (c .refuse6 .result) (c .refuse6 .ensures) (omega arith) (not-mapped _ _ (past-taken (c .before .before .before)) (sym (c .before .before .all-mapped .ensures) ∙ not-true (c .before .before .all-mapped .result) (c .before .if6 .taken)))
 
 meets-mapped-requires : tie.Need-meets-mapped-requires
 meets-mapped-requires c κs = (near-present (c .before .before .before .before .before .before .before .before .before .before .before .before .before .before .before .before .before), fits (c .before .before .before .before .before .before .before .before))
@@ -105,7 +105,7 @@ refuse-requires-7 : tie.Need-refuse-requires-7
 refuse-requires-7 c κs = search needs
 
 returns-7 : tie.Need-returns-7
-returns-7 c = refused _ _ _ AlreadyMapped _ (c .refuse7 .result) (c .refuse7 .ensures) (omega arith) (already-mapped _ _ (past-mapped (c .before .before .before)) (sym (c .before .before .meets-mapped .ensures) ∙ c .before .if7 .taken))
+returns-7 c = refused _ _ _ AlreadyMapped (c .refuse7 .result) (c .refuse7 .ensures) (omega arith) (already-mapped _ _ (past-mapped (c .before .before .before)) (sym (c .before .before .meets-mapped .ensures) ∙ c .before .if7 .taken))
 
 lacks-gap-requires : tie.Need-lacks-gap-requires
 lacks-gap-requires c κs = (near-present (c .before .before .before .before .before .before .before .before .before .before .before .before .before .before .before .before .before .before .before), fits (c .before .before .before .before .before .before .before .before .before .before))
@@ -114,7 +114,7 @@ refuse-requires-8 : tie.Need-refuse-requires-8
 refuse-requires-8 c κs = search needs
 
 returns-8 : tie.Need-returns-8
-returns-8 c = refused _ _ _ NoGap _ (c .refuse8 .result) (c .refuse8 .ensures) (omega arith) (no-gap _ _ (past-free (c .before .before .before)) (sym (c .before .before .lacks-gap .ensures) ∙ c .before .if8 .taken))
+returns-8 c = refused _ _ _ NoGap (c .refuse8 .result) (c .refuse8 .ensures) (omega arith) (no-gap _ _ (past-free (c .before .before .before)) (sym (c .before .before .lacks-gap .ensures) ∙ c .before .if8 .taken))
 
 lacks-right-requires : tie.Need-lacks-right-requires
 lacks-right-requires c κs = (near-present (c .before .before .before .before .before .before .before .before .before .before .before .before .before .before .before .before .before .before .before .before .before), fits (c .before .before .before .before .before .before .before .before .before .before .before .before))
@@ -123,7 +123,7 @@ refuse-requires-9 : tie.Need-refuse-requires-9
 refuse-requires-9 c κs = search needs
 
 returns-9 : tie.Need-returns-9
-returns-9 c = refused _ _ _ NotWritable _ (c .refuse9 .result) (c .refuse9 .ensures) (omega arith) (not-writable _ _ (past-gap (c .before .before .before)) (sym (c .before .before .lacks-right .ensures) ∙ c .before .if9 .taken))
+returns-9 c = refused _ _ _ NotWritable (c .refuse9 .result) (c .refuse9 .ensures) (omega arith) (not-writable _ _ (past-gap (c .before .before .before)) (sym (c .before .before .lacks-right .ensures) ∙ c .before .if9 .taken))
 
 exceeds-requires : tie.Need-exceeds-requires
 exceeds-requires c κs = (c .before .before .before .before .before .before .before .before .before .before .before .before .before .before .before .before .before .before .before .before .before .before .before .pre .1 .1 .0, (c .before .before .before .before .before .before .before .before .before .before .before .before .before .before .before .before .before .before .before .before .before .before .before .pre .1 .1 .1 .0, (passed-of _ _ (c .before .before .before .before .before .before .before .before .before .before .before .before .before .before .before .before .before .before .before .before .before .before .before .pre .1 .1 .0 .few) (past-gap (c .before .before)), c .before .before .before .before .before .before .before .before .before .before .before .before .before .before .before .before .before .before .before .before .before .before .before .pre .1 .1 .1 .1)))
@@ -132,7 +132,7 @@ refuse-requires-10 : tie.Need-refuse-requires-10
 refuse-requires-10 c κs = search needs
 
 returns-10 : tie.Need-returns-10
-returns-10 c = refused _ _ _ ShareExceeded _ (c .refuse10 .result) (c .refuse10 .ensures) (omega arith) (share-exceeded _ _ (past-right (c .before .before .before)) (sym (c .before .before .exceeds .ensures) ∙ c .before .if10 .taken))
+returns-10 c = refused _ _ _ ShareExceeded (c .refuse10 .result) (c .refuse10 .ensures) (omega arith) (share-exceeded _ _ (past-right (c .before .before .before)) (sym (c .before .before .exceeds .ensures) ∙ c .before .if10 .taken))
 
 packed-after-requires : tie.Need-packed-after-requires
 packed-after-requires c κs = (c .before .before .before .before .before .before .before .before .before .before .before .before .before .before .before .before .before .before .before .before .before .before .before .before .before .pre .1 .1 .0, fits (c .before .before .before .before .before .before .before .before .before .before .before .before .before .before .before .before))
@@ -141,7 +141,7 @@ refuse-requires-11 : tie.Need-refuse-requires-11
 refuse-requires-11 c κs = search needs
 
 returns-11 : tie.Need-returns-11
-returns-11 c = refused _ _ _ TooManyAreas _ (c .refuse11 .result) (c .refuse11 .ensures) (omega arith) (too-many _ _ (past-share (c .before .before .before .before .before)) (sym (packed-row (c .before .before .before .before .before .before .before .before .before .before .before .before .before .before .before .before .before .before .before .before .before .before .before .before .before .before .before .before .before .before .args .frames) (c .before .before .before .before .before .before .before .before .before .before .before .before .before .before .before .before .before .before .before .before .before .before .before .before .before .before .before .before .before .before .args .images) (c .before .before .before .before .before .before .before .before .before .before .before .before .before .before .before .before .before .before .before .before .before .before .before .before .before .before .before .before .before .before .args .shares) (c .before .before .before .before .before .before .before .before .before .before .before .before .before .before .before .before .before .before .before .before .before .before .before .before .before .before .before .before .before .before .args .b) (c .before .before .before .before .before .before .before .before .before .before .before .before .before .before .before .before .before .before .before .before .before .before .before .before .before .before .before .before .before .before .args .q) (c .before .before .before .before .before .before .before .before .before .before .before .before .before .before .before .before .before .before .before .before .before .before .before .before .before .before .before .before .before .before .pre .1 .1 .1 .0) (c .before .before .before .before .packed-after .result) (c .before .before .before .before .packed-after .ensures)) ∙ not-true (c .before .before .before .before .packed-after .result .fits) (c .before .if11 .taken)))
+returns-11 c = refused _ _ _ TooManyAreas (c .refuse11 .result) (c .refuse11 .ensures) (omega arith) (too-many _ _ (past-share (c .before .before .before .before .before)) (sym (packed-row (c .before .before .before .before .before .before .before .before .before .before .before .before .before .before .before .before .before .before .before .before .before .before .before .before .before .before .before .before .before .before .args .frames) (c .before .before .before .before .before .before .before .before .before .before .before .before .before .before .before .before .before .before .before .before .before .before .before .before .before .before .before .before .before .before .args .images) (c .before .before .before .before .before .before .before .before .before .before .before .before .before .before .before .before .before .before .before .before .before .before .before .before .before .before .before .before .before .before .args .shares) (c .before .before .before .before .before .before .before .before .before .before .before .before .before .before .before .before .before .before .before .before .before .before .before .before .before .before .before .before .before .before .args .b) (c .before .before .before .before .before .before .before .before .before .before .before .before .before .before .before .before .before .before .before .before .before .before .before .before .before .before .before .before .before .before .args .q) (c .before .before .before .before .before .before .before .before .before .before .before .before .before .before .before .before .before .before .before .before .before .before .before .before .before .before .before .before .before .before .pre .1 .1 .1 .0) (c .before .before .before .before .packed-after .result) (c .before .before .before .before .packed-after .ensures)) ∙ not-true (c .before .before .before .before .packed-after .result .fits) (c .before .if11 .taken)))
 
 returns-12 : tie.Need-returns-12
 returns-12 c = accepted _ _ _ (c .before .before .before .packed-after .result) (c .before .before .before .packed-after .ensures) (none-applies _ _ (past-share (c .before .before .before .before)) (sym (packed-row (c .before .before .before .before .before .before .before .before .before .before .before .before .before .before .before .before .before .before .before .before .before .before .before .before .before .before .before .before .before .args .frames) (c .before .before .before .before .before .before .before .before .before .before .before .before .before .before .before .before .before .before .before .before .before .before .before .before .before .before .before .before .before .args .images) (c .before .before .before .before .before .before .before .before .before .before .before .before .before .before .before .before .before .before .before .before .before .before .before .before .before .before .before .before .before .args .shares) (c .before .before .before .before .before .before .before .before .before .before .before .before .before .before .before .before .before .before .before .before .before .before .before .before .before .before .before .before .before .args .b) (c .before .before .before .before .before .before .before .before .before .before .before .before .before .before .before .before .before .before .before .before .before .before .before .before .before .before .before .before .before .args .q) (c .before .before .before .before .before .before .before .before .before .before .before .before .before .before .before .before .before .before .before .before .before .before .before .before .before .before .before .before .before .pre .1 .1 .1 .0) (c .before .before .before .packed-after .result) (c .before .before .before .packed-after .ensures)) ∙ not-false (c .before .before .before .packed-after .result .fits) (c .if11 .left)))
