@@ -141,10 +141,16 @@ refuse-requires-11 : tie.Need-refuse-requires-11
 refuse-requires-11 c κs = search needs
 
 returns-11 : tie.Need-returns-11
-returns-11 c = refused _ _ _ TooManyAreas (c .refuse11 .result) (c .refuse11 .ensures) (omega arith) (too-many _ _ (past-share (c .before .before .before .before .before)) (sym (packed-row (c .before .before .before .before .before .before .before .before .before .before .before .before .before .before .before .before .before .before .before .before .before .before .before .before .before .before .before .before .before .before .args .frames) (c .before .before .before .before .before .before .before .before .before .before .before .before .before .before .before .before .before .before .before .before .before .before .before .before .before .before .before .before .before .before .args .images) (c .before .before .before .before .before .before .before .before .before .before .before .before .before .before .before .before .before .before .before .before .before .before .before .before .before .before .before .before .before .before .args .shares) (c .before .before .before .before .before .before .before .before .before .before .before .before .before .before .before .before .before .before .before .before .before .before .before .before .before .before .before .before .before .before .args .b) (c .before .before .before .before .before .before .before .before .before .before .before .before .before .before .before .before .before .before .before .before .before .before .before .before .before .before .before .before .before .before .args .q) (c .before .before .before .before .before .before .before .before .before .before .before .before .before .before .before .before .before .before .before .before .before .before .before .before .before .before .before .before .before .before .pre .1 .1 .1 .0) (c .before .before .before .before .packed-after .result) (c .before .before .before .before .packed-after .ensures)) ∙ not-true (c .before .before .before .before .packed-after .result .fits) (c .before .if11 .taken)))
+returns-11 c =
+    let start = c .before .before .before .before .before .before .before .before .before .before .before .before .before .before .before .before .before .before .before .before .before .before .before .before .before .before .before .before .before .before in
+    let packed = c .before .before .before .before .packed-after in
+    refused _ _ (start .args .b) TooManyAreas (c .refuse11 .result) (c .refuse11 .ensures) (omega arith) (too-many _ _ (past-share (c .before .before .before .before .before)) (sym (packed-row (start .args .frames) (start .args .images) (start .args .shares) (start .args .b) (start .args .q) (start .pre .1 .1 .1 .0) (packed .result) (packed .ensures)) ∙ not-true (packed .result .fits) (c .before .if11 .taken)))
 
 returns-12 : tie.Need-returns-12
-returns-12 c = accepted _ _ _ (c .before .before .before .packed-after .result) (c .before .before .before .packed-after .ensures) (none-applies _ _ (past-share (c .before .before .before .before)) (sym (packed-row (c .before .before .before .before .before .before .before .before .before .before .before .before .before .before .before .before .before .before .before .before .before .before .before .before .before .before .before .before .before .args .frames) (c .before .before .before .before .before .before .before .before .before .before .before .before .before .before .before .before .before .before .before .before .before .before .before .before .before .before .before .before .before .args .images) (c .before .before .before .before .before .before .before .before .before .before .before .before .before .before .before .before .before .before .before .before .before .before .before .before .before .before .before .before .before .args .shares) (c .before .before .before .before .before .before .before .before .before .before .before .before .before .before .before .before .before .before .before .before .before .before .before .before .before .before .before .before .before .args .b) (c .before .before .before .before .before .before .before .before .before .before .before .before .before .before .before .before .before .before .before .before .before .before .before .before .before .before .before .before .before .args .q) (c .before .before .before .before .before .before .before .before .before .before .before .before .before .before .before .before .before .before .before .before .before .before .before .before .before .before .before .before .before .pre .1 .1 .1 .0) (c .before .before .before .packed-after .result) (c .before .before .before .packed-after .ensures)) ∙ not-false (c .before .before .before .packed-after .result .fits) (c .if11 .left)))
+returns-12 c =
+    let start = c .before .before .before .before .before .before .before .before .before .before .before .before .before .before .before .before .before .before .before .before .before .before .before .before .before .before .before .before .before in
+    let packed = c .before .before .before .packed-after in
+    accepted _ _ (start .args .b) (packed .result) (packed .ensures) (none-applies _ _ (past-share (c .before .before .before .before)) (sym (packed-row (start .args .frames) (start .args .images) (start .args .shares) (start .args .b) (start .args .q) (start .pre .1 .1 .1 .0) (packed .result) (packed .ensures)) ∙ not-false (packed .result .fits) (c .if11 .left)))
 
 pub decide-spec : {M : Type 1} → statement M
 decide-spec =
