@@ -1,4 +1,4 @@
--- Rows 13 and 14 where the limits hold already: which calls they can meet.
+-- Rows 13 and 14 over the view of a sound state: which calls they can meet.
 use Prim.Native.Nat.{ℕ, _-_, _≤_}
 use mathlib.Core.Path.{_≡_, sym}
 use mathlib.Core.Bool.{true, false, false≢true}
@@ -13,15 +13,9 @@ use Rattle.interface.specs.Requests.{_is_, Open, Map, Unmap, Protect, Sn
 use Rattle.interface.specs.Slots.{Slots, isMapped, isCommitted, withRights, areas, chargeOf, copied}
 use Rattle.interface.specs.Outcome.{slotsAfter, copyAfter, shareAfter}
 use Rattle.interface.specs.Refusals.{View, isTaken, slotsThen, chargeThen}
+use Rattle.interface.specs.Settled.{Settled}
 use Rattle.interface.proofs.KindLaws.{Kind, isMap, isUnmap, isProtect, isWrite, isSnapshot, isRewind, isOther}
 use Rattle.interface.proofs.ChargeLaws.{unmap-charge, protect-charge, rewind-charge}
-
--- a view within its limits: charge and areas of the present and of the snapshot, whose pages are committed
-pub record Settled (v : View) : Type 0 where
-  pub charged : chargeOf (v .slots) (v .copy) ≤ v .share
-  pub few : areas (v .slots) ≤ 8
-  pub copyFew : areas (copied (v .copy)) ≤ 8
-  pub copyMarked : (i : ℕ) → isMapped (copied (v .copy) i) ≡ true → isCommitted (copied (v .copy) i) ≡ true
 
 pub copy-charge : (f : Slots) (c : Option Slots) (share : ℕ) → isTaken c ≡ true → ((i : ℕ) → isMapped (copied c i) ≡ true → isCommitted (copied c i) ≡ true)
     → chargeOf f c ≤ share → chargeOf (copied c) c ≤ share

@@ -5,4 +5,5 @@ pub mod Slots
 pub mod Limits
 pub mod Outcome
 pub mod Refusals
+pub mod Settled
 pub mod Accepted

@@ -15,9 +15,10 @@ use Rattle.interface.specs.Limits.{within}
 use Rattle.interface.specs.Outcome.{firstOf, slotsAfter, shareAfter}
 use Rattle.interface.specs.Answers.{refusalNumber}
 use Rattle.interface.specs.Refusals.{View, isTaken, allMapped, slotsThen, chargeThen, refusal}
+use Rattle.interface.specs.Settled.{Settled}
 use Rattle.interface.proofs.KindLaws.{kind}
 use Rattle.interface.proofs.AcceptedLaws.{gap-some, gap-found, gap-fits}
-use Rattle.interface.proofs.RowLaws.{Settled, row-14}
+use Rattle.interface.proofs.RowLaws.{row-14}
 use Rattle.areas.specs.declared.pack.Packed.{Packed}
 use Rattle.areas.specs.Areas.{slots}
 use Rattle.areas.proofs.PackLaws.{pack-fits}

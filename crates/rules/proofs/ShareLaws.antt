@@ -14,9 +14,10 @@ use Rattle.interface.specs.Requests.{_is_, Open, Map, Snapshot}
 use Rattle.interface.specs.Slots.{isMapped, mappedPages, chargeOf}
 use Rattle.interface.specs.Outcome.{firstOf, newPage, slotsAfter, copyAfter, shareAfter}
 use Rattle.interface.specs.Refusals.{View, chargeThen}
+use Rattle.interface.specs.Settled.{Settled}
 use Rattle.interface.proofs.KindLaws.{kind}
 use Rattle.interface.proofs.ChargeLaws.{map-charge, snapshot-charge}
-use Rattle.interface.proofs.RowLaws.{Settled, row-13}
+use Rattle.interface.proofs.RowLaws.{row-13}
 use Rattle.areas.specs.Areas.{slots}
 use Rattle.state.specs.declared.sandbox.Sandbox.{Sandbox}
 use Rattle.state.specs.World.{copyOf}

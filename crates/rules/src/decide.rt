@@ -3,7 +3,7 @@ ghost use mathlib.Core.Path.{_≡_};
 ghost use mathlib.Core.Bool.{true};
 ghost use Prim.Native.Nat.{_≤_};
 ghost use Rattle.interface.specs.Requests.{isCall};
-ghost use Rattle.interface.proofs.RowLaws.{Settled};
+ghost use Rattle.interface.specs.Settled.{Settled};
 ghost use Rattle.rules.specs.Ready.{Ready};
 ghost use Rattle.rules.specs.Decision.{viewFrom, Decided};
 use crate::after::packed_after;

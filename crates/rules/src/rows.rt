@@ -7,7 +7,7 @@ ghost use Rattle.interface.specs.Requests.{_is_, Open, Map, Write, pageOf};
 ghost use Rattle.interface.specs.Slots.{allAre, lowestGap, rightsAt};
 ghost use Rattle.interface.specs.Outcome.{shareAfter};
 ghost use Rattle.interface.specs.Refusals.{allMapped, chargeThen};
-ghost use Rattle.interface.proofs.RowLaws.{Settled};
+ghost use Rattle.interface.specs.Settled.{Settled};
 ghost use Rattle.areas.specs.Areas.{slots, Near};
 ghost use Rattle.rules.specs.Ready.{Fit, Ready, Passed};
 ghost use Rattle.rules.specs.Decision.{viewFrom};

@@ -1,11 +1,11 @@
--- What refusals are decided from, in a sound state: a view within its limits.
+-- The view of a sandbox of a sound state is settled.
 use mathlib.Core.Path.{_≡_, sym, ap, _∙_}
 use mathlib.Core.List.{List}
 use Prim.Native.Nat.{ℕ, _<_}
 use lib.ListN.{length}
 use Rattle.basics.proofs.TestLaws.{by-cases}
 use Rattle.interface.specs.Slots.{copied}
-use Rattle.interface.proofs.RowLaws.{Settled}
+use Rattle.interface.specs.Settled.{Settled}
 use Rattle.table.specs.Store.{Store}
 use Rattle.areas.specs.Areas.{slots}
 use Rattle.areas.proofs.ChangeLaws.{none-slots}
