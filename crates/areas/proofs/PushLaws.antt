@@ -21,7 +21,7 @@ use Rattle.areas.specs.Areas.{slotOf}
 use Rattle.areas.specs.Pack.{goesOn, single, longer, last, continues, extended, added, push, packTo}
 use Rattle.areas.proofs.SlotLaws.{advance-zero}
 
-follows-true : (first second : Backing) (pages : ℕ) → follows first pages second ≡ true → advance first pages ≡ second
+pub follows-true : (first second : Backing) (pages : ℕ) → follows first pages second ≡ true → advance first pages ≡ second
 unfolding follows
 follows-true Anonymous Anonymous pages h = refl
 follows-true Anonymous (Image q) pages h = cc

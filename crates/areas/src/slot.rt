@@ -111,7 +111,7 @@ pub(crate) fn page_on(first: Attributes, pages: u8) -> Slot
 }
 
 // Whether the second backing is the first one, so many pages on.
-pub(crate) fn follows(first: Backing, pages: u8, second: Backing) -> bool
+pub fn follows(first: Backing, pages: u8, second: Backing) -> bool
     ensures { λ r. ⌜ r ≡ follows first pages second ⌝ }
 {
     match first {

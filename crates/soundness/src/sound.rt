@@ -8,12 +8,12 @@ ghost use Rattle.frames.specs.declared.Held.{Held as Words};
 ghost use Rattle.table.specs.Store.{kept};
 ghost use Rattle.areas.specs.Walk.{Formed};
 ghost use Rattle.state.specs.World.{worldOf, closedSandbox, wholePages, lengthsOk};
-ghost use Rattle.state.specs.Test.{sameBacking, namesNone, pageOk, pagesOk, recordOk, sandboxOk, soundb};
+ghost use Rattle.state.specs.Test.{namesNone, pageOk, pagesOk, recordOk, sandboxOk, soundb};
 use areas::area::Areas;
 use areas::slot::backing_at;
+use areas::slot::follows;
 use areas::slot::is_committed;
 use areas::slot::is_mapped;
-use interface::page::Backing;
 use interface::page::PageNo;
 use interface::page::Slot;
 use state::sandbox::Machine;
@@ -164,26 +164,11 @@ fn page_ok(present: Slot, snapshot: Slot, front: u16, back: u16) -> bool
         return (front == 0) & (back == 0);
     }
     let committed = is_committed(present);
-    let agrees = same_backing(backing_at(present), backing_at(snapshot));
+    let agrees = follows(backing_at(present), 0, backing_at(snapshot));
     let fronts = !!mapped | (front == 0);
     let backs = !!copied | (back == 0);
     (!copied | is_committed(snapshot))
         & ((!committed | copied) & ((!committed | agrees) & (fronts & backs)))
-}
-
-fn same_backing(first: Backing, second: Backing) -> bool
-    ensures { λ r. ⌜ r ≡ sameBacking first second ⌝ }
-{
-    match first {
-        Backing::Anonymous => match second {
-            Backing::Anonymous => true,
-            Backing::Image(_) => false,
-        },
-        Backing::Image(p) => match second {
-            Backing::Anonymous => false,
-            Backing::Image(q) => p.0 == q.0,
-        },
-    }
 }
 
 fn record_ok(opened: bool, share: u8, taken: bool, present: u8, snapshot: u8) -> bool

@@ -1,8 +1,8 @@
 -- The test of a sound state is true exactly of the sound states.
-use mathlib.Core.Path.{_≡_, refl, ap}
-use mathlib.Core.Bool.{Bool, true, false, not, _&&_, false≢true}
+use mathlib.Core.Path.{_≡_, refl, sym, _∙_, ap}
+use mathlib.Core.Bool.{Bool, true, false, not, _&&_}
 use mathlib.Core.List.{List}
-use Prim.Native.Nat.{ℕ, _*_, _%_, _≤_, _<_}
+use Prim.Native.Nat.{ℕ, _+_, _*_, _%_, _≤_, _<_}
 use native.Mathlib.Omega.{arith}
 use lib.Dec.{leb, ltb, eqb}
 use lib.ListN.{length}
@@ -13,7 +13,7 @@ use Rattle.basics.proofs.LoopLaws.{every-at, every-of}
 use Rattle.interface.specs.declared.page.Backing.{Backing}
 use Rattle.interface.specs.declared.page.Backing.the-variants.{Anonymous, Image}
 use Rattle.interface.specs.declared.page.Slot.{Slot}
-use Rattle.interface.specs.Slots.{isMapped, isCommitted, backingAt, chargeOf}
+use Rattle.interface.specs.Slots.{isMapped, isCommitted, backingAt, follows, chargeOf}
 use Rattle.interface.specs.Limits.{between}
 use Rattle.interface.proofs.SlotLaws.{committed-mapped, Inside}
 use Rattle.marks.specs.Marks.{marksb}
@@ -22,13 +22,15 @@ use Rattle.table.specs.Store.{Store, entry, frontOf, backOf}
 use Rattle.areas.specs.declared.area.Areas.{Areas}
 use Rattle.areas.specs.Areas.{slots, empty, Bounded}
 use Rattle.areas.specs.Formed.{WellFormed, wellFormed}
+use Rattle.areas.proofs.SlotLaws.{advance-zero}
+use Rattle.areas.proofs.PushLaws.{follows-true}
 use Rattle.areas.proofs.FormedLaws.{formed, formed-of}
 use Rattle.areas.proofs.KeptLaws.{slots-bounded}
 use Rattle.areas.proofs.ChangeLaws.{formed-empty}
 use Rattle.state.specs.declared.sandbox.Sandbox.{Sandbox}
 use Rattle.state.specs.World.{World, sandboxAt, copyOf, framesOf, pagesIn, wholePages, lengthsOk}
 use Rattle.state.specs.Sound.{SoundAt, Sound}
-use Rattle.state.specs.Test.{Typed, sameBacking, pageOk, pagesOk, recordOk, sandboxOk, sandboxesOk, soundb}
+use Rattle.state.specs.Test.{Typed, pageOk, pagesOk, recordOk, sandboxOk, sandboxesOk, soundb}
 
 not-of : (a : Bool) → a ≡ false → not a ≡ true
 not-of a e = rw e
@@ -67,15 +69,13 @@ lengths-of pool table image L =
 
 -- ---- a page
 
-backing-true : (a b : Backing) → sameBacking a b ≡ true → a ≡ b
-backing-true Anonymous Anonymous h = refl
-backing-true Anonymous (Image j) h = absurd (false≢true h)
-backing-true (Image i) Anonymous h = absurd (false≢true h)
-backing-true (Image i) (Image j) h = ap (λ (n : ℕ). Image (record { 0 = n })) (eqb-true (i .0) (j .0) h)
+backing-true : (a b : Backing) → follows a 0 b ≡ true → a ≡ b
+backing-true a b h = sym (advance-zero a) ∙ follows-true a b 0 h
 
-backing-self : (a : Backing) → sameBacking a a ≡ true
+backing-self : (a : Backing) → follows a 0 a ≡ true
+unfolding follows
 backing-self Anonymous = refl
-backing-self (Image i) = eq-eqb (i .0) (i .0) refl
+backing-self (Image i) = eq-eqb (i .0 + 0) (i .0) (omega arith)
 
 -- of a page's slot, the snapshot's, its front and its back entry
 record PageSound (present snapshot : Slot) (front back : ℕ) : Type 0 where
@@ -90,12 +90,12 @@ unfolding pageOk
 page-true present snapshot front back h =
     let h₁ = and-both (implies (isMapped snapshot) (isCommitted snapshot)) _ h in
     let h₂ = and-both (implies (isCommitted present) (isMapped snapshot)) _ (h₁ .1) in
-    let h₃ = and-both (implies (isCommitted present) (sameBacking (backingAt present) (backingAt snapshot))) _ (h₂ .1) in
+    let h₃ = and-both (implies (isCommitted present) (follows (backingAt present) 0 (backingAt snapshot))) _ (h₂ .1) in
     let h₄ = and-both (implies (not (isMapped present)) (eqb front 0)) _ (h₃ .1) in
     record {
       marked = implied (isMapped snapshot) (isCommitted snapshot) (h₁ .0);
       committed = implied (isCommitted present) (isMapped snapshot) (h₂ .0);
-      backing = λ c. backing-true _ _ (implied (isCommitted present) (sameBacking (backingAt present) (backingAt snapshot)) (h₃ .0) c);
+      backing = λ c. backing-true _ _ (implied (isCommitted present) (follows (backingAt present) 0 (backingAt snapshot)) (h₃ .0) c);
       fronts = λ m. eqb-true front 0 (implied (not (isMapped present)) (eqb front 0) (h₄ .0) (not-of _ m));
       backs = λ m. eqb-true back 0 (implied (not (isMapped snapshot)) (eqb back 0) (h₄ .1) (not-of _ m));
     }
@@ -105,7 +105,7 @@ unfolding pageOk
 page-of present snapshot front back P =
     and-of (implies-of (isMapped snapshot) (isCommitted snapshot) (P .marked))
     (and-of (implies-of (isCommitted present) (isMapped snapshot) (P .committed))
-    (and-of (implies-of (isCommitted present) (sameBacking (backingAt present) (backingAt snapshot)) (λ c. rw (P .backing c) (backing-self (backingAt snapshot))))
+    (and-of (implies-of (isCommitted present) (follows (backingAt present) 0 (backingAt snapshot)) (λ c. rw (P .backing c) (backing-self (backingAt snapshot))))
     (and-of (implies-of (not (isMapped present)) (eqb front 0) (λ m. eq-eqb front 0 (P .fronts (not-true _ m))))
     (implies-of (not (isMapped snapshot)) (eqb back 0) (λ m. eq-eqb back 0 (P .backs (not-true _ m)))))))
 

@@ -1,16 +1,14 @@
 -- The test of a sound state, as the code computes it. (proofs/TestLaws: it is true exactly of the sound states.)
 use mathlib.Core.Path.{_≡_}
-use mathlib.Core.Bool.{Bool, true, false, not, _&&_}
+use mathlib.Core.Bool.{Bool, not, _&&_}
 use mathlib.Core.List.{List}
 use Prim.Native.Nat.{ℕ, _^_, _<_}
 use lib.Dec.{leb, eqb}
 use lib.ListN.{length}
 use Rattle.basics.specs.Choice.{implies}
 use Rattle.basics.specs.Ranges.{every}
-use Rattle.interface.specs.declared.page.Backing.{Backing}
-use Rattle.interface.specs.declared.page.Backing.the-variants.{Anonymous, Image}
 use Rattle.interface.specs.declared.page.Slot.{Slot}
-use Rattle.interface.specs.Slots.{isMapped, isCommitted, backingAt, chargeOf}
+use Rattle.interface.specs.Slots.{isMapped, isCommitted, backingAt, follows, chargeOf}
 use Rattle.interface.specs.Limits.{between}
 use Rattle.marks.specs.Marks.{marksb}
 use Rattle.table.specs.Store.{Store, entry, frontOf, backOf}
@@ -26,18 +24,12 @@ pub record Typed (w : World) : Type 0 where
   pub low : w .store .marks .low < 2 ^ 64
   pub high : w .store .marks .high < 2 ^ 64
 
-abbrev pub sameBacking : Backing → Backing → Bool
-sameBacking Anonymous Anonymous = true
-sameBacking Anonymous (Image j) = false
-sameBacking (Image i) Anonymous = false
-sameBacking (Image i) (Image j) = eqb (i .0) (j .0)
-
 -- of one page: its slot, the snapshot's, its front and its back entry
 unfoldable pub pageOk : Slot → Slot → ℕ → ℕ → Bool
 pageOk present snapshot front back =
     implies (isMapped snapshot) (isCommitted snapshot)
     && (implies (isCommitted present) (isMapped snapshot)
-    && (implies (isCommitted present) (sameBacking (backingAt present) (backingAt snapshot))
+    && (implies (isCommitted present) (follows (backingAt present) 0 (backingAt snapshot))
     && (implies (not (isMapped present)) (eqb front 0) && implies (not (isMapped snapshot)) (eqb back 0))))
 
 -- page i has neither front nor back: "fronts stand on mapped pages only, backs on snapshot pages only", of a page in neither

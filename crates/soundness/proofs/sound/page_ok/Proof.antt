@@ -32,8 +32,8 @@ backing-at-requires c κs = search needs
 backing-at-requires-2 : tie.Need-backing-at-requires-2
 backing-at-requires-2 c κs = search needs
 
-same-backing-requires : tie.Need-same-backing-requires
-same-backing-requires c κs = search needs
+follows-requires : tie.Need-follows-requires
+follows-requires c κs = search needs
 
 is-committed-requires-2 : tie.Need-is-committed-requires-2
 is-committed-requires-2 c κs = search needs
@@ -43,7 +43,7 @@ unfolding pageOk
 returns-2 c =
     rw (
       c .is-committed2 .ensures,
-      c .before .same-backing .ensures,
+      c .before .follows .ensures,
       c .before .before .backing-at2 .ensures,
       c .before .before .before .backing-at .ensures,
       c .before .before .before .before .is-committed .ensures,
@@ -61,6 +61,6 @@ page-ok-spec =
     is-committed-requires
     backing-at-requires
     backing-at-requires-2
-    same-backing-requires
+    follows-requires
     is-committed-requires-2
     returns-2)
