@@ -211,7 +211,8 @@ module _ (v : View) (q : Request) where
 
 module _ (v : View) (q : Request) (b : Sandbox) where
   -- a refusal that says the number of the table and leaves the areas
-  pub refused : (why : Refusal) (r : Decision) → r ≡ record { verdict = Refused why; areas = b .present } → 0 < refusalNumber why → refusalNumber why ≡ refusal v q → Decided v q b r
+  pub refused : (why : Refusal) (r : Decision) → r ≡ record { verdict = Refused why; areas = b .present } → 0 < refusalNumber why
+      → refusalNumber why ≡ refusal v q → Decided v q b r
   refused why r told some e =
       let no : eqb (refusal v q) 0 ≡ false = ne-eqb (refusal v q) 0 (λ z. omega (arith, some, e, z)) in
       rw told (record { number = e; areas = rw no })
