@@ -1,11 +1,16 @@
 /* The proved machine of rewinding sandboxes, for x86-64 and the System V calling convention.
  *
- * Link libgazhuppin.a; of the C library it needs memmove and memset. Both functions use only the
- * memory that the caller lends for the time of the call, and a few KiB of stack: they take
- * nothing from the heap, keep nothing after they return and hold no state of their own. Calls may
- * run at the same time in several threads if no call writes memory that another one uses.
+ * gazhuppin_start and gazhuppin_call make one call at a time on a machine that the caller keeps;
+ * gazhuppin_play plays a whole roll of calls from a start.
  *
- * The calls of a roll, their refusals and the text of the lines are those of document 01. */
+ * Link libgazhuppin.a; of the C library it needs memcpy, memmove and memset. The functions use
+ * only the memory that the caller lends for the time of the call, and a few KiB of stack: they
+ * take nothing from the heap, keep nothing after they return and hold no state of their own.
+ * Calls may run at the same time in several threads if no call writes memory that another one
+ * uses.
+ *
+ * The calls, their refusals and the text of a roll's lines are those of document 01. What is
+ * proved of the functions, and what that supposes of the caller, stands in docs/CLAIMS.md. */
 
 #ifndef GAZHUPPIN_H
 #define GAZHUPPIN_H
@@ -24,6 +29,101 @@ extern "C" {
 #define GAZHUPPIN_MOST_FRAMES 128   /* a pool has 1 to 128 frames */
 #define GAZHUPPIN_MOST_PAGES 64     /* an image has 0 to 64 pages */
 #define GAZHUPPIN_TABLE_ENTRIES 512 /* a table has exactly these */
+#define GAZHUPPIN_STATE_BYTES 420   /* a state has exactly these; see gazhuppin_state_bytes */
+
+/* The codes of the calls, with their parameters p1 to p5. Parameters that a call does not name
+ * must be 0. Its value is 0 where none is named. A sandbox has pages 0 to 63 of 256 bytes, so
+ * addresses 0 to 16383. */
+enum gazhuppin_code {
+    GAZHUPPIN_OPEN = 1,     /* p1 share, 1 to 128 frames */
+    GAZHUPPIN_MAP = 2,      /* p1 first page, or GAZHUPPIN_LOWEST_GAP; p2 pages, 1 to 64; p3
+                               backing; p4 first image page (0 when anonymous); p5 rights.
+                               Value: first page */
+    GAZHUPPIN_UNMAP = 3,    /* p1 first page; p2 pages, 1 to 64 */
+    GAZHUPPIN_PROTECT = 4,  /* p1 first page; p2 pages, 1 to 64; p3 rights */
+    GAZHUPPIN_READ = 5,     /* p1 address. Value: the byte */
+    GAZHUPPIN_WRITE = 6,    /* p1 address; p2 byte */
+    GAZHUPPIN_SNAPSHOT = 7, /* once for a sandbox. Value: pages of the snapshot */
+    GAZHUPPIN_REWIND = 8,   /* mappings, rights and bytes of the snapshot return */
+    GAZHUPPIN_REPORT = 9    /* Value: frames that the sandbox holds */
+};
+
+#define GAZHUPPIN_LOWEST_GAP 64 /* map where the lowest gap that is long enough begins */
+
+enum gazhuppin_backing { GAZHUPPIN_ANONYMOUS = 0, GAZHUPPIN_IMAGE = 1 };
+enum gazhuppin_rights { GAZHUPPIN_READ_ONLY = 1, GAZHUPPIN_READ_WRITE = 3 };
+
+/* Why a call is refused. Where several apply, the lowest is answered. */
+enum gazhuppin_refusal {
+    GAZHUPPIN_MALFORMED = 1,        /* a line of a roll; never answered to a call */
+    GAZHUPPIN_NO_SUCH_CALL = 2,     /* the code is not 1 to 9 */
+    GAZHUPPIN_UNSOUND = 3,          /* a lent length is wrong, or the state is unsound */
+    GAZHUPPIN_NOT_OPEN = 4,         /* the sandbox is above 3, or, but for open, not open */
+    GAZHUPPIN_ALREADY_OPEN = 5,     /* open of an open sandbox */
+    GAZHUPPIN_OUTSIDE_LIMITS = 6,   /* a parameter outside its limits, pages past page 63, image
+                                       pages past the image, an unused parameter not 0 */
+    GAZHUPPIN_SNAPSHOT_TAKEN = 7,   /* a second snapshot */
+    GAZHUPPIN_NO_SNAPSHOT = 8,      /* rewind without a snapshot */
+    GAZHUPPIN_NOT_MAPPED = 9,       /* unmap, protect, read or write meets an unmapped page */
+    GAZHUPPIN_ALREADY_MAPPED = 10,  /* map at a named page meets a mapped page */
+    GAZHUPPIN_NO_GAP = 11,          /* map at the lowest gap, and none is long enough */
+    GAZHUPPIN_NOT_WRITABLE = 12,    /* write to a page without the write right */
+    GAZHUPPIN_SHARE_EXCEEDED = 13,  /* shares above the pool, or the charge above the share */
+    GAZHUPPIN_TOO_MANY_AREAS = 14   /* more than 8 areas would result */
+};
+
+/* What a call answers. */
+struct gazhuppin_told {
+    uint32_t number; /* 0, or the refusal's number */
+    uint32_t value;  /* 0 where the call is refused */
+};
+
+/* How many bytes a state has: GAZHUPPIN_STATE_BYTES of the header that belongs to the archive.
+ * States are not promised to stay the same from one version of the library to another. */
+size_t gazhuppin_state_bytes(void);
+
+/* Starts a machine: four closed sandboxes.
+ *
+ * The caller owns every region, before and after, and keeps state, pool and table for the calls
+ * to come. No pointer may be NULL, not even one whose length is 0. state, pool and table must
+ * overlap neither each other nor image, which is only read.
+ *
+ * state: state_bytes bytes, which must be gazhuppin_state_bytes(). A fresh state is written to
+ *        it.
+ * pool:  pool_bytes bytes: 1 to 128 frames of 256 bytes. It is cleared.
+ * table: table_entries 16-bit numbers, which must be 512, aligned for uint16_t. It is cleared.
+ * image: image_bytes bytes: 0 to 64 pages of 256 bytes, for mappings with backing 1.
+ *
+ * Returns 0, or GAZHUPPIN_UNSOUND (3) where a length is wrong: pool and table are then left as
+ * they are, and so is state where its own length is wrong; else a fresh state is written to it. */
+uint32_t gazhuppin_start(uint8_t *state, size_t state_bytes,
+                         uint8_t *pool, size_t pool_bytes,
+                         uint16_t *table, size_t table_entries,
+                         const uint8_t *image, size_t image_bytes);
+
+/* Makes one call on a machine.
+ *
+ * state, pool, table, image: as at the start, and with the same rules. Between calls state, pool
+ *        and table must be left exactly as the start or the last call left them (they may be
+ *        read, or moved elsewhere whole), and every call gets the same image.
+ * code, sandbox, p1 to p5: the call, see enum gazhuppin_code. Any numbers may be given.
+ *
+ * Returns the answer: number 0 and the call's value, or a refusal's number and value 0. A
+ * refused call leaves every byte of state, pool and table as it was.
+ *
+ * If these rules are kept, and the start answered 0, the answers are those of document 01's
+ * plain machine, and after a rewind nothing of what came before it since the snapshot can be
+ * told from the sandbox's answers but the count of held frames. Whatever bytes are handed in,
+ * the call ends and writes to state, pool and table alone; a state that is not sound, or bytes
+ * that are no state, are refused (3, or 2 where the code is no call's). Bytes altered so that
+ * another sound state results cannot be told, and are answered as that state. */
+struct gazhuppin_told gazhuppin_call(uint8_t *state, size_t state_bytes,
+                                     uint8_t *pool, size_t pool_bytes,
+                                     uint16_t *table, size_t table_entries,
+                                     const uint8_t *image, size_t image_bytes,
+                                     uint16_t code, uint16_t sandbox,
+                                     uint16_t p1, uint16_t p2, uint16_t p3,
+                                     uint16_t p4, uint16_t p5);
 
 /* How many lines a roll has.
  *
@@ -59,8 +159,8 @@ size_t gazhuppin_lines(size_t roll_bytes);
  * Afterwards pool and table are those of the machine after the last line. The front entry of
  * page i of sandbox s is table[128 * s + i], its back entry table[128 * s + 64 + i]. An entry is
  * 0 for none, else a frame number plus one; frame f is pool[256 * f] to pool[256 * f + 255]. A
- * frame that no entry names is all zero. Pool and table cannot be handed to a further call to go
- * on with: every call starts anew. */
+ * frame that no entry names is all zero. Pool and table cannot be handed to gazhuppin_call to go on
+ * with, since the state is not kept: every play starts anew. */
 size_t gazhuppin_play(const uint8_t *roll, size_t roll_bytes,
                       const uint8_t *image, size_t image_bytes,
                       uint8_t *pool, size_t pool_bytes,

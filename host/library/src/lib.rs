@@ -1,10 +1,40 @@
 //! The proved machine of rewinding sandboxes, for callers in Rust.
 //!
-//! `play` lends the machine the caller's memory; `play_fresh` makes the memory and
-//! gives it back with the replies. C programs include `include/gazhuppin.h`, which
-//! says the same of the two functions underneath.
+//! - `Machine` owns its memory and has a method for each call;
+//! - `start` and `call` make a start and one call over memory that the caller lends;
+//! - `play` plays a roll from a start over lent memory; `play_fresh` makes the memory and
+//!   gives it back with the replies.
+//!
+//! C programs include `include/gazhuppin.h`, which says the same of the functions
+//! underneath. What is proved of them stands in docs/CLAIMS.md.
+//!
+//! ```
+//! use gazhuppin::{Address, Backing, Machine, Place, Rights};
+//!
+//! let mut machine = Machine::start([], 128)?;
+//! machine.open(0, 16)?;
+//! machine.map(0, Place::At(0), 4, Backing::Anonymous, Rights::ReadWrite)?;
+//! machine.snapshot(0)?;
+//! for request in 1..=3 {
+//!     machine.write(0, Address(0), request)?; // a request's own data
+//!     machine.rewind(0)?;
+//!     assert_eq!(machine.read(0, Address(0))?, 0); // nothing of it is left
+//! }
+//! # Ok::<(), gazhuppin::Refusal>(())
+//! ```
 
-use std::fmt;
+mod c;
+mod call;
+mod lent;
+mod machine;
+mod refusal;
+mod roll;
+
+pub use call::{Address, Backing, Call, Place, Rights};
+pub use lent::{call, start, state_bytes};
+pub use machine::Machine;
+pub use refusal::{Refusal, Told};
+pub use roll::{OutTooShort, Played, lines, play, play_fresh};
 
 /// A line of a roll, with its line feed.
 pub const LINE_BYTES: usize = 43;
@@ -12,136 +42,9 @@ pub const LINE_BYTES: usize = 43;
 pub const REPLY_BYTES: usize = 19;
 /// A frame of the pool, and a page of the image.
 pub const FRAME_BYTES: usize = 256;
+/// A pool has at most this many frames.
+pub const MOST_FRAMES: usize = 128;
 /// A table has exactly this many entries.
 pub const TABLE_ENTRIES: usize = 512;
-
-mod c {
-    extern "C" {
-        pub fn gazhuppin_lines(roll_bytes: usize) -> usize;
-        pub fn gazhuppin_play(
-            roll: *const u8,
-            roll_bytes: usize,
-            image: *const u8,
-            image_bytes: usize,
-            pool: *mut u8,
-            pool_bytes: usize,
-            table: *mut u16,
-            table_entries: usize,
-            out: *mut u8,
-            out_bytes: usize,
-        ) -> usize;
-    }
-}
-
-/// `out` has no room for all replies. Nothing was played, and nothing touched.
-#[derive(Clone, Copy, PartialEq, Eq, Debug)]
-pub struct OutTooShort {
-    /// The bytes that the replies of this roll need.
-    pub needed: usize,
-}
-
-impl fmt::Display for OutTooShort {
-    fn fmt(&self, formatter: &mut fmt::Formatter) -> fmt::Result {
-        write!(formatter, "the replies need {} bytes", self.needed)
-    }
-}
-
-impl std::error::Error for OutTooShort {}
-
-/// How many lines a roll of so many bytes has: whole lines of 43 bytes, one more for
-/// a short rest, at most 65,535.
-pub fn lines(roll_bytes: usize) -> usize {
-    // SAFETY: the function takes a number and gives a number; it uses no memory.
-    unsafe { c::gazhuppin_lines(roll_bytes) }
-}
-
-/// Start a machine in the lent memory, play the roll on it, and write a reply of 19
-/// bytes for each line to the start of `out`. Gives the number of lines.
-///
-/// The pool is 1 to 128 frames of 256 bytes, the table 512 entries, the image 0 to 64
-/// pages of 256 bytes. Where one of these lengths is wrong, pool and table stay as
-/// they are and every line is refused (3; 1 if malformed, 2 if its code is unknown).
-///
-/// Afterwards pool and table are those of the machine after the last line: for
-/// sandbox s and page i the front entry is `table[128 * s + i]` and the back entry
-/// `table[128 * s + 64 + i]`; an entry is 0 or a frame number plus one.
-pub fn play(
-    roll: &[u8],
-    image: &[u8],
-    pool: &mut [u8],
-    table: &mut [u16],
-    out: &mut [u8],
-) -> Result<usize, OutTooShort> {
-    let needed = REPLY_BYTES * lines(roll.len());
-    if out.len() < needed {
-        return Err(OutTooShort { needed });
-    }
-    // SAFETY: every pointer comes from a slice, so it is aligned, not null even for
-    // length 0, and good for the length beside it; the three slices that are written
-    // are borrowed as `&mut`, so they overlap nothing. The function keeps no pointer.
-    let played = unsafe {
-        c::gazhuppin_play(
-            roll.as_ptr(),
-            roll.len(),
-            image.as_ptr(),
-            image.len(),
-            pool.as_mut_ptr(),
-            pool.len(),
-            table.as_mut_ptr(),
-            table.len(),
-            out.as_mut_ptr(),
-            out.len(),
-        )
-    };
-    Ok(played)
-}
-
-/// What a roll leaves: its replies, and pool and table after its last line.
-#[derive(Clone, PartialEq, Eq, Debug)]
-pub struct Played {
-    pub replies: Vec<u8>,
-    pub pool: Vec<u8>,
-    pub table: Vec<u16>,
-}
-
-/// Play a roll in memory made for it, with a pool of this many frames.
-pub fn play_fresh(roll: &[u8], image: &[u8], frames: usize) -> Played {
-    let mut pool = vec![0; FRAME_BYTES * frames];
-    let mut table = vec![0; TABLE_ENTRIES];
-    let mut replies = vec![0; REPLY_BYTES * lines(roll.len())];
-    play(roll, image, &mut pool, &mut table, &mut replies).expect("room was made for the replies");
-    Played { replies, pool, table }
-}
-
-#[cfg(test)]
-mod tests {
-    use super::*;
-
-    /// `play` never calls the function with too little room; a C program may.
-    #[test]
-    fn the_function_itself_refuses_an_out_too_short() {
-        let roll = [b'x'; LINE_BYTES + 1];
-        let (mut pool, mut table) = ([7u8; FRAME_BYTES], [7u16; TABLE_ENTRIES]);
-        for room in 0..2 * REPLY_BYTES {
-            let mut out = vec![7u8; room];
-            // SAFETY: as in `play`; the function is to look at the length itself.
-            let played = unsafe {
-                c::gazhuppin_play(
-                    roll.as_ptr(),
-                    roll.len(),
-                    roll.as_ptr(),
-                    0,
-                    pool.as_mut_ptr(),
-                    pool.len(),
-                    table.as_mut_ptr(),
-                    table.len(),
-                    out.as_mut_ptr(),
-                    room,
-                )
-            };
-            assert_eq!(played, 0, "{room} bytes");
-            assert_eq!((pool, table), ([7; FRAME_BYTES], [7; TABLE_ENTRIES]), "{room} bytes");
-            assert!(out.iter().all(|&byte| byte == 7), "{room} bytes");
-        }
-    }
-}
+/// The pages of a sandbox.
+pub const PAGES: u16 = 64;

@@ -1,53 +1,42 @@
-//! The C program of `examples/` is built with gcc and plays document 01's roll.
+//! The C program of `examples/` that plays a roll, the header, and the archive's symbols.
 
+mod common;
+
+use common::{c_example, here, printed};
 use std::fs::{self, File};
-use std::path::Path;
 use std::process::{Command, Stdio};
 
 #[test]
 fn the_c_example_plays_the_documents_roll() {
-    let here = Path::new(env!("CARGO_MANIFEST_DIR"));
-    let program = Path::new(env!("CARGO_TARGET_TMPDIR")).join("play");
-    let built = Command::new("gcc")
-        .args(["-Wall", "-Wextra", "-Werror", "-std=c11", "-O2", "-o"])
-        .arg(&program)
-        .arg(here.join("examples/play.c"))
-        .arg("-I")
-        .arg(here.join("include"))
-        .arg(env!("GAZHUPPIN_ARCHIVE"))
-        .status()
-        .expect("gcc is required");
-    assert!(built.success(), "gcc: {built}");
-
-    let examples = here.join("../../examples");
+    let program = c_example("play");
+    let examples = here().join("../../examples");
     for name in ["first", "four-sandboxes", "malformed", "short-last-line", "empty"] {
         let roll = File::open(examples.join(name).with_extension("roll")).expect("the roll");
-        let played = Command::new(&program).stdin(Stdio::from(roll)).output().expect("it runs");
-        let expected = fs::read(examples.join(name).with_extension("answers")).expect("answers");
-        assert!(played.status.success(), "{name}: {}", played.status);
-        assert!(played.stdout == expected, "{name}: {}", String::from_utf8_lossy(&played.stdout));
+        let played = printed(Command::new(&program).stdin(Stdio::from(roll)));
+        let expected = fs::read_to_string(examples.join(name).with_extension("answers"));
+        assert_eq!(played, expected.expect("answers"), "{name}");
     }
 }
 
 /// The header needs nothing included before it.
 #[test]
 fn the_header_compiles_by_itself() {
-    let header = Path::new(env!("CARGO_MANIFEST_DIR")).join("include/gazhuppin.h");
-    let checked = Command::new("gcc")
-        .args(["-Wall", "-Wextra", "-Wpedantic", "-Werror", "-std=c11", "-fsyntax-only", "-x", "c"])
-        .arg(header)
-        .status()
-        .expect("gcc is required");
-    assert!(checked.success(), "gcc: {checked}");
+    for language in [["-std=c11", "-xc"], ["-std=c++17", "-xc++"]] {
+        // gcc without its C++ part cannot read the header as C++.
+        let cc1plus = printed(Command::new("gcc").arg("-print-prog-name=cc1plus"));
+        if language[1] == "-xc++" && !cc1plus.starts_with('/') {
+            continue;
+        }
+        let mut gcc = Command::new("gcc");
+        gcc.args(["-Wall", "-Wextra", "-Wpedantic", "-Werror", "-fsyntax-only"]).args(language);
+        printed(gcc.arg(here().join("include/gazhuppin.h")));
+    }
 }
 
 /// What the header says: nothing from the heap, and no state between calls.
 #[test]
 fn the_archive_needs_no_heap_and_has_no_state() {
-    let listed =
-        Command::new("nm").arg(env!("GAZHUPPIN_ARCHIVE")).output().expect("nm is required");
-    assert!(listed.status.success(), "nm: {}", listed.status);
-    let listed = String::from_utf8(listed.stdout).expect("names");
+    let listed = printed(Command::new("nm").arg(env!("GAZHUPPIN_ARCHIVE")));
     let of_kind = |kinds: &str| {
         let symbols = listed.lines().map(|line| line.split_whitespace().rev().take(2));
         let mut names: Vec<&str> = symbols
@@ -58,8 +47,36 @@ fn the_archive_needs_no_heap_and_has_no_state() {
         names.sort();
         names
     };
-    assert_eq!(of_kind("T"), ["gazhuppin_lines", "gazhuppin_play"]);
-    assert_eq!(of_kind("U"), ["memmove", "memset"]);
+    let functions = ["call", "lines", "play", "start", "state_bytes"];
+    assert_eq!(of_kind("T"), functions.map(|name| format!("gazhuppin_{name}")));
+    let needed = of_kind("U");
+    assert!(needed.iter().all(|name| ["memcpy", "memmove", "memset"].contains(name)), "{needed:?}");
     // Variables, cleared, set or common.
     assert_eq!(of_kind("bBdDC"), [""; 0]);
+}
+
+/// The header's numbers are those of the archive and of this crate.
+#[test]
+fn the_headers_numbers() {
+    let header = fs::read_to_string(here().join("include/gazhuppin.h")).expect("the header");
+    let defined = |name: &str| {
+        let line = header.lines().find(|line| line.starts_with(&format!("#define {name} ")));
+        let number = line.and_then(|line| line.split_whitespace().nth(2));
+        number.and_then(|number| number.parse::<usize>().ok()).unwrap_or_else(|| panic!("{name}"))
+    };
+    assert_eq!(defined("GAZHUPPIN_STATE_BYTES"), gazhuppin::state_bytes());
+    assert_eq!(defined("GAZHUPPIN_TABLE_ENTRIES"), gazhuppin::TABLE_ENTRIES);
+    assert_eq!(defined("GAZHUPPIN_FRAME_BYTES"), gazhuppin::FRAME_BYTES);
+    assert_eq!(defined("GAZHUPPIN_MOST_FRAMES"), gazhuppin::MOST_FRAMES);
+    assert_eq!(defined("GAZHUPPIN_LOWEST_GAP"), usize::from(gazhuppin::PAGES));
+    for refusal in gazhuppin::Refusal::ALL {
+        // AlreadyOpen is GAZHUPPIN_ALREADY_OPEN.
+        let mut name = String::from("GAZHUPPIN");
+        for letter in format!("{refusal:?}").chars() {
+            name.extend(letter.is_ascii_uppercase().then_some('_'));
+            name.push(letter.to_ascii_uppercase());
+        }
+        let line = format!("    {name} = {}", refusal.number());
+        assert!(header.contains(&line), "{line}");
+    }
 }

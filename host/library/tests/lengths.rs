@@ -1,6 +1,6 @@
 //! Lengths that are wrong: an `out` too short, and lent memory of a wrong length.
 
-use gazhuppin::{play, OutTooShort, FRAME_BYTES, REPLY_BYTES, TABLE_ENTRIES};
+use gazhuppin::{FRAME_BYTES, OutTooShort, REPLY_BYTES, TABLE_ENTRIES, play};
 
 /// A call, an unknown code, a malformed line, a call for a sandbox that is not there,
 /// and a short last line.

@@ -1,6 +1,6 @@
 //! Rolls through the wrapper, against their expected answers.
 
-use gazhuppin::{lines, play, play_fresh, FRAME_BYTES, TABLE_ENTRIES};
+use gazhuppin::{FRAME_BYTES, TABLE_ENTRIES, lines, play, play_fresh};
 use std::fs;
 use std::path::{Path, PathBuf};
 

@@ -1,0 +1,128 @@
+//! `Machine`: its methods make the calls that their words say, over memory of its own.
+
+use gazhuppin::{Address, Backing, Call, Machine, Place, Refusal, Rights};
+use std::fs;
+use std::path::Path;
+
+/// Two machines of the same lengths, one for methods and one for numbers.
+struct Both {
+    methods: Machine,
+    numbers: Machine,
+}
+
+impl Both {
+    fn start() -> Both {
+        let machine = Machine::start([9; 4 * 256], 64).expect("right lengths");
+        Both { methods: machine.clone(), numbers: machine }
+    }
+
+    /// A method and the call in numbers answer the same and leave the same.
+    #[track_caller]
+    fn same<T: Into<u32>>(
+        &mut self,
+        method: impl Fn(&mut Machine) -> Result<T, Refusal>,
+        [code, sandbox, p1, p2, p3, p4, p5]: [u16; 7],
+    ) -> Result<u32, Refusal> {
+        let told = method(&mut self.methods).map(T::into);
+        let call = Call { code, sandbox, parameters: [p1, p2, p3, p4, p5] };
+        assert_eq!(told, self.numbers.answer(&call));
+        assert!(self.methods == self.numbers);
+        told
+    }
+}
+
+/// A method without a value answers value 0.
+fn zero(told: Result<(), Refusal>) -> Result<u32, Refusal> {
+    told.map(|()| 0)
+}
+
+#[test]
+fn each_method_is_its_call() {
+    let mut both = Both::start();
+    let anonymous = Backing::Anonymous;
+    let told = [
+        both.same(|m| zero(m.open(2, 32)), [1, 2, 32, 0, 0, 0, 0]),
+        both.same(
+            |m| m.map(2, Place::At(3), 4, anonymous, Rights::ReadWrite),
+            [2, 2, 3, 4, 0, 0, 3],
+        ),
+        both.same(
+            |m| m.map(2, Place::LowestGap, 2, Backing::Image(1), Rights::Read),
+            [2, 2, 64, 2, 1, 1, 1],
+        ),
+        both.same(|m| zero(m.write(2, Address::of(3, 9), 200)), [6, 2, 777, 200, 0, 0, 0]),
+        both.same(|m| m.read(2, Address(777)), [5, 2, 777, 0, 0, 0, 0]),
+        both.same(|m| m.read(2, Address(0)), [5, 2, 0, 0, 0, 0, 0]),
+        both.same(|m| m.snapshot(2), [7, 2, 0, 0, 0, 0, 0]),
+        both.same(|m| zero(m.protect(2, 0..2, Rights::ReadWrite)), [4, 2, 0, 2, 3, 0, 0]),
+        both.same(|m| zero(m.unmap(2, 4..7)), [3, 2, 4, 3, 0, 0, 0]),
+        both.same(|m| m.report(2), [9, 2, 0, 0, 0, 0, 0]),
+        both.same(|m| zero(m.rewind(2)), [8, 2, 0, 0, 0, 0, 0]),
+        both.same(|m| m.read(2, Address::of(5, 0)), [5, 2, 1280, 0, 0, 0, 0]),
+    ];
+    assert_eq!(told, [0, 3, 0, 0, 200, 9, 6, 0, 0, 1, 0, 0].map(Ok));
+}
+
+#[test]
+fn what_has_no_number_is_outside_the_limits() {
+    let mut machine = Machine::start([], 8).expect("right lengths");
+    machine.open(0, 8).expect("open");
+    let before = machine.clone();
+    let outside = Err(Refusal::OutsideLimits);
+    for page in 64..=255 {
+        let map = machine.map(0, Place::At(page), 1, Backing::Anonymous, Rights::Read);
+        assert_eq!(map.map(|_| ()), outside, "page {page}");
+    }
+    #[allow(clippy::reversed_empty_ranges)]
+    for pages in [0..0, 63..63, 5..4, 255..0, 0..65, 63..65, 0..255] {
+        assert_eq!(machine.unmap(0, pages.clone()), outside, "{pages:?}");
+        assert_eq!(machine.protect(0, pages.clone(), Rights::Read), outside, "{pages:?}");
+    }
+    assert_eq!(machine.read(0, Address(16_384)).map(|_| ()), outside);
+    assert!(machine == before, "a refused call changed something");
+}
+
+#[test]
+fn lengths_at_the_start() {
+    for frames in [0, 129, 130, usize::MAX / 256 + 1, usize::MAX] {
+        assert_eq!(Machine::start([], frames).unwrap_err(), Refusal::Unsound, "{frames} frames");
+    }
+    for bytes in [1, 255, 257, 64 * 256 + 1, 65 * 256] {
+        assert_eq!(Machine::start(vec![0; bytes], 8).unwrap_err(), Refusal::Unsound, "{bytes}");
+    }
+    for (bytes, frames) in [(0, 1), (64 * 256, 128)] {
+        let machine = Machine::start(vec![1; bytes], frames).expect("right lengths");
+        assert_eq!((machine.image().len(), machine.pool().len()), (bytes, 256 * frames));
+        assert_eq!(machine.table(), [0; 512]);
+    }
+}
+
+/// The example rolls, a call at a time: each answer is the one expected of the line.
+#[test]
+fn the_example_rolls() {
+    let examples = Path::new(env!("CARGO_MANIFEST_DIR")).join("../../examples");
+    let (mut rolls, mut calls) = (0, 0);
+    for entry in fs::read_dir(examples).expect("the examples") {
+        let roll = entry.expect("an example").path();
+        if roll.extension().is_none_or(|extension| extension != "roll") {
+            continue;
+        }
+        let image = fs::read(roll.with_extension("image")).unwrap_or_default();
+        // An image of a wrong length: there is no machine to call.
+        let Ok(mut machine) = Machine::start(image, 128) else { continue };
+        let answers = fs::read(roll.with_extension("answers")).expect("answers");
+        let lines = fs::read(&roll).expect("the roll");
+        for (index, line) in lines.chunks(43).enumerate() {
+            let Some(asked) = model::parse_line(line) else { continue };
+            let call =
+                Call { code: asked.code, sandbox: asked.sandbox, parameters: asked.parameters };
+            let told = machine.answer(&call);
+            let (number, value) = told.map_or_else(|why| (why.number(), 0), |value| (0, value));
+            let reply = format!("{:>6}{number:>6}{value:>6}\n", index + 1);
+            assert_eq!(reply.as_bytes(), &answers[19 * index..][..19], "{}", roll.display());
+            calls += 1;
+        }
+        rolls += 1;
+    }
+    assert!(rolls >= 15 && calls > 100, "only {calls} calls of {rolls} rolls");
+}

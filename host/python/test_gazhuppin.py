@@ -1,0 +1,126 @@
+"""The module against document 01: `python3 -m unittest`, in this folder, once the shared object is built."""
+
+import doctest
+import pathlib
+import unittest
+
+import gazhuppin
+from gazhuppin import Machine, Refusal, Refused, Rights, address
+
+EXAMPLES = pathlib.Path(__file__).resolve().parents[2] / "examples"
+
+
+class Calls(unittest.TestCase):
+    def refused(self, refusal, call, *arguments, **named):
+        with self.assertRaises(Refused) as raised:
+            call(*arguments, **named)
+        self.assertEqual(raised.exception.refusal, refusal)
+
+    def test_the_documents_roll(self):
+        machine = Machine()
+        machine.open(0, 8)
+        self.assertEqual(machine.map(0, 2), 0)
+        machine.write(0, 5, 7)
+        self.assertEqual(machine.snapshot(0), 2)
+        machine.write(0, 5, 9)
+        machine.write(0, 300, 4)
+        self.assertEqual(machine.report(0), 3)
+        machine.rewind(0)
+        self.assertEqual((machine.read(0, 5), machine.read(0, 300), machine.report(0)), (7, 0, 3))
+        self.refused(Refusal.SNAPSHOT_TAKEN, machine.snapshot, 0)
+
+    def test_each_call_refused(self):
+        machine = Machine(image=bytes(range(256)), frames=16)
+        self.refused(Refusal.NO_SUCH_CALL, machine.answer, 10, 0)
+        self.refused(Refusal.NOT_OPEN, machine.report, 0)
+        machine.open(0, 12)
+        self.refused(Refusal.ALREADY_OPEN, machine.open, 0, 8)
+        self.refused(Refusal.OUTSIDE_LIMITS, machine.map, 0, 1, at=64)
+        self.refused(Refusal.OUTSIDE_LIMITS, machine.map, 0, 2, image_page=0)
+        self.refused(Refusal.NO_SNAPSHOT, machine.rewind, 0)
+        self.refused(Refusal.NOT_MAPPED, machine.read, 0, 0)
+        self.assertEqual(machine.map(0, 1, at=2, image_page=0, rights=Rights.READ), 2)
+        self.assertEqual(machine.read(0, address(2, 200)), 200)
+        self.refused(Refusal.ALREADY_MAPPED, machine.map, 0, 3, at=0)
+        self.refused(Refusal.NO_GAP, machine.map, 0, 64)
+        self.refused(Refusal.NOT_WRITABLE, machine.write, 0, address(2, 0), 1)
+        self.refused(Refusal.SHARE_EXCEEDED, machine.map, 0, 12)
+        for page in range(4, 18, 2):
+            machine.map(0, 1, at=page)
+        self.refused(Refusal.TOO_MANY_AREAS, machine.map, 0, 1, at=18)
+        machine.protect(0, 2, 1, Rights.READ_WRITE)
+        machine.write(0, address(2, 0), 1)
+        machine.unmap(0, 2)
+        self.refused(Refusal.NOT_MAPPED, machine.unmap, 0, 2)
+
+    def test_a_refused_call_changes_nothing(self):
+        machine = Machine(frames=4)
+        machine.open(0, 4)
+        before = (machine.state, machine.pool, machine.table)
+        self.refused(Refusal.SHARE_EXCEEDED, machine.map, 0, 5)
+        self.assertEqual((machine.state, machine.pool, machine.table), before)
+
+    def test_wrong_lengths(self):
+        for image, frames in ((b"", 0), (b"", 129), (b"", -1), (b"", 10**30), (b"x", 8), (bytes(65 * 256), 8)):
+            self.refused(Refusal.UNSOUND, Machine, image, frames)
+        self.assertEqual(len(Machine(bytes(64 * 256), 128).pool), 128 * 256)
+
+    def test_numbers_are_not_cut_off(self):
+        machine = Machine()
+        machine.open(0, 8)
+        machine.map(0, 1)
+        for wrong in (65536, -1, 1 << 80):
+            self.assertRaises(ValueError, machine.read, 0, wrong)
+            self.assertRaises(ValueError, machine.write, 0, 0, wrong)
+        self.assertRaises(ValueError, address, 0, 256)
+
+    def test_memory_is_the_machines_own(self):
+        machine = Machine(frames=1)
+        for name in ("state", "pool", "table"):
+            self.assertRaises(AttributeError, setattr, machine, name, b"")
+            with self.assertRaises(TypeError):
+                getattr(machine, name)[0] = 1
+        self.assertEqual((len(machine.state), machine.pool, machine.table), (420, bytes(256), (0,) * 512))
+
+
+class Rolls(unittest.TestCase):
+    def image_of(self, roll):
+        image = roll.with_suffix(".image")
+        return image.read_bytes() if image.exists() else b""
+
+    def test_example_rolls_played(self):
+        rolls = sorted(EXAMPLES.glob("*.roll"))
+        self.assertGreaterEqual(len(rolls), 18)
+        for roll in rolls:
+            with self.subTest(roll.name):
+                played = gazhuppin.play(roll.read_bytes(), self.image_of(roll))
+                self.assertEqual(played, roll.with_suffix(".answers").read_bytes())
+
+    def test_example_rolls_a_call_at_a_time(self):
+        for roll in sorted(EXAMPLES.glob("*.roll")):
+            try:
+                machine = Machine(self.image_of(roll))
+            except Refused:
+                continue  # an image of a wrong length: there is no machine to call
+            answers = roll.with_suffix(".answers").read_text().splitlines()
+            text = roll.read_bytes()
+            for line, answer in enumerate(answers):
+                fields = text[43 * line : 43 * line + 43]
+                _, number, value = map(int, answer.split())
+                if number == Refusal.MALFORMED:
+                    continue
+                with self.subTest(roll.name, line=line + 1):
+                    try:
+                        told = (0, machine.answer(*map(int, fields.split())))
+                    except Refused as refused:
+                        told = (refused.refusal, 0)
+                    self.assertEqual(told, (number, value))
+
+
+def load_tests(_loader, tests, _pattern):
+    tests.addTests(doctest.DocTestSuite(gazhuppin))
+    return tests
+
+
+if __name__ == "__main__":
+    unittest.main()
