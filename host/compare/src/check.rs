@@ -29,7 +29,7 @@ impl Expected {
 pub fn check(played: &Played, expected: &Expected) -> Result<(), Difference> {
     check_replies(&played.replies, &expected.replies)?;
     if expected.machine.lengths_are_right() {
-        check_memory(played, &expected.machine)
+        check_memory(&played.pool, &played.table, &expected.machine)
     } else {
         check_untouched(played)
     }
@@ -49,7 +49,7 @@ fn check_replies(program: &[u8], model: &[u8]) -> Result<(), Difference> {
 }
 
 /// "where a length is wrong, [...] clears nothing".
-fn check_untouched(played: &Played) -> Result<(), Difference> {
+pub(crate) fn check_untouched(played: &Played) -> Result<(), Difference> {
     let before = (filled_pool(played.pool.len()), filled_table(played.table.len()));
     if let Some(at) = (0..played.pool.len()).find(|&at| played.pool[at] != before.0[at]) {
         return Err(Difference::PoolTouched { at });
@@ -60,56 +60,79 @@ fn check_untouched(played: &Played) -> Result<(), Difference> {
     }
 }
 
-fn check_memory(played: &Played, machine: &Machine) -> Result<(), Difference> {
-    let mut named = vec![false; played.pool.len() / PAGE_BYTES];
+/// Pool and table are those of the plain machine.
+pub(crate) fn check_memory(
+    pool: &[u8],
+    table: &[u16],
+    machine: &Machine,
+) -> Result<(), Difference> {
+    let named = check_entries(pool, table, machine)?;
+    for (frame, bytes) in pool.chunks_exact(PAGE_BYTES).enumerate() {
+        if named[frame] || bytes == [0; PAGE_BYTES] {
+            continue;
+        }
+        let offset = bytes.iter().position(|&byte| byte != 0).expect("one is not zero");
+        return Err(Difference::NotCleared { frame, offset, byte: bytes[offset] });
+    }
+    Ok(())
+}
+
+/// Every entry stands where the plain machine has a mark, and its frame holds the page.
+/// Gives for each frame whether an entry names it.
+pub fn check_entries(
+    pool: &[u8],
+    table: &[u16],
+    machine: &Machine,
+) -> Result<Vec<bool>, Difference> {
+    let mut named = vec![false; pool.len() / PAGE_BYTES];
     for sandbox in 0..SANDBOXES {
         let kept = machine.sandbox(sandbox);
-        let entries = &played.table[sandbox * 2 * PAGES..][..2 * PAGES];
+        let entries = &table[sandbox * 2 * PAGES..][..2 * PAGES];
         let program = entries.iter().filter(|&&entry| entry != 0).count();
         let model = kept.held();
         require(program == model, || Difference::Held { sandbox, program, model })?;
         for page in 0..PAGES {
             let now = &kept.pages[page];
             let front = now.front.then_some(&now.bytes);
-            check_entry(played, &mut named, Place { sandbox, page, side: Side::Front }, front)?;
+            let entry = entries[page];
+            check_entry(
+                pool,
+                &mut named,
+                Place { sandbox, page, side: Side::Front },
+                entry,
+                front,
+            )?;
             // A back mark without a copy would be a fault of the plain machine itself.
             let copied = kept.copy.as_ref().map(|copy| &copy[page].bytes);
             let back = now.back.then(|| copied.expect("a back mark has a copy"));
-            check_entry(played, &mut named, Place { sandbox, page, side: Side::Back }, back)?;
+            let entry = entries[PAGES + page];
+            check_entry(pool, &mut named, Place { sandbox, page, side: Side::Back }, entry, back)?;
         }
     }
-    let unnamed = (0..named.len()).filter(|&frame| !named[frame]);
-    for frame in unnamed {
-        let bytes = frame_bytes(played, frame);
-        if let Some(offset) = bytes.iter().position(|&byte| byte != 0) {
-            return Err(Difference::NotCleared { frame, offset, byte: bytes[offset] });
-        }
-    }
-    Ok(())
+    Ok(named)
 }
 
 /// One entry: `page` has the bytes of its frame where the plain machine has a mark.
 fn check_entry(
-    played: &Played,
+    pool: &[u8],
     named: &mut [bool],
     place: Place,
+    entry: u16,
     page: Option<&[u8; PAGE_BYTES]>,
 ) -> Result<(), Difference> {
-    let entry = played.table[place.index()];
     require((entry != 0) == page.is_some(), || Difference::Entry { place, entry })?;
     let Some(page) = page else { return Ok(()) };
     let (frame, frames) = (usize::from(entry) - 1, named.len());
     require(frame < frames, || Difference::OutsidePool { place, entry, frames })?;
     require(!named[frame], || Difference::NamedTwice { place, frame })?;
     named[frame] = true;
-    let bytes = frame_bytes(played, frame);
-    match (0..PAGE_BYTES).find(|&offset| bytes[offset] != page[offset]) {
-        Some(offset) => {
-            let (program, model) = (bytes[offset], page[offset]);
-            Err(Difference::Bytes { place, offset, program, model })
-        }
-        None => Ok(()),
+    let bytes = &pool[frame * PAGE_BYTES..][..PAGE_BYTES];
+    if bytes == page {
+        return Ok(());
     }
+    let offset = (0..PAGE_BYTES).find(|&offset| bytes[offset] != page[offset]).expect("one");
+    let (program, model) = (bytes[offset], page[offset]);
+    Err(Difference::Bytes { place, offset, program, model })
 }
 
 impl Place {
@@ -123,11 +146,10 @@ impl Place {
     }
 }
 
-fn frame_bytes(played: &Played, frame: usize) -> &[u8] {
-    &played.pool[frame * PAGE_BYTES..][..PAGE_BYTES]
-}
-
-fn require(holds: bool, difference: impl FnOnce() -> Difference) -> Result<(), Difference> {
+pub(crate) fn require(
+    holds: bool,
+    difference: impl FnOnce() -> Difference,
+) -> Result<(), Difference> {
     if holds {
         Ok(())
     } else {

@@ -1,5 +1,6 @@
 //! What can differ between a program and the plain machine.
 
+use crate::layout;
 use std::fmt;
 
 /// "64 front entries, then 64 back entries".
@@ -39,6 +40,20 @@ pub enum Difference {
     Bytes { place: Place, offset: usize, program: u8, model: u8 },
     /// A frame that no entry names and that is not zero.
     NotCleared { frame: usize, offset: usize, byte: u8 },
+    /// A call, or the start, is answered otherwise: number and value.
+    Answer { program: (u32, u32), model: (u16, u32) },
+    /// A byte of the state that differs; `None` where one of the two has none.
+    State { at: usize, program: Option<u8>, model: Option<u8> },
+    /// A call that was refused, reads or reports changed state, pool or table.
+    Changed,
+    /// A difference that shows at a line, counted from 1; line 0 is the start.
+    AtLine { line: usize, difference: Box<Difference> },
+}
+
+impl Difference {
+    pub fn at_line(self, line: usize) -> Difference {
+        Difference::AtLine { line, difference: Box::new(self) }
+    }
 }
 
 impl fmt::Display for Place {
@@ -86,6 +101,20 @@ impl fmt::Display for Difference {
             }
             Difference::NotCleared { frame, offset, byte } => {
                 write!(to, "frame {frame}, which no entry names, holds {byte} at offset {offset}")
+            }
+            Difference::Answer { program, model } => {
+                write!(to, "the program answers {program:?}, the model {model:?}")
+            }
+            Difference::State { at, program, model } => {
+                let byte = |byte: &Option<u8>| byte.map_or("none".to_string(), |b| b.to_string());
+                let (name, program, model) = (layout::name(*at), byte(program), byte(model));
+                write!(to, "byte {at} of the state ({name}) is {program}, the model's {model}")
+            }
+            Difference::Changed => {
+                write!(to, "a call that was refused, reads or reports changed memory")
+            }
+            Difference::AtLine { line, difference } => {
+                write!(to, "line {line}, a call at a time: {difference}")
             }
         }
     }

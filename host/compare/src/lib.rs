@@ -1,9 +1,12 @@
-//! The proved machine against the plain machine: every reply of a roll, and pool and
-//! table after it.
+//! The proved machine against the plain machine: every reply of a roll, and state, pool
+//! and table after every line.
 //!
 //! - `difference`: what can differ, in words;
 //! - `check`: replies and memory of a program against the plain machine;
 //! - `played`: a case played by the proved machine, in memory that was not clean;
+//! - `layout`: the state in bytes; `state`: from the plain machine to the state, and back;
+//! - `stepwise`: a case played a call at a time, in step with the plain machine;
+//! - `sound`: what makes a state unsound, clause by clause;
 //! - `run`: many random rolls over all cores, and a failing one shrunk;
 //! - `coverage`: which calls were accepted and which refusals were met;
 //! - `pairs`: the two lists of demand 3, played by the proved machine;
@@ -13,19 +16,26 @@
 mod check;
 mod coverage;
 mod difference;
+pub mod layout;
 mod mutants;
 mod pairs;
 mod played;
 mod run;
+mod sound;
+mod state;
+mod stepwise;
 mod with_frames;
 
-pub use check::{check, Expected};
+pub use check::{check, check_entries, Expected};
 pub use coverage::Coverage;
 pub use difference::{Difference, Place, Side};
 pub use mutants::{table, tell, Mutant, Told};
 pub use pairs::{compare_pair, PairSeen};
 pub use played::{play, Lengths};
 pub use run::{run, Failure};
+pub use sound::{unsound_clauses, Clause};
+pub use state::{machine_of, state_of};
+pub use stepwise::{check_state, in_step, Kept};
 pub use with_frames::{MemoryFault, WithFrames};
 
 use gazhuppin::Played;
@@ -36,10 +46,11 @@ pub fn compare(case: &Case) -> Result<(), Difference> {
     compare_with(case, Lengths::of(case)).map(|_| ())
 }
 
-/// The same with lent memory of these lengths, right or wrong. Gives what the proved
-/// machine left.
+/// The same with lent memory of these lengths, right or wrong: the roll is played a call
+/// at a time, and as a whole. Gives what the whole roll left.
 pub fn compare_with(case: &Case, lengths: Lengths) -> Result<Played, Difference> {
+    let expected = in_step(case, lengths)?;
     let played = play(case, lengths);
-    check(&played, &Expected::of(case, lengths))?;
+    check(&played, &expected)?;
     Ok(played)
 }

@@ -1,5 +1,5 @@
 //! `compare [ROLLS] [SEED]` compares the proved machine with the plain one on so many
-//! random rolls, from this seed on. `compare --mutants` prints which roll tells each
+//! random rolls, from this seed on, a call at a time and as whole rolls. `compare --mutants` prints which roll tells each
 //! wrong machine, as Markdown.
 
 use compare::{run, table, tell, Mutant};

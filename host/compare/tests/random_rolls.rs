@@ -1,4 +1,5 @@
-//! The proved machine answers and keeps what the plain machine does.
+//! The proved machine answers and keeps what the plain machine does: answers, state, pool and
+//! table after every line of random rolls, and replies, pool and table of the whole rolls.
 
 use compare::{compare, compare_with, run, Failure, Lengths};
 use gazhuppin::{Played, REPLY_BYTES};
@@ -49,8 +50,8 @@ fn rolls_of_the_greatest_length_and_above() {
     }
 }
 
-/// Memory is compared after every call and not just after the last one; and a call
-/// that is refused, reads or reports leaves pool and table as they were.
+/// Of rolls played as a whole, memory is compared after every line and not just after the
+/// last one; and a call that is refused, reads or reports leaves pool and table as they were.
 #[test]
 fn every_part_of_a_roll() {
     let (mut unchanged, mut changed) = (0, 0);

@@ -65,6 +65,11 @@ impl Machine {
         }
     }
 
+    /// MACHINE 9.2: The machine that keeps these sandboxes.
+    pub fn keeping(image: &[u8], frames: usize, sandboxes: [Box<Sandbox>; SANDBOXES]) -> Machine {
+        Machine { sandboxes, ..Machine::fresh(image, frames) }
+    }
+
     /// MACHINE 4.1 and 4.2: One call: the number (0 when accepted) and the value.
     #[allow(clippy::too_many_arguments)]
     pub fn call(
