@@ -17,12 +17,18 @@ const REPEATS: usize = 64;
 /// A call measured in a state: what the state's calls cost is taken off.
 pub struct Row {
     name: &'static str,
-    state: State,
-    call: Call,
+    pub(crate) state: State,
+    pub(crate) call: Call,
     /// The refusal's number, 0 where the call is accepted.
-    number: u32,
+    pub(crate) number: u32,
     /// Whether the call is accepted again and again, with the same work.
     repeats: bool,
+}
+
+impl Row {
+    pub(crate) fn title(&self) -> String {
+        format!("{}: {}", self.state.name(), self.name)
+    }
 }
 
 pub fn rows() -> Vec<Row> {
@@ -61,7 +67,7 @@ pub fn rows() -> Vec<Row> {
 }
 
 /// How often a row's call stands in its roll.
-fn repeats(row: &Row, purpose: Purpose) -> usize {
+pub(crate) fn repeats(row: &Row, purpose: Purpose) -> usize {
     match purpose {
         Purpose::Time if row.repeats => REPEATS,
         _ => 1,
@@ -85,7 +91,7 @@ fn works(purpose: Purpose) -> Vec<Work> {
 }
 
 /// Where a row's work stands, and that of its state's calls alone.
-fn pair(rows: &[Row], row: usize, player: usize) -> (usize, usize) {
+pub(crate) fn pair(rows: &[Row], row: usize, player: usize) -> (usize, usize) {
     let base = player * (State::ALL.len() + rows.len());
     (base + State::ALL.len() + row, base + rows[row].state as usize)
 }
@@ -103,7 +109,7 @@ fn written(costs: &Costs) -> String {
         };
         let [proved, unproved, same] = [0, 1, 2].map(count);
         vec![
-            format!("{}: {}", row.state.name(), row.name),
+            row.title(),
             thousands(proved),
             thousands(unproved),
             ratio(proved, unproved),
@@ -155,7 +161,7 @@ pub fn dearest(costs: &Costs, other: usize, lines: Lines) -> (Dearest, Option<De
             (0..rows.len()).filter(|&row| (rows[row].number == 2) == (lines == Lines::OfNoCall));
         let ratios = looked_at.map(|row| (ratio(row, cost), row));
         let (ratio, row) = ratios.max_by(|a, b| a.0.total_cmp(&b.0)).expect("there are rows");
-        Dearest { ratio, name: format!("{}: {}", rows[row].state.name(), rows[row].name) }
+        Dearest { ratio, name: rows[row].title() }
     };
     let counted = most(&|with, without| costs.counts.difference(with, without) as f64);
     let timed = costs.times.as_ref().map(|times| most(&|a, b| times.difference(a, b)));

@@ -5,7 +5,7 @@
 //!   `copying`: whole copies;
 //! - `roll` and `states`: the calls that are measured, and the states before them;
 //! - `work` and `meter`: what is measured, and instructions and times of it;
-//! - `calls`, `mixed`, `rewind`, `snapshot`, `frames`, `rounds`: the tables;
+//! - `calls`, `mixed`, `rewind`, `snapshot`, `frames`, `rounds`, `stepwise`: the tables;
 //! - `reach`: what is reached and what is not;
 //! - `table`, `svg` and `document`: how they are written.
 
@@ -24,6 +24,7 @@ mod rounds;
 pub mod same_steps;
 mod snapshot;
 mod states;
+mod stepwise;
 mod svg;
 pub mod table;
 pub mod unproved;
@@ -32,7 +33,7 @@ mod work;
 use table::Table;
 
 /// The tables of docs/BENCHMARK.md.
-pub const TABLES: [Table; 7] = [
+pub const TABLES: [Table; 8] = [
     calls::TABLE,
     mixed::TABLE,
     rewind::TABLE,
@@ -40,4 +41,5 @@ pub const TABLES: [Table; 7] = [
     frames::TABLE,
     rounds::TABLE,
     rounds::ADVERSE,
+    stepwise::TABLE,
 ];

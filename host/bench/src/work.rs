@@ -1,5 +1,5 @@
-//! What is measured: a roll played by one of the machines, or one step of the copying
-//! machine, or a bare copy.
+//! What is measured: a roll played by one of the machines, or its calls made one at a time,
+//! or one step of the copying machine, or a bare copy.
 
 use crate::copying::Copying;
 use crate::{same_steps, unproved};
@@ -28,6 +28,11 @@ pub enum Work {
         roll: Vec<u8>,
         image: Vec<u8>,
     },
+    /// A start of the proved machine and these calls, one at a time.
+    Calls {
+        calls: Vec<gazhuppin::Call>,
+        image: Vec<u8>,
+    },
     /// The copying machine's snapshot: all 64 pages and their mappings.
     CopyingSnapshot,
     /// The copying machine's rewind: all 64 pages and their mappings.
@@ -49,6 +54,14 @@ impl Work {
         Work::Play { player, roll, image: crate::roll::image() }
     }
 
+    pub fn calls(calls: &[model::Call]) -> Work {
+        let number = |call: &model::Call| {
+            let model::Call { code, sandbox, parameters } = *call;
+            gazhuppin::Call { code, sandbox, parameters }
+        };
+        Work::Calls { calls: calls.iter().map(number).collect(), image: crate::roll::image() }
+    }
+
     /// The work, ready to be done: nothing is allocated or prepared within it.
     pub fn prepared(&self) -> Box<dyn FnMut() + '_> {
         match self {
@@ -57,6 +70,18 @@ impl Work {
                 Box::new(move || {
                     let lines = player.play(roll, image, &mut pool, &mut table, &mut out);
                     black_box(lines);
+                })
+            }
+            Work::Calls { calls, image } => {
+                let (mut pool, mut table, _) = lent(&[]);
+                let mut state = vec![0; gazhuppin::state_bytes()];
+                Box::new(move || {
+                    let started = gazhuppin::start(&mut state, &mut pool, &mut table, image);
+                    let _ = black_box(started);
+                    for call in calls {
+                        let told = gazhuppin::call(&mut state, &mut pool, &mut table, image, call);
+                        black_box(told);
+                    }
                 })
             }
             Work::CopyingSnapshot => {
