@@ -23,6 +23,7 @@ What is proved of the machine, and what that supposes, stands in docs/CLAIMS.md.
 
 import ctypes
 import enum
+import operator
 import os
 import pathlib
 
@@ -121,9 +122,10 @@ def _pairs(*lent):
 
 def _number(value):
     """A 16-bit number; ctypes would cut off what is above it."""
+    value = operator.index(value)
     if not 0 <= value <= 0xFFFF:
         raise ValueError(f"{value} is not a number from 0 to 65535")
-    return int(value)
+    return value
 
 
 def address(page, offset):

@@ -72,6 +72,7 @@ class Calls(unittest.TestCase):
         for wrong in (65536, -1, 1 << 80):
             self.assertRaises(ValueError, machine.read, 0, wrong)
             self.assertRaises(ValueError, machine.write, 0, 0, wrong)
+        self.assertRaises(TypeError, machine.read, 0, 1.5)
         self.assertRaises(ValueError, address, 0, 256)
 
     def test_memory_is_the_machines_own(self):

@@ -4,9 +4,8 @@
 
 mod common;
 
-use common::{here, made, printed};
+use common::{here, made, printed, say};
 use std::fs;
-use std::io::Write;
 use std::path::PathBuf;
 use std::process::Command;
 
@@ -18,9 +17,7 @@ fn python_is_here() -> bool {
     let version = Command::new("python3").arg("--version").output();
     let found = version.is_ok_and(|output| output.status.success());
     if !found {
-        // Not by `println`, which is shown for failing tests alone.
-        let said = writeln!(std::io::stderr(), "python3 is missing: host/python was NOT tested");
-        said.expect("standard error");
+        say("python3 is missing: host/python was NOT tested");
     }
     found
 }

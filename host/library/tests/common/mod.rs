@@ -3,6 +3,7 @@
 // No test uses all of it.
 #![allow(dead_code)]
 
+use std::io::Write;
 use std::path::{Path, PathBuf};
 use std::process::Command;
 
@@ -14,6 +15,12 @@ pub fn here() -> &'static Path {
 /// A file among those that the tests make.
 pub fn made(name: &str) -> PathBuf {
     Path::new(env!("CARGO_TARGET_TMPDIR")).join(name)
+}
+
+/// Says that something was not tested. Not by `println`, which is shown for failing tests
+/// alone.
+pub fn say(line: &str) {
+    writeln!(std::io::stderr(), "{line}").expect("standard error");
 }
 
 /// What a program prints; it must end well.
