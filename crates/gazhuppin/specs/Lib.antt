@@ -1,2 +1,3 @@
 pub mod FromStart
 pub mod Replies
+pub mod Stepwise

@@ -1,7 +1,8 @@
 // The library for hosts in C and Rust: a roll is played from a start over lent memory, and pool and table are left for the host to look at.
 // It promises that whatever is lent, the call ends; that the replies are those of a run from the start (`Played`), and nothing is touched where
 // they would not fit (`FromStart`); and that they are the plain machine's (proofs/PlainReplies).
-// It stands on `roll` for the play and on `soundness` for the start. The state stays inside: nothing that holds an enum crosses to C.
+// It stands on `roll` for the play and on `soundness` for the start. Nothing that holds an enum crosses to C: in a play the state stays inside, and a host that
+// keeps it between calls has it as bytes (src/stepwise), by `encoding`.
 ghost use mathlib.Core.Path.{_≡_};
 ghost use Rattle.lines.specs.Lines.{linesOf};
 ghost use Rattle.gazhuppin.specs.FromStart.{FromStart};
@@ -9,6 +10,8 @@ use lines::Line;
 use lines::lines_of;
 use roll::play;
 use soundness::start::start;
+
+pub mod stepwise;
 
 // How many lines a roll of so many bytes has, each of which gets a reply of 19 bytes.
 #[no_mangle]

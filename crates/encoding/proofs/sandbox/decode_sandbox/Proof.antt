@@ -1,0 +1,62 @@
+use Rattle.encoding.specs.Layout.{sandboxFrom}
+use Rattle.pages.specs.Parts.{partAt}
+use borrow.Author.Needs.{needs}
+use Rattle.encoding.proofs.sandbox.decode_sandbox.Statement.{statement}
+use Rattle.encoding.proofs.sandbox.decode_sandbox.Tie as tie
+
+sub-decode-areas : tie.Need-sub-decode-areas
+sub-decode-areas c = search needs
+
+part-decode-areas-start : tie.Need-part-decode-areas-start
+part-decode-areas-start c = search needs
+
+part-decode-areas-end : tie.Need-part-decode-areas-end
+part-decode-areas-end c = search needs
+
+decode-areas-requires : tie.Need-decode-areas-requires
+decode-areas-requires c κs = search needs
+
+sub-decode-areas-2 : tie.Need-sub-decode-areas-2
+sub-decode-areas-2 c = search needs
+
+part-decode-areas-start-2 : tie.Need-part-decode-areas-start-2
+part-decode-areas-start-2 c = search needs
+
+part-decode-areas-end-2 : tie.Need-part-decode-areas-end-2
+part-decode-areas-end-2 c = search needs
+
+decode-areas-requires-2 : tie.Need-decode-areas-requires-2
+decode-areas-requires-2 c κs = search needs
+
+shared-slice-read-t12 : tie.Need-shared-slice-read-t12
+shared-slice-read-t12 c = search needs
+
+shared-slice-read-t15 : tie.Need-shared-slice-read-t15
+shared-slice-read-t15 c = search needs
+
+shared-slice-read-t17 : tie.Need-shared-slice-read-t17
+shared-slice-read-t17 c = search needs
+
+returns : tie.Need-returns
+unfolding sandboxFrom partAt
+returns c =
+    let present = c .before .before .before .before .before .decode-areas .ensures in
+    let snapshot = c .before .before .before .decode-areas2 .ensures in
+    rw (present, snapshot)
+
+pub decode-sandbox-spec : {M : Type 1} → statement M
+decode-sandbox-spec =
+    tie.close
+    (tie.spec
+    sub-decode-areas
+    part-decode-areas-start
+    part-decode-areas-end
+    decode-areas-requires
+    sub-decode-areas-2
+    part-decode-areas-start-2
+    part-decode-areas-end-2
+    decode-areas-requires-2
+    shared-slice-read-t12
+    shared-slice-read-t15
+    shared-slice-read-t17
+    returns)

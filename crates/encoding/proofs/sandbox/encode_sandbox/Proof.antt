@@ -1,0 +1,90 @@
+use Rattle.encoding.specs.Rows.{part}
+use Rattle.encoding.specs.Layout.{sandboxBytes}
+use mathlib.Core.Path.{ap, _∙_}
+use native.Mathlib.Omega.{arith}
+use lib.ListN.{length, set, take, length-set}
+use Rattle.encoding.proofs.RowLaws.{puts-all, headed}
+use Prim.Native.Nat.{ℕ, _+_, _-_, _/_}
+use mathlib.Core.List.{List, [], _∷_, _++_}
+use lib.Seq.{length-take-le}
+use Rattle.encoding.proofs.LengthLaws.{length-areas}
+use Rattle.basics.specs.Ranges.{one}
+use borrow.Author.Needs.{needs}
+use Rattle.encoding.proofs.sandbox.encode_sandbox.Statement.{statement}
+use Rattle.encoding.proofs.sandbox.encode_sandbox.Tie as tie
+
+sub-encode-areas : tie.Need-sub-encode-areas
+sub-encode-areas c = search needs
+
+part-encode-areas-start : tie.Need-part-encode-areas-start
+part-encode-areas-start c = search needs
+
+part-encode-areas-end : tie.Need-part-encode-areas-end
+part-encode-areas-end c = search needs
+
+encode-areas-requires : tie.Need-encode-areas-requires
+encode-areas-requires c κs = search needs
+
+sub-encode-areas-2 : tie.Need-sub-encode-areas-2
+sub-encode-areas-2 c = search needs
+
+part-encode-areas-start-2 : tie.Need-part-encode-areas-start-2
+part-encode-areas-start-2 c = search needs
+
+part-encode-areas-end-2 : tie.Need-part-encode-areas-end-2
+part-encode-areas-end-2 c = search needs
+
+encode-areas-requires-2 : tie.Need-encode-areas-requires-2
+encode-areas-requires-2 c κs = search needs
+
+flag-requires : tie.Need-flag-requires
+flag-requires c κs = search needs
+
+slice-write-out : tie.Need-slice-write-out
+slice-write-out c = search needs
+
+slice-write-out-2 : tie.Need-slice-write-out-2
+slice-write-out-2 c = simp length-set (omega (arith, c .before .before .out2 .given))
+
+flag-requires-2 : tie.Need-flag-requires-2
+flag-requires-2 c κs = search needs
+
+slice-write-out-3 : tie.Need-slice-write-out-3
+slice-write-out-3 c = simp length-set (omega (arith, c .before .before .before .out2 .given))
+
+same-length : tie.Need-same-length
+same-length c = simp length-set (search needs)
+
+returns : tie.Need-returns
+unfolding sandboxBytes
+returns c =
+    let a = c .before .before .before .before .before .before .before .before .before .before .before .before .before .args in
+    let s = a .sandbox in
+    let p = c .before .before .before .before .before .before .before .before .encode-areas in
+    let q = c .before .before .before .before .encode-areas2 in
+    let lp = ap length (p .ensures) ∙ length-areas (s .present) in
+    let lq = ap length (q .ensures) ∙ length-areas (s .snapshot) in
+    rw (c .flag2 .ensures, c .before .flag .ensures)
+    (ap (λ (l : List ℕ). set (set (set l 0 (one (s .opened))) 1 (s .share)) 2 (one (s .taken))) (puts-all (part 49 (p .last .1 .0) ∷ part 49 (q .last .1 .0) ∷ []) (a .out .now) 3 (c .before .before .before .before .before .before .before .before .before .before .before .before .before .pre) (lp, (lq, tt)))
+    ∙ headed (one (s .opened) ∷ s .share ∷ one (s .taken) ∷ []) (take 3 (a .out .now)) (p .last .1 .0 ++ (q .last .1 .0 ++ [])) (length-take-le 3 (a .out .now) (omega (arith, c .before .before .before .before .before .before .before .before .before .before .before .before .before .pre)))
+    ∙ rw (p .ensures, q .ensures))
+
+pub encode-sandbox-spec : {M : Type 1} → statement M
+encode-sandbox-spec =
+    tie.close
+    (tie.spec
+    sub-encode-areas
+    part-encode-areas-start
+    part-encode-areas-end
+    encode-areas-requires
+    sub-encode-areas-2
+    part-encode-areas-start-2
+    part-encode-areas-end-2
+    encode-areas-requires-2
+    flag-requires
+    slice-write-out
+    slice-write-out-2
+    flag-requires-2
+    slice-write-out-3
+    same-length
+    returns)

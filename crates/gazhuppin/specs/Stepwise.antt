@@ -1,0 +1,77 @@
+-- What a start and a call do over a state in bytes, and what a list of such calls is.
+use mathlib.Core.Path.{_≡_}
+use mathlib.Core.Bool.{true, false, not}
+use mathlib.Core.List.{List, [], _∷_}
+use Prim.Native.Nat.{ℕ}
+use lib.Dec.{eqb}
+use lib.ListN.{length}
+use Rattle.basics.specs.Choice.{_when_else_}
+use Rattle.interface.specs.declared.request.Request.{Request}
+use Rattle.interface.specs.declared.answer.Answer.{Answer}
+use Rattle.interface.specs.Answers.{Answered, numberOf, valueOf}
+use Rattle.interface.specs.Requests.{isCall}
+use Rattle.state.specs.World.{World, worldOf}
+use Rattle.state.specs.Start.{startAnswer, startedBy}
+use Rattle.state.specs.declared.sandbox.Machine.{Machine}
+use Rattle.encoding.specs.Layout.{stateSize, stateBytes, stateFrom, isState}
+use Rattle.machine.specs.Step.{Outcome, Stepped}
+use Rattle.gazhuppin.specs.declared.stepwise.Told.{Told}
+
+-- what a host hands over at each call and gets back: "Between calls the state, pool and table are handed back unaltered"
+pub record Handed : Type 0 where
+  pub state : List ℕ
+  pub pool : List ℕ
+  pub table : List ℕ
+
+abbrev pub handed : List ℕ → List ℕ → List ℕ → Handed
+handed state pool table = record { state = state; pool = pool; table = table }
+
+-- the state of a world
+abbrev pub machineOf : World → Machine
+machineOf w = record { sandboxes = w .sandboxes; held = w .store .marks }
+
+-- a world as it is handed over, and the world that is handed over
+abbrev pub handsOf : World → Handed
+handsOf w = handed (stateBytes (machineOf w)) (w .store .pool) (w .store .table)
+
+abbrev pub worldIn : Handed → World
+worldIn h = worldOf (stateFrom (h .state)) (h .pool) (h .table)
+
+abbrev pub requestOf : ℕ → ℕ → ℕ → ℕ → ℕ → ℕ → ℕ → Request
+requestOf code sandbox p1 p2 p3 p4 p5 = record { code = code; sandbox = sandbox; p1 = p1; p2 = p2; p3 = p3; p4 = p4; p5 = p5 }
+
+-- an answer's number and value
+abbrev pub toldBy : Answer → Told
+toldBy a = record { number = numberOf a; value = valueOf a }
+
+abbrev pub answerTold : Told → Answered
+answerTold t = record { number = t .number; value = t .value }
+
+-- ---- the start
+
+-- "where a length is wrong, is refusal 3": the state's too
+unfoldable pub startNumber : List ℕ → Handed → ℕ
+startNumber image h = numberOf (startAnswer (h .pool) (h .table) image) when eqb (length (h .state)) stateSize else 3
+
+-- "starting clears pool and table, or .. clears nothing, though the state it gives is fresh"; without room for a state, nothing is written
+unfoldable pub startHands : List ℕ → Handed → Handed
+startHands image h = handsOf (startedBy (h .pool) (h .table) image) when eqb (length (h .state)) stateSize else h
+
+-- ---- a call
+
+-- rows 2 and 3, where the bytes are no state's
+abbrev pub noState : Request → Answered
+noState q = record { number = 2 when not (isCall q) else 3; value = 0 }
+
+-- bytes that are no state's are an unsound state, and nothing changes; others are called as the state that they give, and the bytes of its next state are left
+pub record Called (image : List ℕ) (h : Handed) (q : Request) (t : Told) (l : Handed) : Type 0 where
+  pub unsound : isState (h .state) ≡ false → (answerTold t ≡ noState q) × (l ≡ h)
+  pub stepped : isState (h .state) ≡ true → (o : Outcome) × (Stepped image (worldIn h) q o × ((answerTold t ≡ o .answer) × (l ≡ handsOf (o .world))))
+  -- "A refusal answers its number and value 0; state, pool and table are unchanged": every byte of them
+  pub refused : (t .number ≡ 0 → ⊥) → (t .value ≡ 0) × (l ≡ h)
+
+-- calls in turn, each with what the one before left: requests and their answers
+pub data Calls (image : List ℕ) : Handed → List Request → List Answered → Handed → Type 0 where
+  none : {h : Handed} → Calls image h [] [] h
+  more : {h k l : Handed} {q : Request} {t : Told} {qs : List Request} {as′ : List Answered}
+      → Called image h q t k → Calls image k qs as′ l → Calls image h (q ∷ qs) (answerTold t ∷ as′) l
