@@ -1,3 +1,6 @@
 pub mod RowLaws
+pub mod RowLoops
+pub mod PartsLaws
 pub mod LengthLaws
 pub mod LayoutLaws
+pub mod Claims

@@ -1,13 +1,12 @@
--- The state in bytes: 420 of them, each part at its place. An area has 6 bytes, the areas of a sandbox 1 + 8 * 6 = 49, a sandbox 3 + 2 * 49 = 101, and the state
--- four sandboxes and two words of 8 bytes.
+-- THE LAYOUT: a state in 420 bytes. Each part of it is a table, from an area up to the state; every size and place has one name, made of those before it.
 use Prim.Native.Nat.{ℕ, _+_, _*_, _^_, _<_}
 use mathlib.Core.Path.{_≡_}
 use mathlib.Core.Bool.{Bool, _&&_, _||_}
 use mathlib.Core.List.{List, [], _∷_}
 use lib.Dec.{leb, eqb}
-use lib.ListN.{length, getD}
+use lib.ListN.{length, getD, drop}
 use Rattle.basics.specs.Choice.{_when_else_}
-use Rattle.basics.specs.Ranges.{one, every}
+use Rattle.basics.specs.Ranges.{one}
 use Rattle.interface.specs.declared.page.Backing.{Backing}
 use Rattle.interface.specs.declared.page.Backing.the-variants.{Anonymous, Image}
 use Rattle.pages.specs.Parts.{partAt}
@@ -17,28 +16,41 @@ use Rattle.areas.specs.Areas.{none, startOf}
 use Rattle.state.specs.declared.sandbox.Sandbox.{Sandbox}
 use Rattle.state.specs.declared.sandbox.Machine.{Machine}
 use Rattle.state.specs.World.{closedSandbox}
-use Rattle.encoding.specs.Rows.{digits, spelled, joined, firsts, Part, part, flat}
+use Rattle.encoding.specs.Rows.{digits, spelled, Part, part, byte, flat, rowBytes, rowFrom, isRow}
 
--- ---- how many bytes each part has
+-- ---- how many bytes each part has, and where it stands
 
 abbrev pub areaSize : ℕ
 areaSize = 6
 
+-- "A sandbox has at most 8": their places, behind the count of them
+abbrev pub placesSize : ℕ
+placesSize = 8 * areaSize
+
 abbrev pub areasSize : ℕ
-areasSize = 49
+areasSize = 1 + placesSize
+
+abbrev pub presentAt : ℕ
+presentAt = 3
+
+abbrev pub snapshotAt : ℕ
+snapshotAt = presentAt + areasSize
 
 abbrev pub sandboxSize : ℕ
-sandboxSize = 101
+sandboxSize = snapshotAt + areasSize
 
--- the marks stand behind the four sandboxes, in two words
+-- "Four sandboxes stand in a row", and behind them the marks of the held frames, "two 64-bit words"
+abbrev pub wordSize : ℕ
+wordSize = 8
+
 abbrev pub lowAt : ℕ
-lowAt = 404
+lowAt = 4 * sandboxSize
 
 abbrev pub highAt : ℕ
-highAt = 412
+highAt = lowAt + wordSize
 
 abbrev pub stateSize : ℕ
-stateSize = 420
+stateSize = highAt + wordSize
 
 -- ---- from a state to its bytes
 
@@ -47,24 +59,36 @@ abbrev pub kindOf : Backing → ℕ
 kindOf Anonymous = 0
 kindOf (Image first) = 1
 
--- an area: first page, pages, rights, mark, kind of backing, first image page (0 when anonymous)
+-- an area: first page, pages, rights, mark (1 for committed), kind of backing, first image page (0 when anonymous)
+abbrev pub areaParts : Area → List Part
+areaParts a =
+    byte (a .first .0)
+    ∷ byte (a .pages)
+    ∷ byte (a .rights)
+    ∷ byte (one (a .committed))
+    ∷ byte (kindOf (a .backing))
+    ∷ byte (startOf (a .backing))
+    ∷ []
+
 unfoldable pub areaBytes : Area → List ℕ
-areaBytes a = a .first .0 ∷ a .pages ∷ a .rights ∷ one (a .committed) ∷ kindOf (a .backing) ∷ startOf (a .backing) ∷ []
+areaBytes a = flat (areaParts a)
 
--- the places of the areas
-unfoldable pub placesBytes : List Area → List ℕ
-placesBytes l = joined (λ k. areaBytes (getD l k none)) 8
+-- the areas of a sandbox: their number, then all eight places
+abbrev pub areasParts : Areas → List Part
+areasParts s =
+    byte (s .count)
+    ∷ part placesSize (rowBytes areaBytes none 8 (s .list))
+    ∷ []
 
--- their number, then each place
 unfoldable pub areasBytes : Areas → List ℕ
-areasBytes s = s .count ∷ placesBytes (s .list)
+areasBytes s = flat (areasParts s)
 
--- open or not, the share, whether a snapshot was taken, then the areas and the snapshot's areas
+-- a sandbox: 1 when open, the share, 1 when a snapshot was taken, its areas, the snapshot's areas
 abbrev pub sandboxParts : Sandbox → List Part
 sandboxParts b =
-    part 1 (one (b .opened) ∷ [])
-    ∷ part 1 (b .share ∷ [])
-    ∷ part 1 (one (b .taken) ∷ [])
+    byte (one (b .opened))
+    ∷ byte (b .share)
+    ∷ byte (one (b .taken))
     ∷ part areasSize (areasBytes (b .present))
     ∷ part areasSize (areasBytes (b .snapshot))
     ∷ []
@@ -72,18 +96,18 @@ sandboxParts b =
 unfoldable pub sandboxBytes : Sandbox → List ℕ
 sandboxBytes b = flat (sandboxParts b)
 
--- the sandboxes in a row
-unfoldable pub sandboxesBytes : List Sandbox → List ℕ
-sandboxesBytes l = joined (λ s. sandboxBytes (getD l s closedSandbox)) 4
-
--- the sandboxes, then the marks of the held frames, 64 to a word
+-- the state: the four sandboxes, then the marks of frames 0 to 63 and of frames 64 to 127, a word each, its lowest byte first
 abbrev pub stateParts : Machine → List Part
-stateParts m = part lowAt (sandboxesBytes (m .sandboxes)) ∷ part 8 (digits 8 (m .held .low)) ∷ part 8 (digits 8 (m .held .high)) ∷ []
+stateParts m =
+    part lowAt (rowBytes sandboxBytes closedSandbox 4 (m .sandboxes))
+    ∷ part wordSize (digits wordSize (m .held .low))
+    ∷ part wordSize (digits wordSize (m .held .high))
+    ∷ []
 
 unfoldable pub stateBytes : Machine → List ℕ
 stateBytes m = flat (stateParts m)
 
--- ---- from bytes to a state
+-- ---- from bytes to a state, whatever they are: a flag that is not 1 is false, a kind that is not 1 is anonymous
 
 abbrev pub backingFrom : ℕ → ℕ → Backing
 backingFrom kind page = Image (record { 0 = page }) when eqb kind 1 else Anonymous
@@ -97,46 +121,41 @@ areaFrom b = record {
   backing = backingFrom (getD b 4 0) (getD b 5 0);
 }
 
--- the place k of the areas
-abbrev pub placeIn : List ℕ → ℕ → List ℕ
-placeIn b k = partAt b (1 + k * areaSize) areaSize
-
 unfoldable pub areasFrom : List ℕ → Areas
-areasFrom b = record { count = getD b 0 0; list = firsts (λ k. areaFrom (placeIn b k)) 8 }
+areasFrom b = record { count = getD b 0 0; list = rowFrom areaFrom areaSize 8 (drop 1 b) }
 
 unfoldable pub sandboxFrom : List ℕ → Sandbox
 sandboxFrom b = record {
   opened = eqb (getD b 0 0) 1;
   share = getD b 1 0;
-  present = areasFrom (partAt b 3 areasSize);
   taken = eqb (getD b 2 0) 1;
-  snapshot = areasFrom (partAt b 52 areasSize);
+  present = areasFrom (partAt b presentAt areasSize);
+  snapshot = areasFrom (partAt b snapshotAt areasSize);
 }
-
--- the bytes of sandbox s
-abbrev pub sandboxIn : List ℕ → ℕ → List ℕ
-sandboxIn b s = partAt b (s * sandboxSize) sandboxSize
 
 unfoldable pub stateFrom : List ℕ → Machine
 stateFrom b = record {
-  sandboxes = firsts (λ s. sandboxFrom (sandboxIn b s)) 4;
-  held = record { low = spelled (partAt b lowAt 8); high = spelled (partAt b highAt 8) };
+  sandboxes = rowFrom sandboxFrom sandboxSize 4 b;
+  held = record { low = spelled (partAt b lowAt wordSize); high = spelled (partAt b highAt wordSize) };
 }
 
--- ---- which bytes are a state's
+-- ---- which bytes are a state's: flags and kinds are 0 or 1, an anonymous backing has image page 0, and the length is right
 
--- a mark is 0 or 1, a kind is 0 or 1, an anonymous backing has no image page
 unfoldable pub isArea : List ℕ → Bool
 isArea b = leb (getD b 3 0) 1 && (leb (getD b 4 0) 1 && (eqb (getD b 4 0) 1 || eqb (getD b 5 0) 0))
 
 unfoldable pub isAreas : List ℕ → Bool
-isAreas b = every (λ k. isArea (placeIn b k)) 0 8
+isAreas b = isRow isArea areaSize 8 (drop 1 b)
 
 unfoldable pub isSandbox : List ℕ → Bool
-isSandbox b = leb (getD b 0 0) 1 && (leb (getD b 2 0) 1 && (isAreas (partAt b 3 areasSize) && isAreas (partAt b 52 areasSize)))
+isSandbox b =
+    leb (getD b 0 0) 1
+    && (leb (getD b 2 0) 1
+    && (isAreas (partAt b presentAt areasSize)
+    && isAreas (partAt b snapshotAt areasSize)))
 
 unfoldable pub areSandboxes : List ℕ → Bool
-areSandboxes b = every (λ s. isSandbox (sandboxIn b s)) 0 4
+areSandboxes b = isRow isSandbox sandboxSize 4 b
 
 unfoldable pub isState : List ℕ → Bool
 isState b = eqb (length b) stateSize && areSandboxes b

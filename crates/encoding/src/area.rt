@@ -1,8 +1,11 @@
-// Areas in bytes: 6 for an area, 49 for the areas of a sandbox.
+// Areas in bytes.
 ghost use mathlib.Core.Path.{_≡_};
 ghost use lib.ListN.{length};
-ghost use Rattle.areas.specs.Areas.{startOf};
-ghost use Rattle.encoding.specs.Layout.{kindOf, areaBytes, placesBytes, areasBytes, backingFrom, areaFrom, areasFrom, isArea, isAreas};
+ghost use Rattle.areas.specs.Areas.{none, startOf};
+ghost use Rattle.encoding.specs.Layout.{areaSize, placesSize, areasSize};
+ghost use Rattle.encoding.specs.Layout.{kindOf, areaBytes, areasBytes, backingFrom, areaFrom, areasFrom, isArea, isAreas};
+ghost use Rattle.encoding.specs.Rows.{rowBytes};
+use crate::size::Size;
 use crate::word::flag;
 use areas::area::Area;
 use areas::area::Areas;
@@ -41,7 +44,7 @@ fn backing_from(kind: u8, page: u8) -> Backing
 }
 
 fn encode_area(area: Area, out: &mut [u8])
-    requires { ⌜ length (now out) ≡ 6 ⌝ }
+    requires { ⌜ length (now out) ≡ areaSize ⌝ }
     ensures { λ r. ⌜ now (out .exit) ≡ areaBytes area ⌝ }
 {
     let backing = area.backing;
@@ -54,7 +57,7 @@ fn encode_area(area: Area, out: &mut [u8])
 }
 
 fn decode_area(bytes: &[u8]) -> Area
-    requires { ⌜ length (now bytes) ≡ 6 ⌝ }
+    requires { ⌜ length (now bytes) ≡ areaSize ⌝ }
     ensures { λ r. ⌜ r ≡ areaFrom (now (bytes .entry)) ⌝ }
 {
     Area {
@@ -67,7 +70,7 @@ fn decode_area(bytes: &[u8]) -> Area
 }
 
 fn is_area(bytes: &[u8]) -> bool
-    requires { ⌜ length (now bytes) ≡ 6 ⌝ }
+    requires { ⌜ length (now bytes) ≡ areaSize ⌝ }
     ensures { λ r. ⌜ r ≡ isArea (now (bytes .entry)) ⌝ }
 {
     let kind = bytes[4];
@@ -75,21 +78,21 @@ fn is_area(bytes: &[u8]) -> bool
 }
 
 pub fn encode_areas(areas: Areas, out: &mut [u8])
-    requires { ⌜ length (now out) ≡ 49 ⌝ }
+    requires { ⌜ length (now out) ≡ areasSize ⌝ }
     ensures { λ r. ⌜ now (out .exit) ≡ areasBytes areas ⌝ }
 {
-    encode_places(areas, &mut out[1..49]);
+    encode_places(areas, &mut out[1..Size::AREAS]);
     out[0] = areas.count;
 }
 
 fn encode_places(areas: Areas, out: &mut [u8])
-    requires { ⌜ length (now out) ≡ 48 ⌝ }
-    ensures { λ r. ⌜ now (out .exit) ≡ placesBytes (areas .list) ⌝ }
+    requires { ⌜ length (now out) ≡ placesSize ⌝ }
+    ensures { λ r. ⌜ now (out .exit) ≡ rowBytes areaBytes none 8 (areas .list) ⌝ }
 {
     let mut k: usize = 0;
-    while k < 8 {
-        let at = k * 6;
-        let end = at + 6;
+    while k < Area::MOST {
+        let at = k * Size::AREA;
+        let end = at + Size::AREA;
         let area = areas.list[k];
         encode_area(area, &mut out[at..end]);
         k += 1;
@@ -97,15 +100,15 @@ fn encode_places(areas: Areas, out: &mut [u8])
 }
 
 pub fn decode_areas(bytes: &[u8]) -> Areas
-    requires { ⌜ length (now bytes) ≡ 49 ⌝ }
+    requires { ⌜ length (now bytes) ≡ areasSize ⌝ }
     ensures { λ r. ⌜ r ≡ areasFrom (now (bytes .entry)) ⌝ }
 {
     let mut areas = Areas::empty();
     areas.count = bytes[0];
     let mut k: usize = 0;
-    while k < 8 {
-        let at = 1 + k * 6;
-        let end = at + 6;
+    while k < Area::MOST {
+        let at = 1 + k * Size::AREA;
+        let end = at + Size::AREA;
         let area = decode_area(&bytes[at..end]);
         areas.list[k] = area;
         k += 1;
@@ -114,14 +117,14 @@ pub fn decode_areas(bytes: &[u8]) -> Areas
 }
 
 pub fn is_areas(bytes: &[u8]) -> bool
-    requires { ⌜ length (now bytes) ≡ 49 ⌝ }
+    requires { ⌜ length (now bytes) ≡ areasSize ⌝ }
     ensures { λ r. ⌜ r ≡ isAreas (now (bytes .entry)) ⌝ }
 {
     let mut all = true;
     let mut k: usize = 0;
-    while k < 8 {
-        let at = 1 + k * 6;
-        let end = at + 6;
+    while k < Area::MOST {
+        let at = 1 + k * Size::AREA;
+        let end = at + Size::AREA;
         all = all & is_area(&bytes[at..end]);
         k += 1;
     }

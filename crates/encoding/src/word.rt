@@ -3,6 +3,7 @@ ghost use mathlib.Core.Path.{_≡_};
 ghost use Prim.Native.Nat.{_≤_};
 ghost use lib.ListN.{length};
 ghost use Rattle.basics.specs.Ranges.{one};
+ghost use Rattle.encoding.specs.Layout.{wordSize};
 ghost use Rattle.encoding.specs.Rows.{digits, spelled};
 
 // 1 for true, 0 for false.
@@ -14,8 +15,8 @@ pub fn flag(on: bool) -> u8
 
 // A word in 8 bytes, the lowest first.
 pub fn encode_word(word: u64, out: &mut [u8])
-    requires { ⌜ length (now out) ≡ 8 ⌝ }
-    ensures { λ r. ⌜ now (out .exit) ≡ digits 8 word ⌝ }
+    requires { ⌜ length (now out) ≡ wordSize ⌝ }
+    ensures { λ r. ⌜ now (out .exit) ≡ digits wordSize word ⌝ }
 {
     let w1 = word / 256;
     let w2 = w1 / 256;
@@ -36,7 +37,7 @@ pub fn encode_word(word: u64, out: &mut [u8])
 
 // The word that 8 bytes spell.
 pub fn decode_word(bytes: &[u8]) -> u64
-    requires { ⌜ length (now bytes) ≡ 8 ⌝ }
+    requires { ⌜ length (now bytes) ≡ wordSize ⌝ }
     ensures { λ r. ⌜ r ≡ spelled (now (bytes .entry)) ⌝ }
 {
     let d7 = wide(bytes[7]);

@@ -1,23 +1,22 @@
-use Rattle.encoding.specs.Layout.{sandboxIn, isSandbox, areSandboxes, sandboxSize}
-use mathlib.Core.Path.{_≡_, refl, sym}
+use Prim.Native.Nat.{_-_, _*_}
+use mathlib.Core.Path.{ap, _∙_}
 use native.Mathlib.Omega.{arith}
-use Prim.Native.Nat.{_+_, _-_, _*_, _/_, _≤_}
-use Rattle.basics.specs.Ranges.{every}
-use Rattle.basics.proofs.LoopLaws.{every-last}
-use Rattle.pages.specs.Parts.{partAt}
+use Rattle.encoding.specs.Rows.{partIn}
+use Rattle.encoding.specs.Layout.{sandboxSize, isSandbox, areSandboxes}
+use Rattle.encoding.proofs.RowLoops.{Tested, tested-none, tested-next, tested-all}
+use Rattle.encoding.proofs.PartsLaws.{part-lent}
 use borrow.Author.Needs.{needs}
 use Rattle.encoding.proofs.are_sandboxes.Statement.{statement}
 use Rattle.encoding.proofs.are_sandboxes.Tie as tie
 
 abbrev Inv-loop : tie.InvT-loop
-Inv-loop bytes all₀ s₀ all s = (s ≤ 4) × (all ≡ every (λ j. isSandbox (sandboxIn bytes j)) 0 s)
+Inv-loop bytes all₀ s₀ all s = Tested (λ j. isSandbox (partIn sandboxSize bytes j)) 4 all s
 
 abbrev μ-loop : tie.MeasureT-loop
 μ-loop bytes all₀ s₀ all s = 4 - s
 
 loop-holds : tie.Need-loop-holds Inv-loop μ-loop
-unfolding every
-loop-holds c = (omega arith, refl)
+loop-holds c = let bytes = c .before .args .bytes .now in tested-none (λ j. isSandbox (partIn sandboxSize bytes j)) 4
 
 mul-at : tie.Need-mul-at Inv-loop μ-loop
 mul-at c = search needs
@@ -44,18 +43,18 @@ loop-less : tie.Need-loop-less Inv-loop μ-loop
 loop-less c = search needs
 
 loop-again : tie.Need-loop-again Inv-loop μ-loop
-unfolding partAt
 loop-again c =
     let at = c .before .before .before .loop in
     let bytes = c .before .before .before .before .before .args .bytes .now in
-    let wide : at .s * sandboxSize + sandboxSize - at .s * sandboxSize ≡ sandboxSize = omega arith in
-    (omega (arith, c .before .before .loop-test .taken), rw (at .inv .1, c .is-sandbox .ensures, wide) (sym (every-last (λ j. isSandbox (sandboxIn bytes j)) (at .s))))
+    let got = c .is-sandbox .ensures ∙ ap isSandbox (part-lent bytes (at .s * sandboxSize) sandboxSize) in
+    tested-next (λ j. isSandbox (partIn sandboxSize bytes j)) 4 (at .all) (c .is-sandbox .result) (at .s) (at .inv) (c .before .before .loop-test .taken) got
 
 returns : tie.Need-returns Inv-loop μ-loop
 unfolding areSandboxes
 returns c =
-    let done : c .before .loop .s ≡ 4 = omega (arith, c .loop-test .left, c .before .loop .inv .0) in
-    rw done at (c .before .loop .inv .1)
+    let at = c .before .loop in
+    let bytes = c .before .before .before .args .bytes .now in
+    tested-all (λ j. isSandbox (partIn sandboxSize bytes j)) 4 (at .all) (at .s) (at .inv) (omega (arith, c .loop-test .left))
 
 pub are-sandboxes-spec : {M : Type 1} → statement M
 are-sandboxes-spec =

@@ -1,19 +1,25 @@
-use Rattle.encoding.specs.Layout.{sandboxFrom, sandboxIn, stateFrom, sandboxSize}
-use mathlib.Core.Path.{_≡_, refl, ap}
+use Prim.Native.Nat.{ℕ, _-_, _*_}
+use mathlib.Core.Path.{refl, ap, _∙_}
+use mathlib.Core.List.{List}
 use native.Mathlib.Omega.{arith}
-use lib.ListN.{drop, replicate}
-use Prim.Native.Nat.{_+_, _-_, _*_, _/_, _≤_}
-use Rattle.encoding.specs.Rows.{firsts}
-use Rattle.encoding.proofs.RowLaws.{firsts-next, firsts-all}
+use lib.ListN.{replicate}
 use Rattle.pages.specs.Parts.{partAt}
-use mathlib.Core.List.{_++_}
+use Rattle.state.specs.declared.sandbox.Sandbox.{Sandbox}
 use Rattle.state.specs.World.{closedSandbox}
+use Rattle.encoding.specs.Rows.{partIn}
+use Rattle.encoding.specs.Layout.{sandboxSize, sandboxFrom, stateFrom}
+use Rattle.encoding.proofs.RowLoops.{Filled, filled-none, filled-next, filled-all}
+use Rattle.encoding.proofs.PartsLaws.{part-lent}
 use borrow.Author.Needs.{needs}
 use Rattle.encoding.proofs.decode.Statement.{statement}
 use Rattle.encoding.proofs.decode.Tie as tie
 
+-- sandbox j of the bytes
+abbrev sandboxIn : List ℕ → ℕ → Sandbox
+sandboxIn bytes j = sandboxFrom (partIn sandboxSize bytes j)
+
 abbrev Inv-loop : tie.InvT-loop
-Inv-loop bytes machine₀ s₀ machine s = (s ≤ 4) × (machine .sandboxes ≡ firsts (λ j. sandboxFrom (sandboxIn bytes j)) s ++ drop s (replicate 4 closedSandbox))
+Inv-loop bytes machine₀ s₀ machine s = Filled (sandboxIn bytes) 4 (replicate 4 closedSandbox) (machine .sandboxes) s
 
 abbrev μ-loop : tie.MeasureT-loop
 μ-loop bytes machine₀ s₀ machine s = 4 - s
@@ -22,8 +28,9 @@ fresh-requires : tie.Need-fresh-requires Inv-loop μ-loop
 fresh-requires c κs = search needs
 
 loop-holds : tie.Need-loop-holds Inv-loop μ-loop
-unfolding firsts
-loop-holds c = (omega arith, ap (λ m. m .sandboxes) (c .fresh .ensures))
+loop-holds c =
+    filled-none (sandboxIn (c .before .before .args .bytes .now)) 4 (replicate 4 closedSandbox) (c .fresh .result .sandboxes)
+    (ap (λ m. m .sandboxes) (c .fresh .ensures))
 
 mul-at : tie.Need-mul-at Inv-loop μ-loop
 mul-at c = search needs
@@ -56,13 +63,13 @@ loop-less : tie.Need-loop-less Inv-loop μ-loop
 loop-less c = search needs
 
 loop-again : tie.Need-loop-again Inv-loop μ-loop
-unfolding partAt
 loop-again c =
     let at = c .before .before .before .loop in
     let bytes = c .before .before .before .before .before .before .args .bytes .now in
-    let wide : at .s * sandboxSize + sandboxSize - at .s * sandboxSize ≡ sandboxSize = omega arith in
-    let got : c .decode-sandbox .result ≡ sandboxFrom (sandboxIn bytes (at .s)) = rw wide at (c .decode-sandbox .ensures) in
-    (omega (arith, c .before .before .loop-test .taken), firsts-next (λ j. sandboxFrom (sandboxIn bytes j)) (replicate 4 closedSandbox) (at .machine .sandboxes) (at .s) closedSandbox (c .decode-sandbox .result) (omega (arith, c .before .before .loop-test .taken)) (at .inv .1) got)
+    let got = c .decode-sandbox .ensures ∙ ap sandboxFrom (part-lent bytes (at .s * sandboxSize) sandboxSize) in
+    let more = c .before .before .loop-test .taken in
+    filled-next (sandboxIn bytes) 4 (replicate 4 closedSandbox) closedSandbox (at .machine .sandboxes) (at .s) (c .decode-sandbox .result) (omega arith)
+    (at .inv) more got
 
 sub-decode-word : tie.Need-sub-decode-word Inv-loop μ-loop
 sub-decode-word c = search needs
@@ -93,11 +100,9 @@ unfolding stateFrom partAt
 returns c =
     let at = c .before .before .before .before .before .loop in
     let bytes = c .before .before .before .before .before .before .before .before .args .bytes .now in
-    let done : at .s ≡ 4 = omega (arith, c .before .before .before .before .loop-test .left, at .inv .0) in
-    λ i. record {
-      sandboxes = firsts-all (λ j. sandboxFrom (sandboxIn bytes j)) (replicate 4 closedSandbox) (at .machine .sandboxes) 4 (at .s) done refl (at .inv .1) i;
-      held = record { low = c .before .before .decode-word .ensures i; high = c .decode-word2 .ensures i };
-    }
+    let stop = c .before .before .before .before .loop-test .left in
+    let row = filled-all (sandboxIn bytes) 4 (replicate 4 closedSandbox) (at .machine .sandboxes) (at .s) refl (at .inv) (omega (arith, stop)) in
+    λ i. record { sandboxes = row i; held = record { low = c .before .before .decode-word .ensures i; high = c .decode-word2 .ensures i } }
 
 pub decode-spec : {M : Type 1} → statement M
 decode-spec =

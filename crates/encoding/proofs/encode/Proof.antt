@@ -1,14 +1,10 @@
-use Rattle.encoding.specs.Rows.{part}
-use Rattle.encoding.specs.Layout.{stateBytes, lowAt}
-use mathlib.Core.Path.{sym, ap, _∙_}
+use mathlib.Core.Path.{sym}
+use mathlib.Core.List.{[]}
 use native.Mathlib.Omega.{arith}
-use lib.ListN.{length}
-use Rattle.encoding.proofs.RowLaws.{puts-all}
-use Prim.Native.Nat.{_-_, _/_}
-use mathlib.Core.List.{[], _∷_}
 use lib.Seq.{length-take-le}
-use Rattle.encoding.proofs.LengthLaws.{length-sandboxes}
-use Rattle.encoding.proofs.RowLaws.{length-digits}
+use Rattle.encoding.specs.Layout.{lowAt, stateParts, stateBytes}
+use Rattle.encoding.proofs.LengthLaws.{sized-state}
+use Rattle.encoding.proofs.PartsLaws.{laid-out}
 use borrow.Author.Needs.{needs}
 use Rattle.encoding.proofs.encode.Statement.{statement}
 use Rattle.encoding.proofs.encode.Tie as tie
@@ -52,14 +48,11 @@ same-length c = search needs
 returns : tie.Need-returns
 unfolding stateBytes
 returns c =
-    let a = c .before .before .before .before .before .before .before .before .before .before .before .before .before .before .args in
-    let m = a .machine in
-    let p = c .before .before .before .before .before .before .before .before .before .before .encode-sandboxes in
-    let q = c .before .before .before .before .before .before .encode-word in
-    let r = c .before .before .encode-word2 in
-    puts-all (part lowAt (p .last .1 .0) ∷ part 8 (q .last .1 .0) ∷ part 8 (r .last .1 .0) ∷ []) (a .out .now) 0 (c .before .before .before .before .before .before .before .before .before .before .before .before .before .before .pre)
-    (ap length (p .ensures) ∙ length-sandboxes (m .sandboxes), (ap length (q .ensures) ∙ length-digits 8 (m .held .low), (ap length (r .ensures) ∙ length-digits 8 (m .held .high), tt)))
-    ∙ rw (p .ensures, q .ensures, r .ensures)
+    let k = c .before .before .before .before .before .before .before .before .before .before .before .before .before .before in
+    let row = c .before .before .before .before .before .before .before .before .before .before .encode-sandboxes .ensures in
+    let low = c .before .before .before .before .before .before .encode-word .ensures in
+    rw (row, low, c .before .before .encode-word2 .ensures)
+    (laid-out [] (stateParts (k .args .machine)) (k .args .out .now) (k .pre) (sized-state (k .args .machine)))
 
 pub encode-spec : {M : Type 1} → statement M
 encode-spec =

@@ -1,33 +1,31 @@
-use Rattle.encoding.specs.Layout.{sandboxBytes, sandboxesBytes, sandboxSize, lowAt}
-use mathlib.Core.Path.{_≡_, refl, ap, _∙_}
+use Prim.Native.Nat.{ℕ, _-_}
+use mathlib.Core.Path.{_≡_, ap, _∙_}
+use mathlib.Core.List.{List}
 use native.Mathlib.Omega.{arith}
-use lib.ListN.{length, getD, drop}
-use Rattle.encoding.proofs.RowLaws.{joined-next, joined-all, length-so-far}
-use Rattle.encoding.specs.Rows.{joined}
-use Prim.Native.Nat.{ℕ, _+_, _-_, _*_, _/_, _≤_}
-use mathlib.Core.List.{List, _++_}
-use Rattle.encoding.proofs.LengthLaws.{length-sandbox}
-use Rattle.state.specs.World.{closedSandbox}
-use Rattle.state.specs.declared.sandbox.Sandbox.{Sandbox}
-use Rattle.state.proofs.SharesLaws.{zeroSandbox}
+use lib.ListN.{length, getD}
 use Rattle.basics.proofs.ListLaws.{getD-any}
 use Rattle.basics.proofs.TestLaws.{length-mapped}
+use Rattle.state.specs.declared.sandbox.Sandbox.{Sandbox}
+use Rattle.state.specs.World.{closedSandbox}
+use Rattle.state.proofs.SharesLaws.{zeroSandbox}
+use Rattle.encoding.specs.Layout.{sandboxSize, sandboxBytes}
+use Rattle.encoding.proofs.RowLoops.{Written, written-none, written-next, written-all}
+use Rattle.encoding.proofs.LengthLaws.{length-sandbox}
 use borrow.Author.Needs.{needs}
 use Rattle.encoding.proofs.encode_sandboxes.Statement.{statement}
 use Rattle.encoding.proofs.encode_sandboxes.Tie as tie
 
 abbrev Inv-loop : tie.InvT-loop
-Inv-loop out₀ sandboxes s₀ out s = (s ≤ 4) × (length out ≡ lowAt) × (length out₀ ≡ lowAt) × (out ≡ joined (λ j. sandboxBytes (getD sandboxes j closedSandbox)) s ++ drop (s * sandboxSize) out₀)
+Inv-loop out₀ sandboxes s₀ out s = Written (λ j. sandboxBytes (getD sandboxes j closedSandbox)) sandboxSize 4 out₀ out s
 
 abbrev μ-loop : tie.MeasureT-loop
 μ-loop out₀ sandboxes s₀ out s = 4 - s
 
-row : (c : tie.Start Inv-loop μ-loop) → length (c .args .t1) ≡ 4
-row c = search length-mapped
+row-of-four : (c : tie.Start Inv-loop μ-loop) → length (c .args .t1) ≡ 4
+row-of-four c = search length-mapped
 
 loop-holds : tie.Need-loop-holds Inv-loop μ-loop
-unfolding joined
-loop-holds c = (omega arith, c .before .pre, c .before .pre, refl)
+loop-holds c = written-none (λ j. sandboxBytes (getD (c .before .args .t1) j closedSandbox)) sandboxSize 4 (c .before .args .out .now) (c .before .pre)
 
 mul-at : tie.Need-mul-at Inv-loop μ-loop
 mul-at c = search needs
@@ -62,24 +60,24 @@ loop-less c = search needs
 loop-again : tie.Need-loop-again Inv-loop μ-loop
 loop-again c =
     let at = c .before .before .before .before .before .before .loop in
-    let a = c .before .before .before .before .before .before .before .before .args in
-    let four : length (a .t1) ≡ 4 = row (c .before .before .before .before .before .before .before .before) in
-    let less = c .before .before .before .before .before .loop-test .taken in
-    let f : ℕ → List ℕ = λ j. sandboxBytes (getD (a .t1) j closedSandbox) in
-    let each : (j : ℕ) → length (f j) ≡ sandboxSize = λ j. length-sandbox (getD (a .t1) j closedSandbox) in
-    let read : _≡_ {A = Sandbox} (getD (a .t1) (at .s) zeroSandbox) (getD (a .t1) (at .s) closedSandbox) = getD-any (a .t1) (at .s) zeroSandbox closedSandbox (omega (arith, less)) in
-    let e = joined-next f sandboxSize each (a .out .now) (at .out) (c .before .before .encode-sandbox .last .1 .0) (at .s) (at .s * sandboxSize) (at .s * sandboxSize + sandboxSize) (at .inv .3) refl refl (c .before .before .encode-sandbox .ensures ∙ ap sandboxBytes read) in
-    (omega (arith, less), ap length e ∙ length-so-far f sandboxSize each (at .s + 1) (a .out .now) (omega (arith, less, at .inv .2)) ∙ at .inv .2, at .inv .2, e)
+    let first = c .before .before .before .before .before .before .before .before in
+    let row : List Sandbox = first .args .t1 in
+    let four = row-of-four first in
+    let more = c .before .before .before .before .before .loop-test .taken in
+    let f : ℕ → List ℕ = λ j. sandboxBytes (getD row j closedSandbox) in
+    let read : getD row (at .s) zeroSandbox ≡ getD row (at .s) closedSandbox = getD-any row (at .s) zeroSandbox closedSandbox (omega (arith, more)) in
+    let got = c .before .before .encode-sandbox in
+    written-next f sandboxSize 4 (first .args .out .now) (λ j. length-sandbox (getD row j closedSandbox)) (at .out) (got .last .1 .0) (at .s) (at .inv)
+    more (got .ensures ∙ ap sandboxBytes read)
 
 same-length : tie.Need-same-length Inv-loop μ-loop
 same-length c = search needs
 
 returns : tie.Need-returns Inv-loop μ-loop
-unfolding sandboxesBytes
 returns c =
     let a = c .before .before .before .args in
-    let done : c .before .loop .s ≡ 4 = omega (arith, c .loop-test .left, c .before .loop .inv .0) in
-    joined-all (λ j. sandboxBytes (getD (a .t1) j closedSandbox)) sandboxSize (λ j. length-sandbox (getD (a .t1) j closedSandbox)) 4 (a .out .now) (c .before .loop .out) (c .before .loop .s) done (c .before .before .before .pre) (c .before .loop .inv .3)
+    let at = c .before .loop in
+    written-all (λ j. sandboxBytes (getD (a .t1) j closedSandbox)) sandboxSize 4 (a .out .now) (at .out) (at .s) (at .inv) (omega (arith, c .loop-test .left))
 
 pub encode-sandboxes-spec : {M : Type 1} → statement M
 encode-sandboxes-spec =

@@ -1,19 +1,24 @@
-use Rattle.encoding.specs.Layout.{areaFrom, areasFrom, placeIn}
-use mathlib.Core.Path.{_≡_, refl, ap}
+use Prim.Native.Nat.{ℕ, _-_, _*_}
+use mathlib.Core.Path.{_≡_, refl, ap, _∙_}
+use mathlib.Core.List.{List}
 use native.Mathlib.Omega.{arith}
 use lib.ListN.{getD, drop, replicate}
-use Prim.Native.Nat.{_+_, _-_, _*_, _/_, _≤_}
-use Rattle.encoding.specs.Rows.{firsts}
-use Rattle.encoding.proofs.RowLaws.{firsts-next, firsts-all}
-use Rattle.pages.specs.Parts.{partAt}
-use mathlib.Core.List.{_++_}
+use Rattle.areas.specs.declared.area.Area.{Area}
 use Rattle.areas.specs.Areas.{none}
+use Rattle.encoding.specs.Rows.{partIn}
+use Rattle.encoding.specs.Layout.{areaSize, areaFrom, areasFrom}
+use Rattle.encoding.proofs.RowLoops.{Filled, filled-none, filled-next, filled-all}
+use Rattle.encoding.proofs.PartsLaws.{part-lent-behind}
 use borrow.Author.Needs.{needs}
 use Rattle.encoding.proofs.area.decode_areas.Statement.{statement}
 use Rattle.encoding.proofs.area.decode_areas.Tie as tie
 
+-- the area that stands in place j of the bytes
+abbrev areaIn : List ℕ → ℕ → Area
+areaIn bytes j = areaFrom (partIn areaSize (drop 1 bytes) j)
+
 abbrev Inv-loop : tie.InvT-loop
-Inv-loop bytes areas₀ k₀ areas k = (k ≤ 8) × (areas .count ≡ getD bytes 0 0) × (areas .list ≡ firsts (λ j. areaFrom (placeIn bytes j)) k ++ drop k (replicate 8 none))
+Inv-loop bytes areas₀ k₀ areas k = (areas .count ≡ getD bytes 0 0) × Filled (areaIn bytes) 8 (replicate 8 none) (areas .list) k
 
 abbrev μ-loop : tie.MeasureT-loop
 μ-loop bytes areas₀ k₀ areas k = 8 - k
@@ -25,8 +30,10 @@ shared-slice-read-areas : tie.Need-shared-slice-read-areas Inv-loop μ-loop
 shared-slice-read-areas c = search needs
 
 loop-holds : tie.Need-loop-holds Inv-loop μ-loop
-unfolding firsts
-loop-holds c = (omega arith, refl, ap (λ a. a .list) (c .before .empty .ensures))
+loop-holds c =
+    let bytes = c .before .before .before .args .bytes .now in
+    let none-yet = c .before .empty in
+    (refl, filled-none (areaIn bytes) 8 (replicate 8 none) (none-yet .result .list) (ap (λ a. a .list) (none-yet .ensures)))
 
 mul-at : tie.Need-mul-at Inv-loop μ-loop
 mul-at c = search needs
@@ -62,21 +69,21 @@ loop-less : tie.Need-loop-less Inv-loop μ-loop
 loop-less c = search needs
 
 loop-again : tie.Need-loop-again Inv-loop μ-loop
-unfolding partAt
 loop-again c =
     let at = c .before .before .before .loop in
     let bytes = c .before .before .before .before .before .before .before .args .bytes .now in
-    let six : 1 + at .k * 6 + 6 - (1 + at .k * 6) ≡ 6 = omega arith in
-    let got : c .decode-area .result ≡ areaFrom (placeIn bytes (at .k)) = rw six at (c .decode-area .ensures) in
-    (omega (arith, c .before .before .loop-test .taken), at .inv .1, firsts-next (λ j. areaFrom (placeIn bytes j)) (replicate 8 none) (at .areas .list) (at .k) none (c .decode-area .result) (omega (arith, c .before .before .loop-test .taken)) (at .inv .2) got)
+    let got : c .decode-area .result ≡ areaIn bytes (at .k)
+    = c .decode-area .ensures ∙ ap areaFrom (part-lent-behind bytes 1 (at .k * areaSize) areaSize) in
+    let more = c .before .before .loop-test .taken in
+    (at .inv .0, filled-next (areaIn bytes) 8 (replicate 8 none) none (at .areas .list) (at .k) (c .decode-area .result) (omega arith) (at .inv .1) more got)
 
 returns : tie.Need-returns Inv-loop μ-loop
 unfolding areasFrom
 returns c =
     let at = c .before .loop in
     let bytes = c .before .before .before .before .before .args .bytes .now in
-    let done : at .k ≡ 8 = omega (arith, c .loop-test .left, at .inv .0) in
-    λ i. record { count = at .inv .1 i; list = firsts-all (λ j. areaFrom (placeIn bytes j)) (replicate 8 none) (at .areas .list) 8 (at .k) done refl (at .inv .2) i }
+    let all = filled-all (areaIn bytes) 8 (replicate 8 none) (at .areas .list) (at .k) refl (at .inv .1) (omega (arith, c .loop-test .left)) in
+    λ i. record { count = at .inv .0 i; list = all i }
 
 pub decode-areas-spec : {M : Type 1} → statement M
 decode-areas-spec =

@@ -1,7 +1,7 @@
 use Rattle.encoding.specs.Layout.{areaBytes}
 use native.Mathlib.Omega.{arith}
 use lib.ListN.{length-set}
-use Rattle.encoding.proofs.RowLaws.{stored-all}
+use Rattle.encoding.proofs.PartsLaws.{stored-all}
 use borrow.Author.Needs.{needs}
 use Rattle.encoding.proofs.area.encode_area.Statement.{statement}
 use Rattle.encoding.proofs.area.encode_area.Tie as tie
@@ -38,7 +38,10 @@ same-length c = search needs
 
 returns : tie.Need-returns
 unfolding areaBytes
-returns c = rw (c .before .before .flag .ensures, c .before .kind-of .ensures, c .image-page-of .ensures) (stored-all (areaBytes (c .before .before .before .before .args .area)) (c .before .before .before .before .args .out .now) (c .before .before .before .before .pre))
+returns c =
+    let k = c .before .before .before .before in
+    rw (c .before .before .flag .ensures, c .before .kind-of .ensures, c .image-page-of .ensures)
+    (stored-all (areaBytes (k .args .area)) (k .args .out .now) (k .pre))
 
 pub encode-area-spec : {M : Type 1} → statement M
 encode-area-spec =

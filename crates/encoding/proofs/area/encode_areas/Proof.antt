@@ -1,13 +1,9 @@
-use Rattle.encoding.specs.Rows.{part}
+use mathlib.Core.List.{[], _∷_}
+use Rattle.areas.specs.Areas.{none}
+use Rattle.encoding.specs.Rows.{part, rowBytes}
+use Rattle.encoding.specs.Layout.{placesSize, areaBytes, areasBytes}
 use Rattle.encoding.proofs.LengthLaws.{length-places}
-use Rattle.encoding.specs.Layout.{areasBytes}
-use mathlib.Core.Path.{ap, _∙_}
-use native.Mathlib.Omega.{arith}
-use lib.ListN.{length, set, take}
-use Rattle.encoding.proofs.RowLaws.{puts-all, headed}
-use Prim.Native.Nat.{ℕ, _+_, _-_, _/_}
-use mathlib.Core.List.{List, [], _∷_, _++_, append-nil}
-use lib.Seq.{length-take-le}
+use Rattle.encoding.proofs.PartsLaws.{laid-out}
 use borrow.Author.Needs.{needs}
 use Rattle.encoding.proofs.area.encode_areas.Statement.{statement}
 use Rattle.encoding.proofs.area.encode_areas.Tie as tie
@@ -33,11 +29,10 @@ same-length c = search needs
 returns : tie.Need-returns
 unfolding areasBytes
 returns c =
-    let a = c .before .before .before .before .before .args in
-    let p = c .before .before .encode-places in
-    ap (λ (l : List ℕ). set l 0 (a .areas .count)) (puts-all (part 48 (p .last .1 .0) ∷ []) (a .out .now) 1 (c .before .before .before .before .before .pre) (ap length (p .ensures) ∙ length-places (a .areas .list), tt))
-    ∙ headed (a .areas .count ∷ []) (take 1 (a .out .now)) (p .last .1 .0 ++ []) (length-take-le 1 (a .out .now) (omega (arith, c .before .before .before .before .before .pre)))
-    ∙ ap (λ (l : List ℕ). a .areas .count ∷ l) (append-nil (p .last .1 .0) ∙ p .ensures)
+    let k = c .before .before .before .before .before in
+    let s = k .args .areas in
+    rw (c .before .before .encode-places .ensures)
+    (laid-out (s .count ∷ []) (part placesSize (rowBytes areaBytes none 8 (s .list)) ∷ []) (k .args .out .now) (k .pre) (length-places (s .list), tt))
 
 pub encode-areas-spec : {M : Type 1} → statement M
 encode-areas-spec =

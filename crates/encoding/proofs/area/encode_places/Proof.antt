@@ -1,27 +1,23 @@
-use Prim.Native.Nat.{ℕ, _+_, _-_, _*_, _/_, _≤_}
-use Rattle.encoding.specs.Layout.{areaBytes, placesBytes}
-use mathlib.Core.Path.{_≡_, refl, ap, _∙_}
+use Prim.Native.Nat.{ℕ, _-_}
+use mathlib.Core.List.{List}
 use native.Mathlib.Omega.{arith}
-use lib.ListN.{length, getD, drop}
-use Rattle.encoding.proofs.RowLaws.{joined-next, joined-all, length-so-far}
-use Rattle.encoding.specs.Rows.{joined}
-use Prim.Native.Nat.{_+_, _-_, _*_, _/_, _≤_}
-use mathlib.Core.List.{List, _++_}
-use Rattle.encoding.proofs.LengthLaws.{length-area}
+use lib.ListN.{getD}
 use Rattle.areas.specs.Areas.{none}
+use Rattle.encoding.specs.Layout.{areaSize, areaBytes}
+use Rattle.encoding.proofs.RowLoops.{Written, written-none, written-next, written-all}
+use Rattle.encoding.proofs.LengthLaws.{length-area}
 use borrow.Author.Needs.{needs}
 use Rattle.encoding.proofs.area.encode_places.Statement.{statement}
 use Rattle.encoding.proofs.area.encode_places.Tie as tie
 
 abbrev Inv-loop : tie.InvT-loop
-Inv-loop out₀ areas k₀ out k = (k ≤ 8) × (length out ≡ 48) × (length out₀ ≡ 48) × (out ≡ joined (λ j. areaBytes (getD (areas .list) j none)) k ++ drop (k * 6) out₀)
+Inv-loop out₀ areas k₀ out k = Written (λ j. areaBytes (getD (areas .list) j none)) areaSize 8 out₀ out k
 
 abbrev μ-loop : tie.MeasureT-loop
 μ-loop out₀ areas k₀ out k = 8 - k
 
 loop-holds : tie.Need-loop-holds Inv-loop μ-loop
-unfolding joined
-loop-holds c = (omega arith, c .before .pre, c .before .pre, refl)
+loop-holds c = written-none (λ j. areaBytes (getD (c .before .args .t1 .list) j none)) areaSize 8 (c .before .args .out .now) (c .before .pre)
 
 mul-at : tie.Need-mul-at Inv-loop μ-loop
 mul-at c = search needs
@@ -58,18 +54,18 @@ loop-again c =
     let at = c .before .before .before .before .before .before .loop in
     let a = c .before .before .before .before .before .before .before .before .args in
     let f : ℕ → List ℕ = λ j. areaBytes (getD (a .t1 .list) j none) in
-    let e = joined-next f 6 (λ j. length-area (getD (a .t1 .list) j none)) (a .out .now) (at .out) (c .before .before .encode-area .last .1 .0) (at .k) (at .k * 6) (at .k * 6 + 6) (at .inv .3) refl refl (c .before .before .encode-area .ensures) in
-    (omega (arith, c .before .before .before .before .before .loop-test .taken), ap length e ∙ length-so-far f 6 (λ j. length-area (getD (a .t1 .list) j none)) (at .k + 1) (a .out .now) (omega (arith, c .before .before .before .before .before .loop-test .taken, at .inv .2)) ∙ at .inv .2, at .inv .2, e)
+    let got = c .before .before .encode-area in
+    written-next f areaSize 8 (a .out .now) (λ j. length-area (getD (a .t1 .list) j none)) (at .out) (got .last .1 .0) (at .k) (at .inv)
+    (c .before .before .before .before .before .loop-test .taken) (got .ensures)
 
 same-length : tie.Need-same-length Inv-loop μ-loop
 same-length c = search needs
 
 returns : tie.Need-returns Inv-loop μ-loop
-unfolding placesBytes
 returns c =
     let a = c .before .before .before .args in
-    let done : c .before .loop .k ≡ 8 = omega (arith, c .loop-test .left, c .before .loop .inv .0) in
-    joined-all (λ j. areaBytes (getD (a .t1 .list) j none)) 6 (λ j. length-area (getD (a .t1 .list) j none)) 8 (a .out .now) (c .before .loop .out) (c .before .loop .k) done (c .before .before .before .pre) (c .before .loop .inv .3)
+    let at = c .before .loop in
+    written-all (λ j. areaBytes (getD (a .t1 .list) j none)) areaSize 8 (a .out .now) (at .out) (at .k) (at .inv) (omega (arith, c .loop-test .left))
 
 pub encode-places-spec : {M : Type 1} → statement M
 encode-places-spec =

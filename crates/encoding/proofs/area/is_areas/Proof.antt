@@ -1,23 +1,23 @@
-use Rattle.encoding.specs.Layout.{placeIn, isArea, isAreas}
-use mathlib.Core.Path.{_≡_, refl, sym}
+use Prim.Native.Nat.{_-_, _*_}
+use mathlib.Core.Path.{ap, _∙_}
 use native.Mathlib.Omega.{arith}
-use Prim.Native.Nat.{_+_, _-_, _*_, _/_, _≤_}
-use Rattle.basics.specs.Ranges.{every}
-use Rattle.basics.proofs.LoopLaws.{every-last}
-use Rattle.pages.specs.Parts.{partAt}
+use lib.ListN.{drop}
+use Rattle.encoding.specs.Rows.{partIn}
+use Rattle.encoding.specs.Layout.{areaSize, isArea, isAreas}
+use Rattle.encoding.proofs.RowLoops.{Tested, tested-none, tested-next, tested-all}
+use Rattle.encoding.proofs.PartsLaws.{part-lent-behind}
 use borrow.Author.Needs.{needs}
 use Rattle.encoding.proofs.area.is_areas.Statement.{statement}
 use Rattle.encoding.proofs.area.is_areas.Tie as tie
 
 abbrev Inv-loop : tie.InvT-loop
-Inv-loop bytes all₀ k₀ all k = (k ≤ 8) × (all ≡ every (λ j. isArea (placeIn bytes j)) 0 k)
+Inv-loop bytes all₀ k₀ all k = Tested (λ j. isArea (partIn areaSize (drop 1 bytes) j)) 8 all k
 
 abbrev μ-loop : tie.MeasureT-loop
 μ-loop bytes all₀ k₀ all k = 8 - k
 
 loop-holds : tie.Need-loop-holds Inv-loop μ-loop
-unfolding every
-loop-holds c = (omega arith, refl)
+loop-holds c = let bytes = c .before .args .bytes .now in tested-none (λ j. isArea (partIn areaSize (drop 1 bytes) j)) 8
 
 mul-at : tie.Need-mul-at Inv-loop μ-loop
 mul-at c = search needs
@@ -47,18 +47,18 @@ loop-less : tie.Need-loop-less Inv-loop μ-loop
 loop-less c = search needs
 
 loop-again : tie.Need-loop-again Inv-loop μ-loop
-unfolding partAt
 loop-again c =
     let at = c .before .before .before .loop in
     let bytes = c .before .before .before .before .before .args .bytes .now in
-    let six : 1 + at .k * 6 + 6 - (1 + at .k * 6) ≡ 6 = omega arith in
-    (omega (arith, c .before .before .loop-test .taken), rw (at .inv .1, c .is-area .ensures, six) (sym (every-last (λ j. isArea (placeIn bytes j)) (at .k))))
+    let got = c .is-area .ensures ∙ ap isArea (part-lent-behind bytes 1 (at .k * areaSize) areaSize) in
+    tested-next (λ j. isArea (partIn areaSize (drop 1 bytes) j)) 8 (at .all) (c .is-area .result) (at .k) (at .inv) (c .before .before .loop-test .taken) got
 
 returns : tie.Need-returns Inv-loop μ-loop
 unfolding isAreas
 returns c =
-    let done : c .before .loop .k ≡ 8 = omega (arith, c .loop-test .left, c .before .loop .inv .0) in
-    rw done at (c .before .loop .inv .1)
+    let at = c .before .loop in
+    let bytes = c .before .before .before .args .bytes .now in
+    tested-all (λ j. isArea (partIn areaSize (drop 1 bytes) j)) 8 (at .all) (at .k) (at .inv) (omega (arith, c .loop-test .left))
 
 pub is-areas-spec : {M : Type 1} → statement M
 is-areas-spec =

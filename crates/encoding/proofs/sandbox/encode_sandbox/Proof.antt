@@ -1,14 +1,12 @@
-use Rattle.encoding.specs.Rows.{part}
-use Rattle.encoding.specs.Layout.{sandboxBytes}
-use mathlib.Core.Path.{ap, _∙_}
+use Prim.Native.Nat.{ℕ}
+use mathlib.Core.List.{List, [], _∷_}
 use native.Mathlib.Omega.{arith}
-use lib.ListN.{length, set, take, length-set}
-use Rattle.encoding.proofs.RowLaws.{puts-all, headed}
-use Prim.Native.Nat.{ℕ, _+_, _-_, _/_}
-use mathlib.Core.List.{List, [], _∷_, _++_}
-use lib.Seq.{length-take-le}
-use Rattle.encoding.proofs.LengthLaws.{length-areas}
+use lib.ListN.{length-set}
 use Rattle.basics.specs.Ranges.{one}
+use Rattle.encoding.specs.Rows.{Part, part}
+use Rattle.encoding.specs.Layout.{areasSize, areasBytes, sandboxBytes}
+use Rattle.encoding.proofs.LengthLaws.{length-areas}
+use Rattle.encoding.proofs.PartsLaws.{laid-out}
 use borrow.Author.Needs.{needs}
 use Rattle.encoding.proofs.sandbox.encode_sandbox.Statement.{statement}
 use Rattle.encoding.proofs.sandbox.encode_sandbox.Tie as tie
@@ -58,16 +56,14 @@ same-length c = simp length-set (search needs)
 returns : tie.Need-returns
 unfolding sandboxBytes
 returns c =
-    let a = c .before .before .before .before .before .before .before .before .before .before .before .before .before .args in
-    let s = a .sandbox in
-    let p = c .before .before .before .before .before .before .before .before .encode-areas in
-    let q = c .before .before .before .before .encode-areas2 in
-    let lp = ap length (p .ensures) ∙ length-areas (s .present) in
-    let lq = ap length (q .ensures) ∙ length-areas (s .snapshot) in
-    rw (c .flag2 .ensures, c .before .flag .ensures)
-    (ap (λ (l : List ℕ). set (set (set l 0 (one (s .opened))) 1 (s .share)) 2 (one (s .taken))) (puts-all (part 49 (p .last .1 .0) ∷ part 49 (q .last .1 .0) ∷ []) (a .out .now) 3 (c .before .before .before .before .before .before .before .before .before .before .before .before .before .pre) (lp, (lq, tt)))
-    ∙ headed (one (s .opened) ∷ s .share ∷ one (s .taken) ∷ []) (take 3 (a .out .now)) (p .last .1 .0 ++ (q .last .1 .0 ++ [])) (length-take-le 3 (a .out .now) (omega (arith, c .before .before .before .before .before .before .before .before .before .before .before .before .before .pre)))
-    ∙ rw (p .ensures, q .ensures))
+    let k = c .before .before .before .before .before .before .before .before .before .before .before .before .before in
+    let s = k .args .sandbox in
+    let present = c .before .before .before .before .before .before .before .before .encode-areas .ensures in
+    let snapshot = c .before .before .before .before .encode-areas2 .ensures in
+    let bytes : List ℕ = one (s .opened) ∷ s .share ∷ one (s .taken) ∷ [] in
+    let parts : List Part = part areasSize (areasBytes (s .present)) ∷ part areasSize (areasBytes (s .snapshot)) ∷ [] in
+    rw (c .flag2 .ensures, c .before .flag .ensures, present, snapshot)
+    (laid-out bytes parts (k .args .out .now) (k .pre) (length-areas (s .present), (length-areas (s .snapshot), tt)))
 
 pub encode-sandbox-spec : {M : Type 1} → statement M
 encode-sandbox-spec =

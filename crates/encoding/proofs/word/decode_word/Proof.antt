@@ -95,7 +95,19 @@ add-result : tie.Need-add-result
 add-result c = search needs
 
 returns : tie.Need-returns
-returns c = rw (c .wide8 .ensures .0, c .before .before .wide7 .ensures .0, c .before .before .before .before .wide6 .ensures .0, c .before .before .before .before .before .before .wide5 .ensures .0, c .before .before .before .before .before .before .before .before .wide4 .ensures .0, c .before .before .before .before .before .before .before .before .before .before .wide3 .ensures .0, c .before .before .before .before .before .before .before .before .before .before .before .before .wide2 .ensures .0, c .before .before .before .before .before .before .before .before .before .before .before .before .before .before .wide .ensures .0) (sym (spelled-eight (c .before .before .before .before .before .before .before .before .before .before .before .before .before .before .before .before .before .args .bytes .now) (c .before .before .before .before .before .before .before .before .before .before .before .before .before .before .before .before .before .pre)))
+returns c =
+    let first = c .before .before .before .before .before .before .before .before .before .before .before .before .before .before .before .before .before in
+    rw (
+      c .wide8 .ensures .0,
+      c .before .before .wide7 .ensures .0,
+      c .before .before .before .before .wide6 .ensures .0,
+      c .before .before .before .before .before .before .wide5 .ensures .0,
+      c .before .before .before .before .before .before .before .before .wide4 .ensures .0,
+      c .before .before .before .before .before .before .before .before .before .before .wide3 .ensures .0,
+      c .before .before .before .before .before .before .before .before .before .before .before .before .wide2 .ensures .0,
+      c .before .before .before .before .before .before .before .before .before .before .before .before .before .before .wide .ensures .0,
+    )
+    (sym (spelled-eight (first .args .bytes .now) (first .pre)))
 
 pub decode-word-spec : {M : Type 1} → statement M
 decode-word-spec =

@@ -1,6 +1,6 @@
 use native.Mathlib.Omega.{arith}
 use lib.ListN.{length-set}
-use Rattle.encoding.proofs.RowLaws.{stored-all}
+use Rattle.encoding.proofs.PartsLaws.{stored-all}
 use Rattle.encoding.specs.Rows.{digits}
 use borrow.Author.Needs.{needs}
 use Rattle.encoding.proofs.word.encode_word.Statement.{statement}
