@@ -1,4 +1,4 @@
 pub mod RoomLaws
 pub mod PlainReplies
 pub mod StepwiseLaws
-pub mod PlainAnswers
+pub mod HostClaims

@@ -1,3 +1,4 @@
 pub mod FromStart
 pub mod Replies
 pub mod Stepwise
+pub mod HostClaims

@@ -12,8 +12,8 @@ use Rattle.interface.specs.Answers.{Answered, numberOf, valueOf}
 use Rattle.interface.specs.Requests.{isCall}
 use Rattle.state.specs.World.{World, worldOf}
 use Rattle.state.specs.Start.{startAnswer, startedBy}
-use Rattle.state.specs.declared.sandbox.Machine.{Machine}
 use Rattle.encoding.specs.Layout.{stateSize, stateBytes, stateFrom, isState}
+use Rattle.encoding.specs.Claims.{machineOf}
 use Rattle.machine.specs.Step.{Outcome, Stepped}
 use Rattle.gazhuppin.specs.declared.stepwise.Told.{Told}
 
@@ -26,14 +26,11 @@ pub record Handed : Type 0 where
 abbrev pub handed : List ℕ → List ℕ → List ℕ → Handed
 handed state pool table = record { state = state; pool = pool; table = table }
 
--- the state of a world
-abbrev pub machineOf : World → Machine
-machineOf w = record { sandboxes = w .sandboxes; held = w .store .marks }
-
--- a world as it is handed over, and the world that is handed over
+-- a world as it is handed over
 abbrev pub handsOf : World → Handed
 handsOf w = handed (stateBytes (machineOf w)) (w .store .pool) (w .store .table)
 
+-- the world that is handed over
 abbrev pub worldIn : Handed → World
 worldIn h = worldOf (stateFrom (h .state)) (h .pool) (h .table)
 
@@ -53,24 +50,30 @@ answerTold t = record { number = t .number; value = t .value }
 unfoldable pub startNumber : List ℕ → Handed → ℕ
 startNumber image h = numberOf (startAnswer (h .pool) (h .table) image) when eqb (length (h .state)) stateSize else 3
 
--- "starting clears pool and table, or .. clears nothing, though the state it gives is fresh"; without room for a state, nothing is written
+-- "starting clears pool and table, or .. clears nothing, though the state it gives is fresh"; without room for a state nothing is written
 unfoldable pub startHands : List ℕ → Handed → Handed
 startHands image h = handsOf (startedBy (h .pool) (h .table) image) when eqb (length (h .state)) stateSize else h
 
 -- ---- a call
 
--- rows 2 and 3, where the bytes are no state's
+-- row 2 "call code not 1 to 9", else row 3 "lent length wrong, or state unsound", where the bytes are no state's
 abbrev pub noState : Request → Answered
 noState q = record { number = 2 when not (isCall q) else 3; value = 0 }
 
--- bytes that are no state's are an unsound state, and nothing changes; others are called as the state that they give, and the bytes of its next state are left
+-- the answer that a host is told, and the world that it gets back
+abbrev pub outcomeIn : Told → Handed → Outcome
+outcomeIn t l = record { answer = answerTold t; world = worldIn l }
+
+-- a call of what h hands over, told t, that hands l back
 pub record Called (image : List ℕ) (h : Handed) (q : Request) (t : Told) (l : Handed) : Type 0 where
+  -- bytes that are no state's, of a wrong length too, are refused, and nothing changes
   pub unsound : isState (h .state) ≡ false → (answerTold t ≡ noState q) × (l ≡ h)
-  pub stepped : isState (h .state) ≡ true → (o : Outcome) × (Stepped image (worldIn h) q o × ((answerTold t ≡ o .answer) × (l ≡ handsOf (o .world))))
-  -- "A refusal answers its number and value 0; state, pool and table are unchanged": every byte of them
+  -- others give a world: the call is a step from it, and what is handed back are the bytes of the next
+  pub stepped : isState (h .state) ≡ true → Stepped image (worldIn h) q (outcomeIn t l) × (l ≡ handsOf (worldIn l))
+  -- "A refusal answers its number and value 0; state, pool and table are unchanged": not a byte of them
   pub refused : (t .number ≡ 0 → ⊥) → (t .value ≡ 0) × (l ≡ h)
 
--- calls in turn, each with what the one before left: requests and their answers
+-- "Each call gets the state, pool and table as the one before returned or left them": requests, their answers, and what is handed back at the end
 pub data Calls (image : List ℕ) : Handed → List Request → List Answered → Handed → Type 0 where
   none : {h : Handed} → Calls image h [] [] h
   more : {h k l : Handed} {q : Request} {t : Told} {qs : List Request} {as′ : List Answered}

@@ -1,11 +1,12 @@
-// A start and a call at a time, over a state that the host keeps as 420 bytes, for a server that plays no roll.
+// A start, and then a call at a time, for a host that plays no roll: the state is bytes that the host lends, as it lends pool and table.
+// Nothing is asked of what is lent. A wrong length and bytes that are no state's are refusal 3 (2 where the code is no call), and nothing changes.
 ghost use mathlib.Core.Path.{_≡_};
 ghost use Rattle.encoding.specs.Layout.{stateSize};
 ghost use Rattle.gazhuppin.specs.Stepwise.{handed, requestOf, toldBy, startNumber, startHands, Called};
-use encoding::State;
 use encoding::decode;
 use encoding::encode;
 use encoding::is_state;
+use encoding::size::Size;
 use interface::answer::Answer;
 use interface::answer::Refusal;
 use interface::request::Request;
@@ -30,15 +31,16 @@ impl Told {
     }
 }
 
-// How many bytes a state has: what a host keeps for it.
+// How many bytes a host lends for the state.
 #[no_mangle]
 pub extern "C" fn gazhuppin_state_bytes() -> usize
     ensures { λ r. ⌜ r ≡ stateSize ⌝ }
 {
-    State::BYTES
+    Size::STATE
 }
 
-// Starts a machine: its state is written to `state`, and pool and table are cleared. Answers 0, or 3 where a length is wrong.
+// Starts a machine: writes a fresh state and clears pool and table. Answers 0, or 3 where a length is wrong: then pool and table stay as they are, and so does
+// `state` where the wrong length is its own.
 #[no_mangle]
 pub extern "C" fn gazhuppin_start(
     state: &mut [u8],
@@ -47,9 +49,10 @@ pub extern "C" fn gazhuppin_start(
     image: &[u8],
 ) -> u32
     ensures { λ r. ⌜ r ≡ startNumber (now (image .entry)) (handed (now (state .entry)) (now (pool .entry)) (now (table .entry))) ⌝ }
-    ensures left { λ r. ⌜ handed (now (state .exit)) (now (pool .exit)) (now (table .exit)) ≡ startHands (now (image .entry)) (handed (now (state .entry)) (now (pool .entry)) (now (table .entry))) ⌝ }
+    ensures left { λ r. ⌜ handed (now (state .exit)) (now (pool .exit)) (now (table .exit))
+        ≡ startHands (now (image .entry)) (handed (now (state .entry)) (now (pool .entry)) (now (table .entry))) ⌝ }
 {
-    if state.len() != State::BYTES {
+    if state.len() != Size::STATE {
         return 3;
     }
     let started = start(pool, table, image);
@@ -59,7 +62,7 @@ pub extern "C" fn gazhuppin_start(
     answer.number() as u32
 }
 
-// One call: the state is read from `state` and written back.
+// One call: the state is read from `state`, and the next one written there. A refused call leaves every byte of state, pool and table.
 #[no_mangle]
 pub extern "C" fn gazhuppin_call(
     state: &mut [u8],
@@ -74,7 +77,8 @@ pub extern "C" fn gazhuppin_call(
     p4: u16,
     p5: u16,
 ) -> Told
-    ensures { λ r. ⌜ Called (now (image .entry)) (handed (now (state .entry)) (now (pool .entry)) (now (table .entry))) (requestOf code sandbox p1 p2 p3 p4 p5) r (handed (now (state .exit)) (now (pool .exit)) (now (table .exit))) ⌝ }
+    ensures { λ r. ⌜ Called (now (image .entry)) (handed (now (state .entry)) (now (pool .entry)) (now (table .entry)))
+        (requestOf code sandbox p1 p2 p3 p4 p5) r (handed (now (state .exit)) (now (pool .exit)) (now (table .exit))) ⌝ }
 {
     perform(
         state,
@@ -93,8 +97,10 @@ pub extern "C" fn gazhuppin_call(
     )
 }
 
+// The same, of a request.
 fn perform(state: &mut [u8], pool: &mut [u8], table: &mut [u16], image: &[u8], q: Request) -> Told
-    ensures { λ r. ⌜ Called (now (image .entry)) (handed (now (state .entry)) (now (pool .entry)) (now (table .entry))) q r (handed (now (state .exit)) (now (pool .exit)) (now (table .exit))) ⌝ }
+    ensures { λ r. ⌜ Called (now (image .entry)) (handed (now (state .entry)) (now (pool .entry)) (now (table .entry))) q r
+        (handed (now (state .exit)) (now (pool .exit)) (now (table .exit))) ⌝ }
 {
     if !is_state(state) {
         if (q.code < 1) | (9 < q.code) {

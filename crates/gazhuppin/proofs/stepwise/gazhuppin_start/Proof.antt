@@ -1,12 +1,16 @@
 use mathlib.Core.Path.{_∙_}
 use Rattle.gazhuppin.proofs.StepwiseLaws.{start-short, start-long}
-use Rattle.gazhuppin.specs.Stepwise.{handed}
+use Rattle.gazhuppin.specs.Stepwise.{Handed, handed}
 use borrow.Author.Needs.{needs}
 use Rattle.gazhuppin.proofs.stepwise.gazhuppin_start.Statement.{statement}
 use Rattle.gazhuppin.proofs.stepwise.gazhuppin_start.Tie as tie
 
+-- what the caller handed over
+abbrev hands : tie.Start → Handed
+hands c = handed (c .args .state .now) (c .args .pool .now) (c .args .table .now)
+
 returns : tie.Need-returns
-returns c = start-short (c .before .before .before .before .before .args .image .now) (handed (c .before .before .before .before .before .args .state .now) (c .before .before .before .before .before .args .pool .now) (c .before .before .before .before .before .args .table .now)) (c .if1 .taken)
+returns c = let first = c .before .before .before .before .before in start-short (first .args .image .now) (hands first) (c .if1 .taken)
 
 start-requires : tie.Need-start-requires
 start-requires c κs = search needs
@@ -31,9 +35,13 @@ same-length-3 c = search needs
 
 returns-2 : tie.Need-returns-2
 returns-2 c =
-    let s = c .before .before .before .before .before .before .before .before .before .before .start in
-    let e = c .before .before .before .encode in
-    let both = start-long (c .before .before .before .before .before .before .before .before .before .before .before .before .before .before .before .before .before .before .args .image .now) (handed (c .before .before .before .before .before .before .before .before .before .before .before .before .before .before .before .before .before .before .args .state .now) (c .before .before .before .before .before .before .before .before .before .before .before .before .before .before .before .before .before .before .args .pool .now) (c .before .before .before .before .before .before .before .before .before .before .before .before .before .before .before .before .before .before .args .table .now)) (s .result .answer) (s .result .machine) (s .last .0) (s .last .1 .0) (e .last .1 .0) (c .before .before .before .before .before .before .before .before .before .before .before .before .before .if1 .left) (s .ensures .0) (s .ensures .1) (e .ensures) in
+    let written = c .before .before .before .encode in
+    let starting = c .before .before .before .before .before .before .before .before .before .before in
+    let branch = starting .before .before .before in
+    let first = branch .before .before .before .before .before in
+    let made = starting .start in
+    let both = start-long (first .args .image .now) (hands first) (made .result .answer) (made .result .machine) (made .last .0) (made .last .1 .0)
+    (written .last .1 .0) (branch .if1 .left) (made .ensures .0) (made .ensures .1) (written .ensures) in
     (c .number .ensures ∙ both .0, both .1)
 
 pub gazhuppin-start-spec : {M : Type 1} → statement M

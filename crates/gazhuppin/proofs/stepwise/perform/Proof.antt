@@ -1,12 +1,18 @@
-use native.Mathlib.Omega.{arith}
 use mathlib.Core.Path.{sym, _∙_}
-use Rattle.gazhuppin.proofs.StepwiseLaws.{state-long, call-two, call-three, call-stepped}
-use Rattle.gazhuppin.specs.Stepwise.{handed}
+use native.Mathlib.Omega.{arith}
 use borrow.Author.Tests.{not-true, not-false}
+use Rattle.encoding.proofs.LayoutLaws.{state-long}
 use Rattle.machine.proofs.CallLaws.{no-call, a-call}
+use Rattle.gazhuppin.specs.Stepwise.{Handed, handed}
+use Rattle.gazhuppin.proofs.StepwiseLaws.{call-two, call-three, call-stepped}
 use borrow.Author.Needs.{needs}
 use Rattle.gazhuppin.proofs.stepwise.perform.Statement.{statement}
 use Rattle.gazhuppin.proofs.stepwise.perform.Tie as tie
+
+-- what the caller handed over
+
+abbrev hands : tie.Start → Handed
+hands c = handed (c .args .state .now) (c .args .pool .now) (c .args .table .now)
 
 is-state-requires : tie.Need-is-state-requires
 is-state-requires c κs = search needs
@@ -18,7 +24,12 @@ same-length : tie.Need-same-length
 same-length c = search needs
 
 returns : tie.Need-returns
-returns c = rw (c .by .ensures) (call-two (c .before .before .before .before .before .before .before .before .before .before .before .args .image .now) (handed (c .before .before .before .before .before .before .before .before .before .before .before .args .state .now) (c .before .before .before .before .before .before .before .before .before .before .before .args .pool .now) (c .before .before .before .before .before .before .before .before .before .before .before .args .table .now)) (c .before .before .before .before .before .before .before .before .before .before .before .args .q) (sym (c .before .before .before .before .before .is-state .ensures) ∙ not-true (c .before .before .before .before .before .is-state .result) (c .before .before .before .before .if1 .taken)) (no-call (c .before .before .before .before .before .before .before .before .before .before .before .args .q .code) (c .before .if2 .taken)))
+returns c =
+    let branch = c .before .before .before .before in
+    let tested = branch .before .is-state in
+    let first = branch .before .before .before .before .before .before .before in
+    let no-state = sym (tested .ensures) ∙ not-true (tested .result) (branch .if1 .taken) in
+    rw (c .by .ensures) (call-two (first .args .image .now) (hands first) (first .args .q) no-state (no-call (first .args .q .code) (c .before .if2 .taken)))
 
 by-requires-2 : tie.Need-by-requires-2
 by-requires-2 c κs = search needs
@@ -27,16 +38,28 @@ same-length-2 : tie.Need-same-length-2
 same-length-2 c = search needs
 
 returns-2 : tie.Need-returns-2
-returns-2 c = rw (c .by2 .ensures) (call-three (c .before .before .before .before .before .before .before .before .before .before .before .args .image .now) (handed (c .before .before .before .before .before .before .before .before .before .before .before .args .state .now) (c .before .before .before .before .before .before .before .before .before .before .before .args .pool .now) (c .before .before .before .before .before .before .before .before .before .before .before .args .table .now)) (c .before .before .before .before .before .before .before .before .before .before .before .args .q) (sym (c .before .before .before .before .before .is-state .ensures) ∙ not-true (c .before .before .before .before .before .is-state .result) (c .before .before .before .before .if1 .taken)) (a-call (c .before .before .before .before .before .before .before .before .before .before .before .args .q .code) (c .before .if2 .left)))
+returns-2 c =
+    let branch = c .before .before .before .before in
+    let tested = branch .before .is-state in
+    let first = branch .before .before .before .before .before .before .before in
+    let no-state = sym (tested .ensures) ∙ not-true (tested .result) (branch .if1 .taken) in
+    rw (c .by2 .ensures) (call-three (first .args .image .now) (hands first) (first .args .q) no-state (a-call (first .args .q .code) (c .before .if2 .left)))
 
 decode-requires : tie.Need-decode-requires
-decode-requires c κs = state-long (c .before .before .before .before .before .before .before .before .args .state .now) (sym (c .before .before .is-state .ensures) ∙ not-false (c .before .before .is-state .result) (c .before .if1 .left))
+decode-requires c κs =
+    let testing = c .before .before in
+    let tested = testing .is-state in
+    state-long (testing .before .before .before .before .before .before .args .state .now) (sym (tested .ensures) ∙ not-false (tested .result) (c .before .if1 .left))
 
 call-requires : tie.Need-call-requires
 call-requires c κs = search needs
 
 encode-requires : tie.Need-encode-requires
-encode-requires c κs = state-long (c .before .before .before .before .before .before .before .before .before .before .before .before .before .before .before .before .before .before .args .state .now) (sym (c .before .before .before .before .before .before .before .before .before .before .before .before .is-state .ensures) ∙ not-false (c .before .before .before .before .before .before .before .before .before .before .before .before .is-state .result) (c .before .before .before .before .before .before .before .before .before .before .before .if1 .left))
+encode-requires c κs =
+    let branch = c .before .before .before .before .before .before .before .before .before .before .before in
+    let tested = branch .before .is-state in
+    let first = branch .before .before .before .before .before .before .before in
+    state-long (first .args .state .now) (sym (tested .ensures) ∙ not-false (tested .result) (branch .if1 .left))
 
 by-requires-3 : tie.Need-by-requires-3
 by-requires-3 c κs = search needs
@@ -52,11 +75,18 @@ same-length-5 c = search needs
 
 returns-3 : tie.Need-returns-3
 returns-3 c =
-    let k = c .before .before .before .before .before .before .before .before .before .before .call in
-    let e = c .before .before .before .encode in
-    call-stepped (c .before .before .before .before .before .before .before .before .before .before .before .before .before .before .before .before .before .before .before .before .before .before .args .image .now) (handed (c .before .before .before .before .before .before .before .before .before .before .before .before .before .before .before .before .before .before .before .before .before .before .args .state .now) (c .before .before .before .before .before .before .before .before .before .before .before .before .before .before .before .before .before .before .before .before .before .before .args .pool .now) (c .before .before .before .before .before .before .before .before .before .before .before .before .before .before .before .before .before .before .before .before .before .before .args .table .now)) (c .before .before .before .before .before .before .before .before .before .before .before .before .before .before .before .before .before .before .before .before .before .before .args .q) (c .before .before .before .before .before .before .before .before .before .before .before .before .before .decode .result) (k .result) (c .by3 .result) (e .last .1 .0) (k .last .1 .0) (k .last .1 .1 .0)
-    (record { at = λ i. omega (arith, c .before .before .before .before .before .before .before .before .before .before .before .before .before .before .before .before .before .before .before .before .before .slice-known .given i) })
-    (sym (c .before .before .before .before .before .before .before .before .before .before .before .before .before .before .before .before .is-state .ensures) ∙ not-false (c .before .before .before .before .before .before .before .before .before .before .before .before .before .before .before .before .is-state .result) (c .before .before .before .before .before .before .before .before .before .before .before .before .before .before .before .if1 .left)) (c .before .before .before .before .before .before .before .before .before .before .before .before .before .decode .ensures) (k .ensures) (e .ensures) (c .by3 .ensures)
+    let written = c .before .before .before .encode in
+    let calling = c .before .before .before .before .before .before .before .before .before .before in
+    let decoding = calling .before .before .before in
+    let branch = decoding .before .before in
+    let tested = branch .before .is-state in
+    let known = branch .before .before .before .before .before .before in
+    let first = known .before in
+    let reply = calling .call in
+    let passed = sym (tested .ensures) ∙ not-false (tested .result) (branch .if1 .left) in
+    call-stepped (first .args .image .now) (hands first) (first .args .q) (record { at = λ i. omega (arith, known .slice-known .given i) }) passed
+    (decoding .decode .result) (reply .result) (c .by3 .result) (written .last .1 .0) (reply .last .1 .0) (reply .last .1 .1 .0)
+    (decoding .decode .ensures) (reply .ensures) (written .ensures) (c .by3 .ensures)
 
 pub perform-spec : {M : Type 1} → statement M
 perform-spec =
