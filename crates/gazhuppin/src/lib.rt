@@ -1,7 +1,8 @@
 // The library for hosts in C and Rust: a roll is played from a start over lent memory, and pool and table are left for the host to look at; or a host
 // starts a machine and makes one call at a time, with the state as bytes in its own memory (src/stepwise).
 // It promises that whatever is lent, the call ends; that the replies are those of a run from the start (`Played`), and nothing is touched where
-// they would not fit (`FromStart`); and that they are the plain machine's (proofs/PlainReplies). Of calls one at a time it promises the demands (specs/HostClaims).
+// they would not fit (`FromStart`); and that they are the plain machine's (proofs/PlainReplies). Of calls one at a time it promises the demands
+// (specs/HostClaims).
 // It stands on `roll` for the play, on `machine` and `encoding` for a call, and on `soundness` for the start. Nothing that holds an enum crosses to C.
 ghost use mathlib.Core.Path.{_≡_};
 ghost use Rattle.lines.specs.Lines.{linesOf};

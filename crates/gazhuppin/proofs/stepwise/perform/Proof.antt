@@ -49,7 +49,8 @@ decode-requires : tie.Need-decode-requires
 decode-requires c κs =
     let testing = c .before .before in
     let tested = testing .is-state in
-    state-long (testing .before .before .before .before .before .before .args .state .now) (sym (tested .ensures) ∙ not-false (tested .result) (c .before .if1 .left))
+    let first = testing .before .before .before .before .before .before in
+    state-long (first .args .state .now) (sym (tested .ensures) ∙ not-false (tested .result) (c .before .if1 .left))
 
 call-requires : tie.Need-call-requires
 call-requires c κs = search needs
