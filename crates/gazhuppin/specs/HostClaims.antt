@@ -69,7 +69,7 @@ pub record HostClaims (image : List ℕ) (h : Handed) : Type 0 where
       → naming s later₁ ≡ naming s later₂
       → toldLater s before₁ later₁ as₁ ≡ toldLater s before₂ later₂ as₂
 
--- the start answers 0 exactly where every lent length is right
+-- a start that answers 0 gives a host all of this, and it answers 0 where every lent length is right
 abbrev pub HostStarts : Type 0
 HostStarts =
     (image : List ℕ) (h : Handed)
