@@ -25,7 +25,8 @@ use Rattle.state.specs.Test.{pageOk, pagesOk, recordOk, sandboxOk, sandboxesOk,
 use Rattle.rules.specs.After.{packedAfter, takenAfter, snapshotAfter}
 use Rattle.memory.specs.Memory.{pageUnder, pageRead, touched, storeAfter, heldBy, valueAt}
 use Rattle.machine.specs.Step.{numberAt, step}
-use Rattle.plain.specs.Cases.{Line, cases, requestsOf, getsOf}
+use Rattle.interface.specs.Examples.{Line, requestsOf, getsOf}
+use Rattle.plain.specs.Cases.{cases}
 
 -- the greatest frame that is not held
 chosen : Free → ℕ

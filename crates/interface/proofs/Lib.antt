@@ -3,3 +3,4 @@ pub mod KindLaws
 pub mod AcceptedLaws
 pub mod ChargeLaws
 pub mod RowLaws
+pub mod EdgeLaws

@@ -7,3 +7,5 @@ pub mod Outcome
 pub mod Refusals
 pub mod Settled
 pub mod Accepted
+pub mod Examples
+pub mod Edges

@@ -1,4 +1,4 @@
--- The starred cases, by computation.
+-- The starred cases and "Turned back", by computation.
 use mathlib.Core.Path.{_≡_, refl}
 use mathlib.Core.Bool.{true}
 use Rattle.basics.specs.Ranges.{count, sum, every, lowest, inside, over}
@@ -7,8 +7,13 @@ use Rattle.interface.specs.Limits.{within}
 use Rattle.interface.specs.Outcome.{firstOf, slotsAfter, copyAfter}
 use Rattle.interface.specs.Refusals.{allMapped, refusal}
 use Rattle.plain.specs.Machine.{bytesAfter, frontAfter, backAfter, copiedBackAfter, held, coreValue, answer, after, answers}
-use Rattle.plain.specs.Cases.{cases, allGiven}
+use Rattle.plain.specs.Cases.{cases, casesOver, noImage, allGiven}
+use Rattle.plain.specs.TurnedBack.{turnedBackCases}
 
-pub starred-cases : allGiven cases ≡ true
+pub starred-cases : allGiven (casesOver noImage cases) ≡ true
 unfolding allGiven count sum every lowest inside over follows joins areas mappedPages uncommittedPages lowestGap chargeOf within firstOf slotsAfter copyAfter allMapped refusal bytesAfter frontAfter backAfter copiedBackAfter held coreValue answer after answers
 starred-cases = refl
+
+pub turned-back : allGiven turnedBackCases ≡ true
+unfolding allGiven count sum every lowest inside over follows joins areas mappedPages uncommittedPages lowestGap chargeOf within firstOf slotsAfter copyAfter allMapped refusal bytesAfter frontAfter backAfter copiedBackAfter held coreValue answer after answers
+turned-back = refl

@@ -8,16 +8,21 @@ use Rattle.interface.specs.Slots.{copied}
 use Rattle.plain.specs.Machine.{Given, Plain, fresh, after, afterAll}
 use Rattle.plain.specs.Lists.{upTo}
 use Rattle.plain.specs.Claims.{TwoLists, RewoundIsRestored, Holds, Reads, Always}
-use Rattle.plain.specs.Cases.{cases, allGiven}
-use Rattle.plain.proofs.CaseLaws.{starred-cases}
+use Rattle.plain.specs.Cases.{cases, casesOver, noImage, allGiven}
+use Rattle.plain.specs.TurnedBack.{turnedBackCases}
+use Rattle.plain.proofs.CaseLaws.{starred-cases, turned-back}
 use Rattle.plain.proofs.TwoListsLaws.{two-lists}
 use Rattle.plain.proofs.RewoundLaws.{rewound-restored}
 use Rattle.plain.proofs.KeptLaws.{holds-fresh, holds-after, frames-suffice, next-write, next-rewind}
 use Rattle.plain.proofs.ReadLaws.{reads-fresh, reads-after}
 
 -- the starred cases get their answers
-pub claim-cases : allGiven cases ≡ true
+pub claim-cases : allGiven (casesOver noImage cases) ≡ true
 claim-cases = starred-cases
+
+-- every row of "Turned back" gets its answers
+pub claim-turned-back : allGiven turnedBackCases ≡ true
+claim-turned-back = turned-back
 
 -- two lists tell a rewound sandbox the same
 pub claim-two-lists : (g : Given) → TwoLists g

@@ -3,39 +3,10 @@ use Prim.Native.Nat.{ℕ}
 use mathlib.Core.Bool.{Bool, true, false, _&&_}
 use mathlib.Core.List.{List, [], _∷_}
 use lib.Dec.{eqb}
-use Rattle.interface.specs.declared.request.Request.{Request}
 use Rattle.interface.specs.Answers.{Answered}
-use Rattle.interface.specs.Requests.{Open, Map, Unmap, Read, Write, Snapshot, Rewind, Report}
-use Rattle.plain.specs.Machine.{fresh, answers}
-
--- a request with the answer that it is to get
-pub record Line : Type 0 where
-  pub request : Request
-  pub gets : Answered
-
-infix 80 _gives_
-abbrev pub _gives_ : Request → Answered → Line
-q gives a = record { request = q; gets = a }
-
--- a call of sandbox 0 with no parameter, with one, with two
-abbrev pub call : ℕ → Request
-call c = record { code = c; sandbox = 0; p1 = 0; p2 = 0; p3 = 0; p4 = 0; p5 = 0 }
-
-abbrev pub call₁ : ℕ → ℕ → Request
-call₁ c a = record { code = c; sandbox = 0; p1 = a; p2 = 0; p3 = 0; p4 = 0; p5 = 0 }
-
-abbrev pub call₂ : ℕ → ℕ → ℕ → Request
-call₂ c a b = record { code = c; sandbox = 0; p1 = a; p2 = b; p3 = 0; p4 = 0; p5 = 0 }
-
--- a map of n anonymous pages, with rights 3
-abbrev pub mapAt : ℕ → ℕ → Request
-mapAt first n = record { code = Map; sandbox = 0; p1 = first; p2 = n; p3 = 0; p4 = 0; p5 = 3 }
-
-abbrev pub ok : ℕ → Answered
-ok v = record { number = 0; value = v }
-
-abbrev pub refused : ℕ → Answered
-refused n = record { number = n; value = 0 }
+use Rattle.interface.specs.Requests.{Open, Unmap, Read, Write, Snapshot, Rewind, Report}
+use Rattle.interface.specs.Examples.{Line, _gives_, ok, refused, requestsOf, getsOf, call₂, call₁, call, mapAt}
+use Rattle.plain.specs.Machine.{Given, fresh, answers}
 
 abbrev pub cases : List (List Line)
 cases =
@@ -57,13 +28,18 @@ cases =
     (call₁ Open 63 gives ok 0 ∷ mapAt 0 64 gives refused 13 ∷ []) ∷
     []
 
-abbrev pub requestsOf : List Line → List Request
-requestsOf [] = []
-requestsOf (l ∷ ls) = l .request ∷ requestsOf ls
+-- a roll with what it is played over
+pub record Case : Type 0 where
+  pub over : Given
+  pub lines : List Line
 
-abbrev pub getsOf : List Line → List Answered
-getsOf [] = []
-getsOf (l ∷ ls) = l .gets ∷ getsOf ls
+abbrev pub casesOver : Given → List (List Line) → List Case
+casesOver g [] = []
+casesOver g (c ∷ cs) = record { over = g; lines = c } ∷ casesOver g cs
+
+-- "without an image", "with 128 frames", as the player
+abbrev pub noImage : Given
+noImage = record { image = []; frames = 128 }
 
 abbrev pub sameAnswers : List Answered → List Answered → Bool
 sameAnswers [] [] = true
@@ -72,6 +48,6 @@ sameAnswers (a ∷ l) [] = false
 sameAnswers (a ∷ l) (b ∷ m) = eqb (a .number) (b .number) && (eqb (a .value) (b .value) && sameAnswers l m)
 
 -- every roll of the table gets its answers
-unfoldable pub allGiven : List (List Line) → Bool
+unfoldable pub allGiven : List Case → Bool
 allGiven [] = true
-allGiven (c ∷ cs) = sameAnswers (answers (record { image = []; frames = 128 }) fresh (requestsOf c)) (getsOf c) && allGiven cs
+allGiven (c ∷ cs) = sameAnswers (answers (c .over) fresh (requestsOf (c .lines))) (getsOf (c .lines)) && allGiven cs

@@ -1,5 +1,6 @@
--- In reading order: the machine, lists of requests, what is claimed, the starred cases.
+-- In reading order: the machine, lists of requests, what is claimed, the starred cases, the table of refusals.
 pub mod Machine
 pub mod Lists
 pub mod Claims
 pub mod Cases
+pub mod TurnedBack
