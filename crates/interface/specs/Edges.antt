@@ -1,9 +1,10 @@
--- Rows 2, 4 and 6 of "Turned back" on both sides of each limit: of a closed sandbox, of an open one with nothing mapped, and of one with all 64 pages mapped.
-use Prim.Native.Nat.{ℕ}
+-- "Turned back" on both sides of each limit: of a closed sandbox, of an open one with nothing mapped, of one with all 64 pages mapped, and of one with 8 areas.
+use Prim.Native.Nat.{ℕ, _%_}
 use mathlib.Core.Bool.{Bool, true, false, _&&_}
 use mathlib.Core.List.{List, [], _∷_, _++_}
 use mathlib.Core.Option.{none}
-use lib.Dec.{eqb}
+use lib.Dec.{leb, eqb}
+use Rattle.basics.specs.Choice.{_when_else_}
 use Rattle.basics.specs.Ranges.{over}
 use Rattle.interface.specs.declared.page.Slot.the-variants.{Unmapped}
 use Rattle.interface.specs.declared.request.Request.{Request}
@@ -59,6 +60,9 @@ bareEdges =
     call₅ Map 0 1 1 2 3 gives refused 6 ∷ call₅ Map 0 1 1 65535 3 gives refused 6 ∷
     -- "p5 rights"
     rightsEdges (λ r. call₅ Map 0 1 0 0 r) ++
+    -- within their limits these meet rows 8 and 9, or none
+    (call₂ Unmap 0 1 gives refused 9 ∷ call₃ Protect 0 1 3 gives refused 9 ∷ call₁ Read 16383 gives refused 9 ∷ call₂ Write 0 1 gives refused 9 ∷
+    call Rewind gives refused 8 ∷ call Snapshot gives ok 0 ∷ call Report gives ok 0 ∷ []) ++
     -- snapshot, rewind and report use none
     unused (1 ∷ 2 ∷ 3 ∷ 4 ∷ 5 ∷ []) (call Snapshot) ++ unused (1 ∷ 2 ∷ 3 ∷ 4 ∷ 5 ∷ []) (call Rewind) ++ unused (1 ∷ 2 ∷ 3 ∷ 4 ∷ 5 ∷ []) (call Report)
 
@@ -73,9 +77,27 @@ fullEdges =
     unused (2 ∷ 3 ∷ 4 ∷ 5 ∷ []) (call₁ Read 0) ++
     -- a byte is 0 to 255
     (call₂ Write 16383 1 gives ok 0 ∷ call₂ Write 16384 1 gives refused 6 ∷ call₂ Write 0 255 gives ok 0 ∷ call₂ Write 0 256 gives refused 6 ∷ []) ++
-    unused (3 ∷ 4 ∷ 5 ∷ []) (call₂ Write 0 1)
+    unused (3 ∷ 4 ∷ 5 ∷ []) (call₂ Write 0 1) ++
+    -- rows 10 and 11
+    (mapAt 63 1 gives refused 10 ∷ mapAt 64 1 gives refused 11 ∷ call Snapshot gives ok 64 ∷ [])
 
--- ---- the three sandboxes, as refusals are decided from them: a pool of 128 frames, an image of 2 pages, no other share, no snapshot
+-- a map of n anonymous pages, with rights 1
+abbrev pub readable : ℕ → ℕ → Request
+readable first n = call₅ Map first n 0 0 1
+
+-- of a sandbox with share 16 whose pages 0, 2 .. 14 are mapped, with rights 1: 8 areas of one page
+abbrev pub eightEdges : List Line
+eightEdges =
+    -- "write without the write right"
+    call₂ Write 0 1 gives refused 12 ∷ call₁ Read 0 gives ok 0 ∷
+    -- "or the charge the share": 8 pages more, and 9; a snapshot's charge is 16
+    readable 15 8 gives ok 15 ∷ readable 15 9 gives refused 13 ∷ readable 64 9 gives refused 13 ∷ call Snapshot gives ok 8 ∷
+    -- "more than 8 areas would result": page 16 is a ninth area, page 15 goes on with the eighth, as a page with other rights does not
+    readable 16 1 gives refused 14 ∷ readable 15 1 gives ok 15 ∷ mapAt 15 1 gives refused 14 ∷
+    -- "the lowest gap that fits"
+    readable 64 1 gives ok 1 ∷ readable 64 2 gives ok 15 ∷ []
+
+-- ---- the four sandboxes, as refusals are decided from them: a pool of 128 frames, an image of 2 pages, no other share, no snapshot
 
 abbrev pub viewOf : Bool → ℕ → Slots → View
 viewOf isOpen n f = record { frames = 128; imagePages = 2; shares = n; opened = isOpen; share = n; slots = f; copy = none }
@@ -84,12 +106,17 @@ viewOf isOpen n f = record { frames = 128; imagePages = 2; shares = n; opened = 
 abbrev pub full : Slots
 full = over 0 64 (pageOn (newPage (mapAt 0 64))) (λ i. Unmapped)
 
+-- pages 0, 2 .. 14, as by `2 0 0 1 0 0 1`, `2 0 2 1 0 0 1` and so on
+abbrev pub eight : Slots
+eight i = pageOn (newPage (readable i 1)) 0 when eqb (i % 2) 0 && leb i 14 else Unmapped
+
 -- every request is refused by its number, or by none
 unfoldable pub numbered : View → List Line → Bool
 numbered v [] = true
 numbered v (l ∷ ls) = eqb (refusal v (l .request)) (l .gets .number) && numbered v ls
 
--- all three
+-- of all four
 unfoldable pub edgesHold : Bool
 edgesHold =
-    numbered (viewOf false 0 (λ i. Unmapped)) closedEdges && (numbered (viewOf true 128 (λ i. Unmapped)) bareEdges && numbered (viewOf true 128 full) fullEdges)
+    numbered (viewOf false 0 (λ i. Unmapped)) closedEdges && (numbered (viewOf true 128 (λ i. Unmapped)) bareEdges
+    && (numbered (viewOf true 128 full) fullEdges && numbered (viewOf true 16 eight) eightEdges))

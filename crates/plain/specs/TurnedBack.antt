@@ -5,7 +5,7 @@ use mathlib.Core.List.{List, [], _∷_, _++_}
 use lib.ListN.{replicate}
 use Rattle.interface.specs.Requests.{Open, Map, Unmap, Protect, Read, Write, Snapshot, Rewind, Report}
 use Rattle.interface.specs.Examples.{Line, _gives_, ok, refused, call₅, call₃, call₂, call₁, call, mapAt, inSandbox}
-use Rattle.interface.specs.Edges.{closedEdges, bareEdges, fullEdges}
+use Rattle.interface.specs.Edges.{readable, closedEdges, bareEdges, fullEdges, eightEdges}
 use Rattle.plain.specs.Machine.{Given}
 use Rattle.plain.specs.Cases.{Case, casesOver, noImage}
 
@@ -29,9 +29,9 @@ turnedBack =
     call₂ Write 0 1 gives refused 9 ∷ mapAt 1 1 gives ok 1 ∷ call₂ Unmap 0 2 gives refused 9 ∷ call₂ Unmap 1 2 gives refused 9 ∷
     call₃ Protect 0 2 1 gives refused 9 ∷ call₃ Protect 1 2 1 gives refused 9 ∷ call₁ Read 255 gives refused 9 ∷ call₁ Read 256 gives ok 0 ∷
     call₂ Write 511 1 gives ok 0 ∷ call₂ Write 512 1 gives refused 9 ∷ call₂ Unmap 1 1 gives ok 0 ∷ call₁ Read 256 gives refused 9 ∷ []) ∷
-    -- 10 "map at a named page meets a mapped page": "`2 0 0 1 0 0 3` twice"; at its last page; beside it
-    (call₁ Open 8 gives ok 0 ∷ mapAt 1 2 gives ok 1 ∷ call₅ Map 1 2 0 0 3 gives refused 10 ∷ mapAt 0 2 gives refused 10 ∷ mapAt 2 2 gives refused 10 ∷
-    mapAt 0 1 gives ok 0 ∷ call₅ Map 0 1 0 0 3 gives refused 10 ∷ mapAt 3 1 gives ok 3 ∷ []) ∷
+    -- 10 "map at a named page meets a mapped page": "`2 0 0 1 0 0 3` twice"; at its last page, at its first, beside it
+    (call₁ Open 8 gives ok 0 ∷ call₅ Map 0 1 0 0 3 gives ok 0 ∷ call₅ Map 0 1 0 0 3 gives refused 10 ∷ mapAt 2 2 gives ok 2 ∷ mapAt 1 2 gives refused 10 ∷
+    mapAt 3 2 gives refused 10 ∷ mapAt 1 1 gives ok 1 ∷ mapAt 4 1 gives ok 4 ∷ []) ∷
     -- 11 "map at 64 and no run of p2 unmapped pages exists": "`2 0 64 1 0 0 3`, all 64 mapped"; gaps of one page, and of two
     (call₁ Open 128 gives ok 0 ∷ mapAt 0 64 gives ok 0 ∷ call₅ Map 64 1 0 0 3 gives refused 11 ∷ call₂ Unmap 5 1 gives ok 0 ∷ call₂ Unmap 63 1 gives ok 0 ∷
     mapAt 64 2 gives refused 11 ∷ call₂ Unmap 62 1 gives ok 0 ∷ mapAt 64 2 gives ok 62 ∷ mapAt 64 1 gives ok 5 ∷ mapAt 64 1 gives refused 11 ∷ []) ∷
@@ -86,11 +86,18 @@ smallCases =
     call₅ Map 64 1 1 1 3 gives refused 6 ∷ call₅ Map 64 2 1 0 3 gives refused 6 ∷ call₅ Map 64 1 1 0 3 gives ok 0 ∷ call₁ Read 255 gives ok 7 ∷ []) ∷
     []
 
--- the whole table: the rows, and every limit of rows 2, 4 and 6 on both sides
+-- pages 0, 2 .. 14 mapped, with rights 1
+abbrev pub eightAreas : List Line
+eightAreas =
+    call₁ Open 16 gives ok 0 ∷ readable 0 1 gives ok 0 ∷ readable 2 1 gives ok 2 ∷ readable 4 1 gives ok 4 ∷ readable 6 1 gives ok 6 ∷
+    readable 8 1 gives ok 8 ∷ readable 10 1 gives ok 10 ∷ readable 12 1 gives ok 12 ∷ readable 14 1 gives ok 14 ∷ []
+
+-- the whole table: the rows, and every limit on both sides
 abbrev pub turnedBackCases : List Case
 turnedBackCases =
     casesOver noImage turnedBack ++
     casesOver small smallCases ++
     eachAfter twoPages [] closedEdges ++
     eachAfter twoPages (call₁ Open 128 gives ok 0 ∷ []) bareEdges ++
-    eachAfter twoPages (call₁ Open 128 gives ok 0 ∷ mapAt 0 64 gives ok 0 ∷ []) fullEdges
+    eachAfter twoPages (call₁ Open 128 gives ok 0 ∷ mapAt 0 64 gives ok 0 ∷ []) fullEdges ++
+    eachAfter twoPages eightAreas eightEdges
