@@ -13,3 +13,4 @@ pub mod Runs
 pub mod Demand3Laws
 pub mod Roll
 pub mod Claims
+pub mod TurnedBackLaws

@@ -1,3 +1,4 @@
--- In reading order: what is claimed, and what the proofs carry along a list.
+-- In reading order: what is claimed, "Turned back" by its examples, and what the proofs carry along a list.
 pub mod Demands
+pub mod TurnedBack
 pub mod Agrees

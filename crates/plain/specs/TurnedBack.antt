@@ -1,6 +1,5 @@
 -- "Turned back", its rows 2 and 4 to 14 as one table of rolls with their answers: each row's Example, its neighbours that are not refused, every limit on both
 -- sides, and "When several apply, the lowest number is answered". (Row 1 is the player's; row 3 stands in claims/specs/TurnedBack.)
-use Prim.Native.Nat.{ℕ}
 use mathlib.Core.List.{List, [], _∷_, _++_}
 use lib.ListN.{replicate}
 use Rattle.interface.specs.Requests.{Open, Map, Unmap, Protect, Read, Write, Snapshot, Rewind, Report}
@@ -43,7 +42,7 @@ turnedBack =
     -- "shares would exceed the pool": 128 frames, of four sandboxes
     (call₁ Open 100 gives ok 0 ∷ inSandbox 1 (call₁ Open 29) gives refused 13 ∷ inSandbox 1 (call₁ Open 27) gives ok 0 ∷
     inSandbox 2 (call₁ Open 2) gives refused 13 ∷ inSandbox 2 (call₁ Open 1) gives ok 0 ∷ inSandbox 3 (call₁ Open 1) gives refused 13 ∷ []) ∷
-    -- 14 "more than 8 areas would result": "pages 0, 2 .. 14 mapped, then 16, share 16"; a page that joins two areas
+    -- 14 "more than 8 areas would result": "pages 0, 2 .. 14 mapped, then 16, share 16"; pages that go on with an area or join two
     (call₁ Open 16 gives ok 0 ∷ mapAt 0 1 gives ok 0 ∷ mapAt 2 1 gives ok 2 ∷ mapAt 4 1 gives ok 4 ∷ mapAt 6 1 gives ok 6 ∷ mapAt 8 1 gives ok 8 ∷
     mapAt 10 1 gives ok 10 ∷ mapAt 12 1 gives ok 12 ∷ mapAt 14 1 gives ok 14 ∷ mapAt 16 1 gives refused 14 ∷ mapAt 15 1 gives ok 15 ∷
     mapAt 13 1 gives ok 13 ∷ mapAt 17 1 gives ok 17 ∷ []) ∷
@@ -57,7 +56,7 @@ turnedBack =
     -- 6 before 8, 9; then 6 before 7, 10, 12, 13
     call₁ Rewind 1 gives refused 6 ∷ call₂ Unmap 63 2 gives refused 6 ∷ mapAt 0 65 gives refused 6 ∷ call₅ Map 0 1 0 0 1 gives ok 0 ∷ call Snapshot gives ok 1 ∷
     call₁ Snapshot 1 gives refused 6 ∷ call₅ Map 0 1 0 0 2 gives refused 6 ∷ call₂ Write 0 256 gives refused 6 ∷
-    -- 7 before 13 (seven more pages would be committed), 10 before 13
+    -- 7 before 13 (seven pages would be committed, a charge of 14), 10 before 13
     mapAt 1 6 gives ok 1 ∷ call Snapshot gives refused 7 ∷ mapAt 0 9 gives refused 10 ∷ []) ∷
     -- 5 before 13, 11 before 13
     (call₁ Open 128 gives ok 0 ∷ call₁ Open 1 gives refused 5 ∷ mapAt 0 64 gives ok 0 ∷ call Snapshot gives ok 64 ∷ mapAt 64 1 gives refused 11 ∷ []) ∷
