@@ -1,23 +1,22 @@
--- THE THEOREMS: the statements of specs/Demands, of every image and pool that a start accepts and of every list of requests.
+-- THE THEOREMS: the statements of specs/Demands and specs/TurnedBack, of every image and pool that a start accepts and of every list of requests.
 use mathlib.Core.List.{List}
 use Prim.Native.Nat.{ℕ}
 use Rattle.interface.specs.declared.request.Request.{Request}
-use lib.ListN.{length}
 use Rattle.state.specs.World.{World}
-use Rattle.state.proofs.TestLaws.{lengths-true}
-use Rattle.state.proofs.StartLaws.{start-world}
 use Rattle.machine.specs.Step.{Outcome, Stepped}
 use Rattle.plain.specs.Machine.{Given}
+use Rattle.plain.specs.Cases.{casesOver, noImage, cases}
+use Rattle.plain.specs.TurnedBack.{turnedBackCases}
 use Rattle.claims.specs.Demands.{StartsLists, Lent, EveryListRuns, Demand1, Demand2, Demand3}
+use Rattle.claims.specs.TurnedBack.{AllGet, WrongLength, lendings, AllGetLent}
 use Rattle.claims.proofs.Demand1Laws.{demand-1}
-use Rattle.claims.proofs.Runs.{every-list-runs, demand-2}
+use Rattle.claims.proofs.Runs.{starts-lists, every-list-runs, demand-2}
 use Rattle.claims.proofs.Demand3Laws.{demand-3}
+use Rattle.claims.proofs.TurnedBackLaws.{cases-get, turned-back-get, wrong-length, lendings-get}
 
 -- a start that is not refused leaves the world from which lists start
 pub claim-start : StartsLists
-claim-start pool table image ok =
-    let l = lengths-true (length pool) (length table) (length image) ok in
-    (record { frames = l .some; few = l .few; image = l .whole; images = l .images }, start-world pool table image ok)
+claim-start = starts-lists
 
 -- every list of requests has a run
 pub claim-runs : (g : Given) → Lent g → EveryListRuns g
@@ -34,3 +33,18 @@ claim-2 = demand-2
 -- rewound sandboxes, frames, the promise, and two lists
 pub claim-3 : (g : Given) → Lent g → Demand3 g
 claim-3 = demand-3
+
+-- every run over the starred cases has their answers
+pub claim-cases : AllGet (casesOver noImage cases)
+claim-cases = cases-get
+
+-- every run over the table of "Turned back", its Examples and both sides of each limit, has the table's answers
+pub claim-turned-back : AllGet turnedBackCases
+claim-turned-back = turned-back-get
+
+-- where a lent length is wrong every call is refused 2 or 3 and changes nothing; and each length on both sides of its limits
+pub claim-wrong-length : WrongLength
+claim-wrong-length = wrong-length
+
+pub claim-lent-lengths : AllGetLent lendings
+claim-lent-lengths = lendings-get

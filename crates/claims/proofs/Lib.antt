@@ -12,5 +12,5 @@ pub mod TakenLaws
 pub mod Runs
 pub mod Demand3Laws
 pub mod Roll
-pub mod Claims
 pub mod TurnedBackLaws
+pub mod Claims

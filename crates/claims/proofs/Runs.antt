@@ -1,20 +1,30 @@
--- Lists of calls: every list has a run, and a run keeps the agreement and gives the plain machine's answers.
+-- Lists of calls: where they start, every list has a run, and a run keeps the agreement and gives the plain machine's answers.
 use mathlib.Core.Path.{_≡_, refl, ap₂}
 use mathlib.Core.List.{List, [], _∷_}
 use Prim.Native.Nat.{ℕ}
+use lib.ListN.{length}
 use Rattle.interface.specs.declared.request.Request.{Request}
 use Rattle.interface.specs.Answers.{Answered}
 use Rattle.state.specs.World.{World, started}
 use Rattle.state.specs.Sound.{Sound}
+use Rattle.state.proofs.TestLaws.{lengths-true}
+use Rattle.state.proofs.StartLaws.{start-world}
 use Rattle.machine.specs.Step.{step, Outcome, Stepped}
 use Rattle.plain.specs.Machine.{Given, Plain, fresh, after, answers, afterAll}
 use Rattle.plain.specs.Lists.{upTo}
-use Rattle.claims.specs.Demands.{Run, none, more, RunFrom, Lent, EveryListRuns, Demand2}
+use Rattle.claims.specs.Demands.{Run, none, more, RunFrom, Lent, StartsLists, EveryListRuns, Demand2}
 use Rattle.claims.specs.Agrees.{Agrees}
 use Rattle.claims.proofs.SoundLaws.{agrees-sound, started-agrees}
 use Rattle.claims.proofs.Simulate.{step-answer, step-agrees}
 use Rattle.claims.proofs.AnySound.{stays-sound}
 use Rattle.claims.proofs.TakenLaws.{some-frame}
+
+-- ---- a start that is not refused
+
+pub starts-lists : StartsLists
+starts-lists pool table image ok =
+    let l = lengths-true (length pool) (length table) (length image) ok in
+    (record { frames = l .some; few = l .few; image = l .whole; images = l .images }, start-world pool table image ok)
 
 -- ---- every list has a run
 

@@ -1,12 +1,15 @@
 -- "Turned back", of the machine that runs: the table of plain/specs/TurnedBack, and row 3 with each lent length on both sides of its limits.
 use mathlib.Core.Path.{_≡_}
+use mathlib.Core.Bool.{false, not}
 use mathlib.Core.List.{List, [], _∷_}
 use Prim.Native.Nat.{ℕ}
 use lib.ListN.{length}
+use Rattle.basics.specs.Choice.{_when_else_}
+use Rattle.interface.specs.declared.request.Request.{Request}
 use Rattle.interface.specs.Answers.{Answered}
-use Rattle.interface.specs.Requests.{Open, Read}
+use Rattle.interface.specs.Requests.{Open, Read, isCall}
 use Rattle.interface.specs.Examples.{Line, _gives_, ok, refused, requestsOf, getsOf, call₁, call, inSandbox}
-use Rattle.state.specs.World.{World}
+use Rattle.state.specs.World.{World, lengthsOk}
 use Rattle.state.specs.Start.{startedBy}
 use Rattle.machine.specs.Step.{Outcome, Stepped}
 use Rattle.plain.specs.Cases.{Case}
@@ -21,6 +24,12 @@ AllGet [] = Unit
 AllGet (c ∷ cs) = Gets c × AllGet cs
 
 -- ---- row 3
+
+-- "lent length wrong": every call of every state is refused, "call code not 1 to 9" first, and changes nothing
+abbrev pub WrongLength : Type 0
+WrongLength =
+    (image : List ℕ) (w : World) → lengthsOk (length (w .store .pool)) (length (w .store .table)) (length image) ≡ false
+    → (q : Request) (o : Outcome) → Stepped image w q o → (o .answer ≡ refused (2 when not (isCall q) else 3)) × (o .world ≡ w)
 
 -- a call over so many bytes of pool, entries of table and bytes of image
 pub record Lending : Type 0 where
@@ -41,7 +50,8 @@ lendings =
     lending 32768 512 0 (call₁ Open 128 gives ok 0) ∷ lending 32769 512 0 (call₁ Open 1 gives refused 3) ∷ lending 33024 512 0 (call₁ Open 1 gives refused 3) ∷
     lending 256 0 0 (call₁ Open 1 gives refused 3) ∷ lending 256 511 0 (call₁ Open 1 gives refused 3) ∷ lending 256 513 0 (call₁ Open 1 gives refused 3) ∷
     lending 256 512 255 (call₁ Open 1 gives refused 3) ∷ lending 256 512 256 (call₁ Open 1 gives ok 0) ∷ lending 256 512 257 (call₁ Open 1 gives refused 3) ∷
-    lending 256 512 16384 (call₁ Open 1 gives ok 0) ∷ lending 256 512 16385 (call₁ Open 1 gives refused 3) ∷ lending 256 512 16640 (call₁ Open 1 gives refused 3) ∷
+    lending 256 512 16384 (call₁ Open 1 gives ok 0) ∷ lending 256 512 16385 (call₁ Open 1 gives refused 3) ∷
+    lending 256 512 16640 (call₁ Open 1 gives refused 3) ∷
     -- 2 before 3
     lending 255 512 0 (call 0 gives refused 2) ∷ lending 256 511 0 (call 10 gives refused 2) ∷ lending 256 512 0 (call 0 gives refused 2) ∷
     -- 3 before 4 and 6; where the lengths are right, 4, 6 and 13

@@ -1,5 +1,4 @@
 -- "Checked by hand (★: proved)": the starred cases as one table of rolls with their answers, without an image and with 128 frames.
-use Prim.Native.Nat.{ℕ}
 use mathlib.Core.Bool.{Bool, true, false, _&&_}
 use mathlib.Core.List.{List, [], _∷_}
 use lib.Dec.{eqb}
@@ -41,11 +40,14 @@ casesOver g (c ∷ cs) = record { over = g; lines = c } ∷ casesOver g cs
 abbrev pub noImage : Given
 noImage = record { image = []; frames = 128 }
 
+abbrev pub sameAnswer : Answered → Answered → Bool
+sameAnswer a b = eqb (a .number) (b .number) && eqb (a .value) (b .value)
+
 abbrev pub sameAnswers : List Answered → List Answered → Bool
 sameAnswers [] [] = true
 sameAnswers [] (b ∷ m) = false
 sameAnswers (a ∷ l) [] = false
-sameAnswers (a ∷ l) (b ∷ m) = eqb (a .number) (b .number) && (eqb (a .value) (b .value) && sameAnswers l m)
+sameAnswers (a ∷ l) (b ∷ m) = sameAnswer a b && sameAnswers l m
 
 -- every roll of the table gets its answers
 unfoldable pub allGiven : List Case → Bool
