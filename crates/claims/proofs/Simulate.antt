@@ -102,7 +102,7 @@ module _ {C : Type 0} (g : Given) (w : World) (p : Plain) (A : Agrees C g w p) (
       used-count (from (s * 128 + 64) (w .store .table)) (p s .traces .back) 64
       (λ i m. ap (λ (x : ℕ). used (getD (w .store .table) x 0)) (omega arith) ∙ used-one (w .store) (backOf s i) (p s .traces .back i) _ (A .each s l .backs i m))
 
-  held-same : s < 4 → heldBy (w .store) s ≡ heldMarks (p s .traces)
+  pub held-same : s < 4 → heldBy (w .store) s ≡ heldMarks (p s .traces)
   unfolding heldMarks
   held-same l =
       let st : Store = w .store in

@@ -1,0 +1,63 @@
+-- What a host finds in pool and table afterwards is what demand 3 says.
+use mathlib.Core.Path.{_≡_, sym, _∙_}
+use mathlib.Core.Bool.{true}
+use mathlib.Core.List.{List}
+use Prim.Native.Nat.{ℕ, _*_, _≤_, _<_}
+use lib.ListN.{length}
+use Rattle.interface.specs.declared.request.Request.{Request}
+use Rattle.interface.specs.Answers.{Answered}
+use Rattle.lines.specs.Lines.{linesOf}
+use Rattle.table.specs.Store.{frontOf, backOf}
+use Rattle.state.specs.World.{World, pagesIn, lengthsOk}
+use Rattle.plain.specs.Machine.{Given, copyBytes}
+use Rattle.plain.specs.Lists.{upTo}
+use Rattle.claims.specs.Demands.{RunFrom, Lent}
+use Rattle.claims.proofs.Runs.{list-agrees}
+use Rattle.claims.proofs.Simulate.{used-one, held-counts, held-same}
+use Rattle.claims.proofs.Claims.{claim-start, claim-3}
+use Rattle.roll.specs.Play.{linesIn, requests}
+use Rattle.gazhuppin.specs.FromStart.{FromStart}
+use Rattle.gazhuppin.specs.Left.{LeftAt, Left}
+use Rattle.gazhuppin.proofs.PlainReplies.{run-of}
+
+module _ (g : Given) (L : Lent g) (qs : List Request) (as′ : List Answered) (v : World) (r : RunFrom g qs as′ v) where
+  left-at : (s : ℕ) → s < 4 → LeftAt (v .store .pool) (v .store .table) s (upTo g qs s)
+  left-at s l =
+      let A = list-agrees g L qs as′ v r in
+      let a = A .each s l in
+      let k = upTo g qs s in
+      let D = claim-3 g L in
+      record {
+        frontMarks = λ i d. used-one (v .store) (frontOf s i) (k .traces .front i) (k .core .pages .bytes i) (a .fronts i d);
+        backMarks = λ i d. used-one (v .store) (backOf s i) (k .traces .back i) (copyBytes (k .core .copy) i) (a .backs i d);
+        fronts = λ i f d. D .frames qs as′ v r .fronts s i f l d;
+        backs = λ i f d. D .frames qs as′ v r .backs s i f l d;
+        counted = sym (held-counts g v (upTo g qs) A s) ∙ held-same g v (upTo g qs) A s l;
+        share = rw (← a .share) (D .promise qs as′ v r .share s l);
+        covered = rw (← a .share, ← a .present) (D .promise qs as′ v r .covered s l);
+      }
+
+  left-by : Left g qs (v .store .pool) (v .store .table)
+  left-by =
+      let A = list-agrees g L qs as′ v r in
+      let D = claim-3 g L in
+      record {
+        bytes = A .tidy .filed .pages;
+        entries = A .tidy .filed .entries;
+        named = A .tidy .filed .names .within;
+        once = A .tidy .filed .names .once;
+        rest = D .frames qs as′ v r .rest;
+        each = left-at;
+        pooled = A .holds .pooled;
+        rewoundFronts = λ s i f l d w. D .rewound s qs as′ v l r w .fronts i f d;
+        rewoundBacks = λ s i f l d w. D .rewound s qs as′ v l r w .backs i f d;
+      }
+
+-- where the lent lengths are right and the replies fit
+pub left-behind : (image roll pool₀ table₀ out₀ pool table out : List ℕ) (lines : ℕ)
+    → FromStart image roll pool₀ table₀ out₀ pool table out lines
+    → lengthsOk (length pool₀) (length table₀) (length image) ≡ true
+    → linesOf (length roll) * 19 ≤ length out₀
+    → Left (record { image = image; frames = pagesIn (length pool₀) }) (requests (linesIn roll (linesOf (length roll)))) pool table
+left-behind image roll pool₀ table₀ out₀ pool table out lines r ok room =
+    left-by _ (claim-start pool₀ table₀ image ok .0) _ (r .played room .1 .answers) _ (run-of image roll pool₀ table₀ out₀ pool table out lines r ok room)
