@@ -1,21 +1,24 @@
 -- What a host finds in pool and table afterwards is what demand 3 says.
-use mathlib.Core.Path.{_≡_, sym, _∙_}
+use mathlib.Core.Path.{_≡_, refl, sym, ap, _∙_}
 use mathlib.Core.Bool.{true}
-use mathlib.Core.List.{List}
+use mathlib.Core.List.{List, []}
 use Prim.Native.Nat.{ℕ, _*_, _≤_, _<_}
+use native.Mathlib.Omega.{arith}
 use lib.ListN.{length}
 use Rattle.interface.specs.declared.request.Request.{Request}
 use Rattle.interface.specs.Answers.{Answered}
 use Rattle.lines.specs.Lines.{linesOf}
+use Rattle.pages.specs.Parts.{zeros}
 use Rattle.table.specs.Store.{frontOf, backOf}
-use Rattle.state.specs.World.{World, pagesIn, lengthsOk}
+use Rattle.state.specs.World.{World, worldOf, freshMachine, pagesIn, lengthsOk}
+use Rattle.state.specs.Start.{startedBy}
 use Rattle.plain.specs.Machine.{Given, copyBytes}
 use Rattle.plain.specs.Lists.{upTo}
-use Rattle.claims.specs.Demands.{RunFrom, Lent}
+use Rattle.claims.specs.Demands.{Run, none, more, RunFrom, Lent}
 use Rattle.claims.proofs.Runs.{list-agrees}
 use Rattle.claims.proofs.Simulate.{used-one, held-counts, held-same}
 use Rattle.claims.proofs.Claims.{claim-start, claim-3}
-use Rattle.roll.specs.Play.{linesIn, requests}
+use Rattle.roll.specs.Play.{linesIn, requests, replies, printed}
 use Rattle.gazhuppin.specs.FromStart.{FromStart}
 use Rattle.gazhuppin.specs.Left.{LeftAt, Left}
 use Rattle.gazhuppin.proofs.PlainReplies.{run-of}
@@ -61,3 +64,22 @@ pub left-behind : (image roll pool₀ table₀ out₀ pool table out : List ℕ)
     → Left (record { image = image; frames = pagesIn (length pool₀) }) (requests (linesIn roll (linesOf (length roll)))) pool table
 left-behind image roll pool₀ table₀ out₀ pool table out lines r ok room =
     left-by _ (claim-start pool₀ table₀ image ok .0) _ (r .played room .1 .answers) _ (run-of image roll pool₀ table₀ out₀ pool table out lines r ok room)
+
+-- ---- a roll of no bytes
+
+run-none : {image : List ℕ} {w v : World} {qs : List Request} {as′ : List Answered} → Run image w qs as′ v → qs ≡ [] → v ≡ w
+run-none none e = refl
+run-none (more s r) e = absurd (omega (arith, ap length e))
+
+-- is a start alone: pool and table are cleared, and nothing is printed
+pub empty-roll : (image pool₀ table₀ out₀ pool table out : List ℕ) (lines : ℕ)
+    → FromStart image [] pool₀ table₀ out₀ pool table out lines
+    → lengthsOk (length pool₀) (length table₀) (length image) ≡ true
+    → (lines ≡ 0) × ((pool ≡ zeros (length pool₀)) × ((table ≡ zeros 512) × (out ≡ out₀)))
+unfolding linesOf linesIn requests replies printed startedBy
+empty-roll image pool₀ table₀ out₀ pool table out lines r ok =
+    let room : linesOf 0 * 19 ≤ length out₀ = omega arith in
+    let p = r .played room .1 in
+    let cleared : startedBy pool₀ table₀ image ≡ worldOf freshMachine (zeros (length pool₀)) (zeros 512) = rw ok in
+    let same = run-none (p .run) refl ∙ cleared in
+    (r .answered room, (ap (λ (w : World). w .store .pool) same, (ap (λ (w : World). w .store .table) same, p .prints)))

@@ -4,6 +4,9 @@
 // they would not fit (`FromStart`); and that they are the plain machine's (proofs/PlainReplies). Of calls one at a time it promises the demands
 // (specs/HostClaims).
 // It stands on `roll` for the play, on `machine` and `encoding` for a call, and on `soundness` for the start. Nothing that holds an enum crosses to C.
+// they would not fit (`FromStart`); that they are the plain machine's (proofs/PlainReplies), and what is left in pool and table is what demand 3
+// says (proofs/LeftBehind); or, where a lent length is wrong, that pool and table stay and every line is refused (proofs/RefusedReplies).
+// It stands on `roll` for the play and on `soundness` for the start. The state stays inside: nothing that holds an enum crosses to C.
 ghost use mathlib.Core.Path.{_≡_};
 ghost use Rattle.lines.specs.Lines.{linesOf};
 ghost use Rattle.gazhuppin.specs.FromStart.{FromStart};
