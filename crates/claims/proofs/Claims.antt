@@ -8,11 +8,11 @@ use Rattle.plain.specs.Machine.{Given}
 use Rattle.plain.specs.Cases.{casesOver, noImage, cases}
 use Rattle.plain.specs.TurnedBack.{turnedBackCases}
 use Rattle.claims.specs.Demands.{StartsLists, Lent, EveryListRuns, Demand1, Demand2, Demand3}
-use Rattle.claims.specs.TurnedBack.{AllGet, WrongLength, lendings, AllGetLent}
+use Rattle.claims.specs.TurnedBack.{AllGet, WrongLength, lendings, AllGetLent, StrayEntry}
 use Rattle.claims.proofs.Demand1Laws.{demand-1}
 use Rattle.claims.proofs.Runs.{starts-lists, every-list-runs, demand-2}
 use Rattle.claims.proofs.Demand3Laws.{demand-3}
-use Rattle.claims.proofs.TurnedBackLaws.{cases-get, turned-back-get, wrong-length, lendings-get}
+use Rattle.claims.proofs.TurnedBackLaws.{cases-get, turned-back-get, wrong-length, lendings-get, stray-entry}
 
 -- a start that is not refused leaves the world from which lists start
 pub claim-start : StartsLists
@@ -48,3 +48,7 @@ claim-wrong-length = wrong-length
 
 pub claim-lent-lengths : AllGetLent lendings
 claim-lent-lengths = lendings-get
+
+-- a state that is unsound
+pub claim-stray-entry : StrayEntry
+claim-stray-entry = stray-entry

@@ -14,12 +14,16 @@ use Rattle.basics.proofs.TestLaws.{by-cases, and-both}
 use Rattle.interface.specs.declared.page.Slot.the-variants.{Unmapped}
 use Rattle.interface.specs.declared.request.Request.{Request}
 use Rattle.interface.specs.Answers.{Answered}
-use Rattle.interface.specs.Requests.{isCall}
+use Rattle.interface.specs.Requests.{Open, isCall}
 use Rattle.interface.specs.Slots.{follows, joins, areas, mappedPages, uncommittedPages, lowestGap, chargeOf}
 use Rattle.interface.specs.Limits.{within}
 use Rattle.interface.specs.Outcome.{firstOf, slotsAfter, copyAfter}
 use Rattle.interface.specs.Refusals.{allMapped, refusal}
-use Rattle.interface.specs.Examples.{refused, requestsOf, getsOf}
+use Rattle.interface.specs.Examples.{refused, requestsOf, getsOf, call₁}
+use Rattle.frames.specs.Word.{bit, putBit}
+use Rattle.frames.specs.Frames.{mark, held as heldMark}
+use Rattle.pages.specs.Parts.{zeros}
+use Rattle.marks.specs.Marks.{addEntry, marksTo, marksb}
 use Rattle.state.specs.World.{World, worldOf, freshMachine, started, pagesIn, lengthsOk}
 use Rattle.state.specs.Start.{startedBy}
 use Rattle.state.specs.Test.{soundb}
@@ -31,7 +35,7 @@ use Rattle.plain.specs.Cases.{Case, casesOver, noImage, cases, sameAnswer, same
 use Rattle.plain.specs.TurnedBack.{turnedBackCases}
 use Rattle.plain.proofs.Claims.{claim-cases, claim-turned-back}
 use Rattle.claims.specs.Demands.{Lent}
-use Rattle.claims.specs.TurnedBack.{AllGet, Lending, lendings, AllGetLent}
+use Rattle.claims.specs.TurnedBack.{AllGet, Lending, lendings, AllGetLent, strayEntry, StrayEntry}
 use Rattle.claims.proofs.StepLaws.{number-is, refused-leaves}
 use Rattle.claims.proofs.SoundLaws.{started-agrees}
 use Rattle.claims.proofs.Simulate.{step-answer}
@@ -131,3 +135,13 @@ all-get-lent (c ∷ cs) e =
 pub lendings-get : AllGetLent lendings
 unfolding lendingsOk lentAnswer within allMapped firstOf slotsAfter copyAfter refusal coreValue held count sum every lowest inside over follows joins areas mappedPages uncommittedPages lowestGap chargeOf
 lendings-get = all-get-lent lendings refl
+
+stray-number : numberAt [] strayEntry (call₁ Open 1) ≡ 3
+unfolding numberAt soundb marksb marksTo addEntry bit putBit heldMark mark zeros
+stray-number = refl
+
+pub stray-entry : StrayEntry
+stray-entry o s =
+    let n = stray-number in
+    let left = refused-leaves [] strayEntry (call₁ Open 1) o s (rw n refl) in
+    (λ i. record { number = (number-is [] strayEntry (call₁ Open 1) o s ∙ n) i; value = left .0 i }, left .1)

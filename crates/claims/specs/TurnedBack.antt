@@ -9,7 +9,8 @@ use Rattle.interface.specs.declared.request.Request.{Request}
 use Rattle.interface.specs.Answers.{Answered}
 use Rattle.interface.specs.Requests.{Open, Read, isCall}
 use Rattle.interface.specs.Examples.{Line, _gives_, ok, refused, requestsOf, getsOf, call₁, call, inSandbox}
-use Rattle.state.specs.World.{World, lengthsOk}
+use Rattle.pages.specs.Parts.{zeros}
+use Rattle.state.specs.World.{World, worldOf, freshMachine, lengthsOk}
 use Rattle.state.specs.Start.{startedBy}
 use Rattle.machine.specs.Step.{Outcome, Stepped}
 use Rattle.plain.specs.Cases.{Case}
@@ -70,3 +71,11 @@ GetsLent c =
 abbrev pub AllGetLent : List Lending → Type 0
 AllGetLent [] = Unit
 AllGetLent (c ∷ cs) = GetsLent c × AllGetLent cs
+
+-- "or state unsound": a fresh state over one frame and a table whose first entry names it, though no mark holds it
+abbrev pub strayEntry : World
+strayEntry = worldOf freshMachine (zeros 256) (1 ∷ zeros 511)
+
+-- the call that is accepted over a cleared table is refused, and changes nothing
+abbrev pub StrayEntry : Type 0
+StrayEntry = (o : Outcome) → Stepped [] strayEntry (call₁ Open 1) o → (o .answer ≡ refused 3) × (o .world ≡ strayEntry)
