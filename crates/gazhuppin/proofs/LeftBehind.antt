@@ -10,7 +10,7 @@ use Rattle.interface.specs.Answers.{Answered}
 use Rattle.lines.specs.Lines.{linesOf}
 use Rattle.pages.specs.Parts.{zeros}
 use Rattle.table.specs.Store.{frontOf, backOf}
-use Rattle.state.specs.World.{World, worldOf, freshMachine, pagesIn, lengthsOk}
+use Rattle.state.specs.World.{World, worldOf, freshMachine, lengthsOk}
 use Rattle.state.specs.Start.{startedBy}
 use Rattle.plain.specs.Machine.{Given, copyBytes}
 use Rattle.plain.specs.Lists.{upTo}
@@ -21,6 +21,7 @@ use Rattle.claims.proofs.Claims.{claim-start, claim-3}
 use Rattle.roll.specs.Play.{linesIn, requests, replies, printed}
 use Rattle.gazhuppin.specs.FromStart.{FromStart}
 use Rattle.gazhuppin.specs.Left.{LeftAt, Left}
+use Rattle.gazhuppin.specs.Promised.{lent, Room}
 use Rattle.gazhuppin.proofs.PlainReplies.{run-of}
 
 module _ (g : Given) (L : Lent g) (qs : List Request) (as′ : List Answered) (v : World) (r : RunFrom g qs as′ v) where
@@ -60,8 +61,8 @@ module _ (g : Given) (L : Lent g) (qs : List Request) (as′ : List Answered) (v
 pub left-behind : (image roll pool₀ table₀ out₀ pool table out : List ℕ) (lines : ℕ)
     → FromStart image roll pool₀ table₀ out₀ pool table out lines
     → lengthsOk (length pool₀) (length table₀) (length image) ≡ true
-    → linesOf (length roll) * 19 ≤ length out₀
-    → Left (record { image = image; frames = pagesIn (length pool₀) }) (requests (linesIn roll (linesOf (length roll)))) pool table
+    → Room roll out₀
+    → Left (lent image pool₀) (requests (linesIn roll (linesOf (length roll)))) pool table
 left-behind image roll pool₀ table₀ out₀ pool table out lines r ok room =
     left-by _ (claim-start pool₀ table₀ image ok .0) _ (r .played room .1 .answers) _ (run-of image roll pool₀ table₀ out₀ pool table out lines r ok room)
 

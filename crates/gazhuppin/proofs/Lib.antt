@@ -4,3 +4,4 @@ pub mod StepwiseLaws
 pub mod HostClaims
 pub mod LeftBehind
 pub mod RefusedReplies
+pub mod PromisedLaws

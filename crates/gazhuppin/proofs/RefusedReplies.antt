@@ -1,8 +1,8 @@
 -- Where a lent length is wrong: pool and table stay, and every line gets its refusal.
-use mathlib.Core.Path.{_≡_, refl, sym, ap, ap₂, subst, _∙_}
+use mathlib.Core.Path.{_≡_, refl, ap, ap₂, subst, _∙_}
 use mathlib.Core.Bool.{false, not}
 use mathlib.Core.List.{List, [], _∷_, _++_, map}
-use Prim.Native.Nat.{ℕ, _*_, _≤_}
+use Prim.Native.Nat.{ℕ, _*_}
 use lib.ListN.{length, drop}
 use Rattle.basics.specs.Choice.{_when_else_}
 use Rattle.interface.specs.declared.request.Request.{Request}
@@ -19,6 +19,7 @@ use Rattle.claims.proofs.Claims.{claim-wrong-length}
 use Rattle.roll.specs.Play.{malformed, linesIn, requests, replies, printed}
 use Rattle.gazhuppin.specs.FromStart.{FromStart}
 use Rattle.gazhuppin.specs.Replies.{refusedReply, refusedReplies}
+use Rattle.gazhuppin.specs.Promised.{Room}
 
 -- row 2 or row 3
 abbrev rowOf : Request → Answered
@@ -40,7 +41,8 @@ refused-each [] = refl
 refused-each (Malformed ∷ ls) = ap (λ l. malformed ∷ l) (refused-each ls)
 refused-each (Call q ∷ ls) = ap (λ l. rowOf q ∷ l) (refused-each ls)
 
-started-wrong : (pool table image : List ℕ) → lengthsOk (length pool) (length table) (length image) ≡ false → startedBy pool table image ≡ worldOf freshMachine pool table
+started-wrong : (pool table image : List ℕ) → lengthsOk (length pool) (length table) (length image) ≡ false
+    → startedBy pool table image ≡ worldOf freshMachine pool table
 unfolding startedBy
 started-wrong pool table image e = rw e
 
@@ -48,13 +50,14 @@ started-wrong pool table image e = rw e
 pub refused-replies : (image roll pool₀ table₀ out₀ pool table out : List ℕ) (lines : ℕ)
     → FromStart image roll pool₀ table₀ out₀ pool table out lines
     → lengthsOk (length pool₀) (length table₀) (length image) ≡ false
-    → linesOf (length roll) * 19 ≤ length out₀
+    → Room roll out₀
     → (pool ≡ pool₀) × ((table ≡ table₀) × (out ≡ refusedReplies roll ++ drop (lines * 19) out₀))
 unfolding refusedReplies
 refused-replies image roll pool₀ table₀ out₀ pool table out lines r wrong room =
     let n = linesOf (length roll) in
     let p = r .played room .1 in
-    let run = subst (λ w. Run image w (requests (linesIn roll n)) (p .answers) (worldOf (r .played room .0) pool table)) (started-wrong pool₀ table₀ image wrong) (p .run) in
+    let v = worldOf (r .played room .0) pool table in
+    let run = subst (λ w. Run image w (requests (linesIn roll n)) (p .answers) v) (started-wrong pool₀ table₀ image wrong) (p .run) in
     let done = run-refused run wrong in (
       ap (λ (w : World). w .store .pool) (done .0),
       (

@@ -4,3 +4,4 @@ pub mod Replies
 pub mod Stepwise
 pub mod HostClaims
 pub mod Left
+pub mod Promised

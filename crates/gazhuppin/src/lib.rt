@@ -6,6 +6,8 @@
 // It stands on `roll` for the play, on `machine` and `encoding` for a call, and on `soundness` for the start. Nothing that holds an enum crosses to C.
 // they would not fit (`FromStart`); that they are the plain machine's (proofs/PlainReplies), and what is left in pool and table is what demand 3
 // says (proofs/LeftBehind); or, where a lent length is wrong, that pool and table stay and every line is refused (proofs/RefusedReplies).
+// they would not fit (`FromStart`). From this follows all that the C header says (specs/Promised): the replies are the plain machine's, what is left
+// in pool and table is what demand 3 says, and where a lent length is wrong pool and table stay and every line is refused.
 // It stands on `roll` for the play and on `soundness` for the start. The state stays inside: nothing that holds an enum crosses to C.
 ghost use mathlib.Core.Path.{_≡_};
 ghost use Rattle.lines.specs.Lines.{linesOf};

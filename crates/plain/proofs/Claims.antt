@@ -4,7 +4,6 @@ use mathlib.Core.Path.{_≡_}
 use mathlib.Core.Bool.{true}
 use mathlib.Core.List.{List, [], _∷_}
 use Rattle.interface.specs.declared.request.Request.{Request}
-use Rattle.interface.specs.Slots.{copied}
 use Rattle.plain.specs.Machine.{Given, Plain, fresh, after, afterAll}
 use Rattle.plain.specs.Lists.{upTo}
 use Rattle.plain.specs.Claims.{TwoLists, RewoundIsRestored, Holds, Reads, Always}
