@@ -3,12 +3,13 @@ use mathlib.Core.List.{List}
 use Prim.Native.Nat.{ℕ}
 use Rattle.interface.specs.declared.request.Request.{Request}
 use Rattle.state.specs.World.{World}
+use Rattle.state.specs.Lengths.{lendings}
 use Rattle.machine.specs.Step.{Outcome, Stepped}
 use Rattle.plain.specs.Machine.{Given}
 use Rattle.plain.specs.Cases.{casesOver, noImage, cases}
 use Rattle.plain.specs.TurnedBack.{turnedBackCases}
 use Rattle.claims.specs.Demands.{StartsLists, Lent, EveryListRuns, Demand1, Demand2, Demand3}
-use Rattle.claims.specs.TurnedBack.{AllGet, WrongLength, lendings, AllGetLent, StrayEntry}
+use Rattle.claims.specs.TurnedBack.{AllGet, WrongLength, AllGetLent, StrayEntry}
 use Rattle.claims.proofs.Demand1Laws.{demand-1}
 use Rattle.claims.proofs.Runs.{starts-lists, every-list-runs, demand-2}
 use Rattle.claims.proofs.Demand3Laws.{demand-3}

@@ -26,6 +26,7 @@ use Rattle.pages.specs.Parts.{zeros}
 use Rattle.marks.specs.Marks.{addEntry, marksTo, marksb}
 use Rattle.state.specs.World.{World, worldOf, freshMachine, started, pagesIn, lengthsOk}
 use Rattle.state.specs.Start.{startedBy}
+use Rattle.state.specs.Lengths.{Lending, lendings}
 use Rattle.state.specs.Test.{soundb}
 use Rattle.state.proofs.TestLaws.{lengths-true}
 use Rattle.machine.specs.Step.{Outcome, Stepped, numberAt}
@@ -35,7 +36,7 @@ use Rattle.plain.specs.Cases.{Case, casesOver, noImage, cases, sameAnswer, same
 use Rattle.plain.specs.TurnedBack.{turnedBackCases}
 use Rattle.plain.proofs.Claims.{claim-cases, claim-turned-back}
 use Rattle.claims.specs.Demands.{Lent}
-use Rattle.claims.specs.TurnedBack.{AllGet, Lending, lendings, AllGetLent, strayEntry, StrayEntry}
+use Rattle.claims.specs.TurnedBack.{AllGet, AllGetLent, strayEntry, StrayEntry}
 use Rattle.claims.proofs.StepLaws.{number-is, refused-leaves}
 use Rattle.claims.proofs.SoundLaws.{started-agrees}
 use Rattle.claims.proofs.Simulate.{step-answer}

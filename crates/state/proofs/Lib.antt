@@ -1,3 +1,4 @@
+pub mod LengthLaws
 pub mod SharesLaws
 pub mod TestLaws
 pub mod SettledLaws
