@@ -1,6 +1,6 @@
--- Demand 1: a refused call changes nothing; an accepted one leaves the other sandboxes, their entries and what these hold; a sound state stays sound.
+-- Demand 1: the number of each refusal; a refused call changes nothing; an accepted one leaves the other sandboxes, their entries and what these hold; a sound state stays sound.
 use mathlib.Core.Path.{_≡_, refl, sym, _∙_}
-use mathlib.Core.Bool.{true}
+use mathlib.Core.Bool.{true, false}
 use mathlib.Core.List.{List}
 use Prim.Native.Nat.{ℕ, _*_, _+_, _<_}
 use native.Mathlib.Omega.{arith}
@@ -11,17 +11,20 @@ use borrow.Author.Tests.{eqb-true}
 use Rattle.basics.proofs.TestLaws.{by-cases, and-both}
 use Rattle.interface.specs.declared.request.Request.{Request}
 use Rattle.interface.specs.Accepted.{Accepted}
+use Rattle.interface.specs.Requests.{isCall}
+use Rattle.interface.specs.Refusals.{refusal}
 use Rattle.interface.proofs.KindLaws.{kind}
 use Rattle.marks.specs.Marks.{marksb}
 use Rattle.marks.proofs.MarkLaws.{words, marksb-named}
 use Rattle.table.specs.Store.{entry, contents, Filed, Tidy}
 use Rattle.state.specs.declared.sandbox.Sandbox.{Sandbox}
 use Rattle.state.specs.World.{World, sandboxAt, closedSandbox, framesOf, pagesIn, sharesOf, viewAt, lengthsOk}
-use Rattle.state.specs.Sound.{SoundAt}
+use Rattle.state.specs.Sound.{SoundAt, Sound}
 use Rattle.state.specs.Test.{sandboxesOk, soundb}
-use Rattle.state.proofs.TestLaws.{lengths-true, sandboxes-true}
+use Rattle.state.proofs.TestLaws.{lengths-true, sandboxes-true, sound-of}
 use Rattle.rules.specs.After.{sandboxAfter}
 use Rattle.machine.specs.Step.{worldAfter, numberAt, Outcome, Stepped}
+use Rattle.machine.proofs.CallLaws.{sound-of-test, number-two, number-three, number-rest}
 use Rattle.plain.specs.Machine.{Given, Kept, viewOf}
 use Rattle.claims.specs.Demands.{Lent, Demand1}
 use Rattle.claims.proofs.StepLaws.{was-sound, was-accepted, number-is, refused-leaves, accepted-leaves, frame-free}
@@ -94,8 +97,20 @@ module _ (image : List ℕ) (w : World) (q : Request) (o : Outcome) (s : Stepped
         (stored-after g (T .lent) q (w .store) tidy b k (met .inRow) (kept-keeps g (w .store) (T .filed) (q .sandbox) b S) (kept-reads g (w .store) (T .filed) (q .sandbox) b S) A
         (sharesOf w) a (s .frame) (kind q) (frame-free image w q o s number) .others t i d l)
 
+  uncalled : isCall q ≡ false → o .answer .number ≡ 2
+  uncalled c = number-is image w q o s ∙ sym (number-two image w q c)
+
+  unsound : isCall q ≡ true → length (w .sandboxes) ≡ 4 → (Sound image w → ⊥) → o .answer .number ≡ 3
+  unsound c four n = number-is image w q o s ∙ by-cases (soundb image w) (λ e. absurd (n (sound-of-test image w four e))) (λ e. sym (number-three image w q c e))
+
+  table : isCall q ≡ true → Sound image w → o .answer .number ≡ refusal (viewAt image w (q .sandbox)) q
+  table c S = number-is image w q o s ∙ sym (number-rest image w q c (sound-of image w S))
+
   pub demand-1 : Demand1 image w q o
   demand-1 = record {
+    uncalled = uncalled;
+    unsound = unsound;
+    table = table;
     refused = refused;
     others = λ n t l d. others n t d;
     entries = λ n t i l m d. entries n t i m d;

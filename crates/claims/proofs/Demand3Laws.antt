@@ -53,6 +53,9 @@ module _ (g : Given) (L : Lent g) (qs : List Request) (v : World) (A : Agrees (U
         backs = λ i f d e. let z = frame-is (v .store) (backOf s i) (upTo g qs s .traces .back i) _ (a .backs i d) f e in (h .backIn i (z .0), z .1);
       }
 
+  sound : Sound (g .image) v
+  sound = agrees-sound g v (upTo g qs) A L
+
   frames-hold : Frames g qs v
   frames-hold =
       record {
@@ -60,11 +63,9 @@ module _ (g : Given) (L : Lent g) (qs : List Request) (v : World) (A : Agrees (U
         backs = λ s i f l d e. frame-is (v .store) (backOf s i) (upTo g qs s .traces .back i) _ (A .each s l .backs i d) f e .1;
         rest = λ f l n. A .tidy .clean tt f l
             (⊎-elim (λ z. z) (λ z. let k = A .tidy .filed .names .named f (omega (arith, L .few)) z in absurd (n (k .0) (k .1))) (held-or (v .store .marks) f));
+        unheld = λ f l z. A .tidy .clean tt f l z;
         counted = λ s l. held-counts g v (upTo g qs) A s;
       }
-
-  sound : Sound (g .image) v
-  sound = agrees-sound g v (upTo g qs) A L
 
   write-taken : (q : Request) (o : Outcome) → Stepped (g .image) v q o → q .code ≡ Write → q .sandbox < 4 → sandboxAt v (q .sandbox) .opened ≡ true
       → within (pagesIn (length (g .image))) q ≡ true → isMapped (slots (sandboxAt v (q .sandbox) .present) (pageOf q)) ≡ true
@@ -108,6 +109,7 @@ demand-3 g L =
       rewound = λ s qs as′ v l r w. as-snapshot g L qs v (list-agrees g L qs as′ v r) s l w;
       frames = λ qs as′ v r. frames-hold g L qs v (list-agrees g L qs as′ v r);
       promise = λ qs as′ v r. promised g L qs v (list-agrees g L qs as′ v r);
+      sound = λ qs as′ v r. sound g L qs v (list-agrees g L qs as′ v r);
       twoLists = λ s common own₁ own₂ later₁ later₂ snapshot rewind₁ rewind₂ as₁ as₂ v₁ v₂ r₁ r₂ taken back₁ back₂ same.
           let e₁ = demand-2 g L _ as₁ v₁ r₁ in
           let e₂ = demand-2 g L _ as₂ v₂ r₂ in

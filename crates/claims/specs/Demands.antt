@@ -1,21 +1,23 @@
 -- THE DEMANDS. Each statement stands under its sentence from the order or from document 01; proofs/Claims proves every one, of every image and pool
 -- that a start accepts, and of every list of requests.
 use mathlib.Core.Path.{_≡_}
-use mathlib.Core.Bool.{true}
+use mathlib.Core.Bool.{true, false}
 use mathlib.Core.List.{List, [], _∷_, _++_}
 use Prim.Native.Nat.{ℕ, suc, _+_, _*_, _≤_, _<_}
 use lib.ListN.{length, getD}
 use Rattle.interface.specs.declared.request.Request.{Request}
 use Rattle.interface.specs.Answers.{Answered}
-use Rattle.interface.specs.Requests.{_is_, Write, Snapshot, Rewind, pageOf}
+use Rattle.interface.specs.Requests.{_is_, Write, Snapshot, Rewind, isCall, pageOf}
 use Rattle.interface.specs.Slots.{isMapped, rightsAt, mappedPages, copied}
 use Rattle.interface.specs.Limits.{within}
+use Rattle.interface.specs.Refusals.{refusal}
 use Rattle.pages.specs.Parts.{frame, zeros, listed}
+use Rattle.frames.specs.Frames.{held}
 use Rattle.marks.specs.Named.{usedBelow}
 use Rattle.marks.specs.Marks.{from}
 use Rattle.table.specs.Store.{entry, frontOf, backOf, contents}
 use Rattle.areas.specs.Areas.{slots}
-use Rattle.state.specs.World.{World, sandboxAt, sharesOf, pagesIn, started, lengthsOk}
+use Rattle.state.specs.World.{World, sandboxAt, sharesOf, pagesIn, started, lengthsOk, viewAt}
 use Rattle.state.specs.Start.{startedBy}
 use Rattle.state.specs.Sound.{Sound}
 use Rattle.memory.specs.Memory.{pageRead, heldBy}
@@ -58,6 +60,12 @@ EveryListRuns g = (qs : List Request) → (as′ : List Answered) × ((v : World
 -- "answers document 01's refusal number and value 0 and changes nothing. Every other call .. touches only the memory named for it."
 -- (That each call ends, with the number and value of `step`, is the contract of `call` itself.)
 pub record Demand1 (image : List ℕ) (w : World) (q : Request) (o : Outcome) : Type 0 where
+  -- "call code not 1 to 9"
+  pub uncalled : isCall q ≡ false → o .answer .number ≡ 2
+  -- "lent length wrong, or state unsound". That four sandboxes stand in the row is what the type [Sandbox; 4] says of any state.
+  pub unsound : isCall q ≡ true → length (w .sandboxes) ≡ 4 → (Sound image w → ⊥) → o .answer .number ≡ 3
+  -- else the table: "When several apply, the lowest number is answered"
+  pub table : isCall q ≡ true → Sound image w → o .answer .number ≡ refusal (viewAt image w (q .sandbox)) q
   -- a refused call answers value 0 and leaves state, pool and table
   pub refused : (o .answer .number ≡ 0 → ⊥) → (o .answer .value ≡ 0) × (o .world ≡ w)
   -- an accepted call leaves the other sandboxes, their entries and what these hold
@@ -95,6 +103,8 @@ module _ (g : Given) (qs : List Request) (v : World) where
     pub fronts : (s i f : ℕ) → s < 4 → i < 64 → entry (v .store) (frontOf s i) ≡ suc f → frame 256 (v .store .pool) f ≡ listed 256 (upTo g qs s .core .pages .bytes i)
     pub backs : (s i f : ℕ) → s < 4 → i < 64 → entry (v .store) (backOf s i) ≡ suc f → frame 256 (v .store .pool) f ≡ listed 256 (copyBytes (upTo g qs s .core .copy) i)
     pub rest : (f : ℕ) → f < g .frames → ((k : ℕ) → entry (v .store) k ≡ suc f → ⊥) → frame 256 (v .store .pool) f ≡ zeros 256
+    -- "unheld frames are zero": by the held marks
+    pub unheld : (f : ℕ) → f < g .frames → held (v .store .marks) f ≡ 0 → frame 256 (v .store .pool) f ≡ zeros 256
     -- "A sandbox holds the frames that its front and back entries name; call 9 counts them."
     pub counted : (s : ℕ) → s < 4 → heldBy (v .store) s ≡ usedBelow (from (s * 128) (v .store .table)) 128
 
@@ -126,6 +136,8 @@ pub record Demand3 (g : Given) : Type 0 where
   pub rewound : (s : ℕ) (qs : List Request) (as′ : List Answered) (v : World) → s < 4 → RunFrom g qs as′ v → Rewound g s qs → AsSnapshot g qs v s
   pub frames : (qs : List Request) (as′ : List Answered) (v : World) → RunFrom g qs as′ v → Frames g qs v
   pub promise : (qs : List Request) (as′ : List Answered) (v : World) → RunFrom g qs as′ v → Promise g qs v
+  -- the state after every list is sound
+  pub sound : (qs : List Request) (as′ : List Answered) (v : World) → RunFrom g qs as′ v → Sound (g .image) v
   -- "two lists alike up to a sandbox's snapshot and alike in its calls after its rewind give it the same answers ever after (call 9's count apart), whatever anyone
   -- called in between or others call later". Whether the snapshot and the rewinds were accepted is read off the answers.
   pub twoLists :
