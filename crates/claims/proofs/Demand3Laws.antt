@@ -31,7 +31,7 @@ use Rattle.claims.proofs.ReadSteps.{page-read, frame-is, some-entry}
 use Rattle.claims.proofs.SoundLaws.{shares-same, agrees-sound}
 use Rattle.claims.proofs.StoreSteps.{write-page}
 use Rattle.claims.proofs.Simulate.{held-counts, backs-count, step-answer, step-agrees}
-use Rattle.claims.proofs.TakenLaws.{frame-found, taken-entry, taken-alone}
+use Rattle.claims.proofs.TakenLaws.{frame-found}
 use Rattle.claims.proofs.Runs.{list-agrees, demand-2}
 
 answer-number : (g : Given) (p : Plain) (q : Request) → answer g p q .number ≡ numberAt g p q
@@ -88,7 +88,6 @@ module _ (g : Given) (L : Lent g) (qs : List Request) (v : World) (A : Agrees (U
         pooled = rw (shares-same g v (upTo g qs) A) (A .holds .pooled);
         next = write-taken;
         found = frame-found (g .image) v sound;
-        alone = λ q o t e. (taken-entry (g .image) v sound q e o t, taken-alone (g .image) v sound q e o t);
       }
 
 -- ---- two lists

@@ -4,9 +4,11 @@ pub mod AreaSteps
 pub mod ReadSteps
 pub mod SoundLaws
 pub mod StoreSteps
-pub mod EntrySteps
+pub mod TouchSteps
 pub mod Simulate
 pub mod AnySound
+pub mod AcceptedLaws
+pub mod TouchesLaws
 pub mod Demand1Laws
 pub mod TakenLaws
 pub mod Runs

@@ -32,7 +32,7 @@ use Rattle.claims.proofs.AreaSteps.{image-at}
 -- ---- a page that was never written
 
 module _ (image : List ℕ) (whole : length image ≡ pagesIn (length image) * 256) where
-  backing-whole : (b : Backing) → ImagesExist (pagesIn (length image)) b 1 → length (backingPage image b) ≡ 256
+  pub backing-whole : (b : Backing) → ImagesExist (pagesIn (length image)) b 1 → length (backingPage image b) ≡ 256
   backing-whole Anonymous h = length-zeros 256
   backing-whole (Image page) h = length-frame 256 image (page .0) (omega arith)
 

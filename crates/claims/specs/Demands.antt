@@ -24,6 +24,7 @@ use Rattle.memory.specs.Memory.{pageRead, heldBy}
 use Rattle.machine.specs.Step.{takes, Free, Outcome, Stepped}
 use Rattle.plain.specs.Machine.{Given, fresh, copySlots, copyBytes, answers}
 use Rattle.plain.specs.Lists.{upTo, naming, toldLater, Rewound}
+use Rattle.claims.specs.Touches.{Touches}
 
 -- ---- lists of calls
 
@@ -70,9 +71,12 @@ pub record Demand1 (image : List ℕ) (w : World) (q : Request) (o : Outcome) : 
   pub refused : (o .answer .number ≡ 0 → ⊥) → (o .answer .value ≡ 0) × (o .world ≡ w)
   -- an accepted call leaves the other sandboxes, their entries and what these hold
   pub others : o .answer .number ≡ 0 → (s : ℕ) → s < 4 → (q .sandbox ≡ s → ⊥) → sandboxAt (o .world) s ≡ sandboxAt w s
-  pub entries : o .answer .number ≡ 0 → (s i : ℕ) → s < 4 → i < 128 → (q .sandbox ≡ s → ⊥) → entry (o .world .store) (s * 128 + i) ≡ entry (w .store) (s * 128 + i)
+  pub entries : o .answer .number ≡ 0 → (s i : ℕ) → s < 4 → i < 128 → (q .sandbox ≡ s → ⊥)
+      → entry (o .world .store) (s * 128 + i) ≡ entry (w .store) (s * 128 + i)
   pub contents : o .answer .number ≡ 0 → (s i : ℕ) → s < 4 → i < 128 → (q .sandbox ≡ s → ⊥)
       → contents 256 (o .world .store) (s * 128 + i) ≡ contents 256 (w .store) (s * 128 + i)
+  -- in its own sandbox too it changes the entries and frames that it names, and the frame that it takes, and nothing else: see Touches
+  pub touches : (t : Stepped image w q o) → o .answer .number ≡ 0 → Touches image w q o (t .frame)
   -- a sound state stays sound, whatever its unheld frames hold
   pub sound : Sound image w → Sound image (o .world)
 
@@ -100,8 +104,10 @@ module _ (g : Given) (qs : List Request) (v : World) where
   -- "After every list a front holds the 256 bytes that its page has in the plain machine, a back those that it has in the copy, and a frame that no entry names
   -- is zero."
   pub record Frames : Type 0 where
-    pub fronts : (s i f : ℕ) → s < 4 → i < 64 → entry (v .store) (frontOf s i) ≡ suc f → frame 256 (v .store .pool) f ≡ listed 256 (upTo g qs s .core .pages .bytes i)
-    pub backs : (s i f : ℕ) → s < 4 → i < 64 → entry (v .store) (backOf s i) ≡ suc f → frame 256 (v .store .pool) f ≡ listed 256 (copyBytes (upTo g qs s .core .copy) i)
+    pub fronts : (s i f : ℕ) → s < 4 → i < 64 → entry (v .store) (frontOf s i) ≡ suc f
+        → frame 256 (v .store .pool) f ≡ listed 256 (upTo g qs s .core .pages .bytes i)
+    pub backs : (s i f : ℕ) → s < 4 → i < 64 → entry (v .store) (backOf s i) ≡ suc f
+        → frame 256 (v .store .pool) f ≡ listed 256 (copyBytes (upTo g qs s .core .copy) i)
     pub rest : (f : ℕ) → f < g .frames → ((k : ℕ) → entry (v .store) k ≡ suc f → ⊥) → frame 256 (v .store .pool) f ≡ zeros 256
     -- "unheld frames are zero": by the held marks
     pub unheld : (f : ℕ) → f < g .frames → held (v .store .marks) f ≡ 0 → frame 256 (v .store .pool) f ≡ zeros 256
@@ -119,11 +125,8 @@ module _ (g : Given) (qs : List Request) (v : World) where
         → within (pagesIn (length (g .image))) q ≡ true → isMapped (slots (sandboxAt v (q .sandbox) .present) (pageOf q)) ≡ true
         → rightsAt (slots (sandboxAt v (q .sandbox) .present) (pageOf q)) ≡ 3
         → (o .answer .number ≡ 0) × ((f : ℕ) × (entry (o .world .store) (frontOf (q .sandbox) (pageOf q)) ≡ suc f))
-    -- a write that takes a frame finds one, and its page's front entry alone names it afterwards
+    -- a write that takes a frame finds one (that its page's front entry alone names it afterwards is `alone` in Touches)
     pub found : (q : Request) → takes (g .image) v q ≡ true → (f : ℕ) × Free v f
-    pub alone : (q : Request) (o : Outcome) (t : Stepped (g .image) v q o) → takes (g .image) v q ≡ true
-        → (entry (o .world .store) (frontOf (q .sandbox) (pageOf q)) ≡ suc (t .frame))
-        × ((k : ℕ) → entry (o .world .store) k ≡ suc (t .frame) → k ≡ frontOf (q .sandbox) (pageOf q))
 
 -- q is this call of sandbox s, and the answer at its place in the list says that it was accepted
 pub record Took (s call : ℕ) (q : Request) (as′ : List Answered) (place : ℕ) : Type 0 where
@@ -138,8 +141,8 @@ pub record Demand3 (g : Given) : Type 0 where
   pub promise : (qs : List Request) (as′ : List Answered) (v : World) → RunFrom g qs as′ v → Promise g qs v
   -- the state after every list is sound
   pub sound : (qs : List Request) (as′ : List Answered) (v : World) → RunFrom g qs as′ v → Sound (g .image) v
-  -- "two lists alike up to a sandbox's snapshot and alike in its calls after its rewind give it the same answers ever after (call 9's count apart), whatever anyone
-  -- called in between or others call later". Whether the snapshot and the rewinds were accepted is read off the answers.
+  -- "two lists alike up to a sandbox's snapshot and alike in its calls after its rewind give it the same answers ever after (call 9's count apart),
+  -- whatever anyone called in between or others call later". Whether the snapshot and the rewinds were accepted is read off the answers.
   pub twoLists :
       (s : ℕ) (common own₁ own₂ later₁ later₂ : List Request) (snapshot rewind₁ rewind₂ : Request) (as₁ as₂ : List Answered) (v₁ v₂ : World)
       → let before₁ = common ++ snapshot ∷ own₁ ++ rewind₁ ∷ [] in

@@ -7,8 +7,10 @@ use native.Mathlib.Nat.{suc-mul, mul-le-mul-right, le-trans, le-of-eq, not-suc-l
 use native.Mathlib.Omega.{arith}
 use native.Mathlib.Numerals.{add-one}
 use lib.Dec.{eqb, ltb}
-use lib.ListN.{length, take, drop, getD, set, replicate, length-append, length-take, length-drop, length-replicate, take-append-drop, drop-of-length-le}
-use lib.Seq.{length-take-le, take-append-le, drop-append-le, drop-append-add, take-at, drop-at, drop-drop, take-all, getD-take, getD-drop, ext-getD}
+use lib.ListN.{length, take, drop, getD, set, replicate}
+use lib.ListN.{length-append, length-take, length-drop, length-replicate, length-set, take-append-drop, drop-of-length-le}
+use lib.Seq.{length-take-le, take-append-le, drop-append-le, drop-append-add, set-append-left, take-at, drop-at}
+use lib.Seq.{drop-drop, take-all, getD-take, getD-drop, ext-getD}
 use borrow.Author.Tests.{ltb-true, ltb-false, eqb-true, eqb-false}
 use Rattle.basics.specs.Choice.{_when_else_}
 use Rattle.basics.proofs.TestLaws.{by-cases}
@@ -95,6 +97,23 @@ unfolding setPart
 came-back xs ys at e h =
     ap (λ (r : List ℕ). take at xs ++ (ys ++ r)) (drop-drop (e - at) at xs ∙ ap (λ (k : ℕ). drop (at + k) xs) (sym h))
 
+-- one element of a part set is that element of the list
+pub part-set : (xs : List ℕ) (at n o b : ℕ) → o < n → at + n ≤ length xs → setPart xs at (set (partAt xs at n) o b) ≡ set xs (at + o) b
+unfolding setPart partAt
+part-set [] at n o b l h = absurd (omega arith)
+part-set (x ∷ xs) zero n o b l h =
+    let whole : length (take n (x ∷ xs)) ≡ n = length-take-le n (x ∷ xs) (omega arith) in
+    let rest : 0 + length (set (take n (x ∷ xs)) o b) ≡ n = omega (arith, length-set (take n (x ∷ xs)) o b) in
+    let place : o ≡ 0 + o = omega arith in
+    ap (λ (m : ℕ). set (take n (x ∷ xs)) o b ++ drop m (x ∷ xs)) rest
+    ∙ sym (set-append-left (take n (x ∷ xs)) (drop n (x ∷ xs)) o b (omega arith))
+    ∙ ap₂ (λ (r : List ℕ) (m : ℕ). set r m b) (take-append-drop n (x ∷ xs)) place
+part-set (x ∷ xs) (suc at) n o b l h =
+    let ys : List ℕ = set (take n (drop at xs)) o b in
+    let next : (m : ℕ) → suc at + m ≡ suc (at + m) = λ m. omega arith in
+    ap (λ (m : ℕ). x ∷ (take at xs ++ (ys ++ drop m (x ∷ xs)))) (next (length ys))
+    ∙ ap (λ (r : List ℕ). x ∷ r) (part-set xs at n o b l (omega arith)) ∙ ap (λ (m : ℕ). set (x ∷ xs) m b) (sym (next o))
+
 -- ---- a frame of a pool
 
 -- a frame below another ends before it
@@ -147,6 +166,12 @@ module _ (size : ℕ) (xs : List ℕ) (f : ℕ) (ys : List ℕ) (whole : length 
   pub frame-set : (g : ℕ) → frame size (setFrame size xs f ys) g ≡ (ys when eqb g f else frame size xs g)
   frame-set g =
       by-cases (eqb g f) (λ e. rw (e, eqb-true g f e) frame-same) (λ e. rw e (frame-other g (eqb-false g f e)))
+
+-- a frame with one byte set is the pool with one byte set
+pub byte-set : (size : ℕ) (xs : List ℕ) (f o b : ℕ) → o < size → f * size + size ≤ length xs
+    → setFrame size xs f (set (frame size xs f) o b) ≡ set xs (f * size + o) b
+unfolding frame setFrame
+byte-set size xs f o b l h = part-set xs (f * size) size o b l h
 
 -- two pools of n frames are equal where each frame is
 pub pool-ext : (size n : ℕ) (xs ys : List ℕ) → 0 < size → length xs ≡ n * size → length ys ≡ n * size

@@ -191,7 +191,7 @@ fill-none size k ys s e = rw (eq-eqb (entry s k) 0 e)
 
 module _ {C : Type 0} (size n : ℕ) (s : Store) (t : Tidy C size n s) (k : ℕ) (ys : List ℕ) (whole : (f : ℕ) → entry s k ≡ suc f → length ys ≡ size) where
   -- a page with the mark and the entry that it has already
-  fill-some : (f : ℕ) → entry s k ≡ suc f → fill size k ys s ≡ put size s k (suc f) f 1 ys
+  pub fill-some : (f : ℕ) → entry s k ≡ suc f → fill size k ys s ≡ put size s k (suc f) f 1 ys
   unfolding fill put
   fill-some f e =
       let m : entry s k - 1 ≡ f = omega arith in

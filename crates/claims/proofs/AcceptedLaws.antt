@@ -1,0 +1,91 @@
+-- An accepted call, of a world of any shape: what the test says of the world, and the store that is left.
+use mathlib.Core.Path.{_≡_, refl, sym, _∙_}
+use mathlib.Core.Bool.{true}
+use mathlib.Core.List.{List}
+use Prim.Native.Nat.{ℕ, _<_}
+use native.Mathlib.Omega.{arith}
+use lib.ListN.{length}
+use Rattle.basics.proofs.TestLaws.{and-both}
+use Rattle.interface.specs.declared.request.Request.{Request}
+use Rattle.interface.specs.Accepted.{Accepted}
+use Rattle.interface.proofs.KindLaws.{kind}
+use Rattle.marks.specs.Marks.{marksb}
+use Rattle.marks.proofs.MarkLaws.{words, marksb-named}
+use Rattle.table.specs.Store.{Filed, Tidy}
+use Rattle.state.specs.declared.sandbox.Sandbox.{Sandbox}
+use Rattle.state.specs.World.{World, sandboxAt, framesOf, pagesIn, sharesOf, viewAt, lengthsOk}
+use Rattle.state.specs.Sound.{SoundAt}
+use Rattle.state.specs.Test.{sandboxesOk, soundb}
+use Rattle.state.proofs.TestLaws.{lengths-true, sandboxes-true}
+use Rattle.memory.specs.Memory.{storeAfter}
+use Rattle.machine.specs.Step.{worldAfter, numberAt, Outcome, Stepped}
+use Rattle.plain.specs.Machine.{Given, Kept, keptAfter, viewOf}
+use Rattle.claims.specs.Demands.{Lent}
+use Rattle.claims.proofs.StepLaws.{was-sound, was-accepted, number-is, accepted-leaves, frame-free}
+use Rattle.claims.proofs.StoreSteps.{Stored, stored-after}
+use Rattle.claims.proofs.Simulate.{view-at}
+use Rattle.claims.proofs.AnySound.{keptFor, kept-keeps, kept-reads, kept-agrees}
+
+-- ---- what the test says
+
+pub record Tested (image : List ℕ) (w : World) : Type 0 where
+  pub lent : Lent (record { image = image; frames = framesOf w })
+  pub filed : Filed 256 (framesOf w) (w .store)
+  pub each : (s : ℕ) → s < 4 → SoundAt (pagesIn (length image)) (w .store) s (sandboxAt w s)
+
+tested : (image : List ℕ) (w : World) → soundb image w ≡ true → Tested image w
+unfolding soundb
+tested image w h =
+    let lengths = and-both (lengthsOk (length (w .store .pool)) (length (w .store .table)) (length image)) _ h in
+    let marks = and-both (marksb (framesOf w) (w .store .marks) (w .store .table)) _ (lengths .1) in
+    let sandboxes = and-both (sandboxesOk (pagesIn (length image)) w) _ (marks .1) in
+    let L = lengths-true (length (w .store .pool)) (length (w .store .table)) (length image) (lengths .0) in
+    let two = words (framesOf w) (w .store .marks) (w .store .table) (L .few) (marks .0) in
+    record {
+      lent = record { frames = L .some; few = L .few; image = L .whole; images = L .images };
+      filed = record {
+        few = L .few;
+        pages = L .pages;
+        entries = L .entries;
+        names = marksb-named (framesOf w) (w .store .marks) (w .store .table) (L .few) (L .entries) (marks .0);
+        low = two .0;
+        high = two .1;
+      };
+      each = sandboxes-true (pagesIn (length image)) w (sandboxes .0);
+    }
+
+-- ---- an accepted call
+
+module _ (image : List ℕ) (w : World) (q : Request) (o : Outcome) (s : Stepped image w q o) (n : o .answer .number ≡ 0) where
+  pub number : numberAt image w q ≡ 0
+  number = sym (number-is image w q o s) ∙ n
+
+  pub left : o .world ≡ worldAfter image (s .frame) w q
+  left = accepted-leaves image w q o s number
+
+  pub met : Accepted (viewAt image w (q .sandbox)) q
+  met = was-accepted image w q number
+
+  pub sound-parts : Tested image w
+  sound-parts = tested image w (was-sound image w q number)
+
+  pub own : SoundAt (pagesIn (length image)) (w .store) (q .sandbox) (sandboxAt w (q .sandbox))
+  own = sound-parts .each (q .sandbox) (omega (arith, met .inRow))
+
+  abbrev given : Given
+  given = record { image = image; frames = framesOf w }
+
+  abbrev b : Sandbox
+  b = sandboxAt w (q .sandbox)
+
+  -- the store that is left, beside what a plain machine made from the world would keep
+  pub stored : Stored ⊥ given (w .store) (storeAfter image (s .frame) q b (w .store)) (q .sandbox) (keptAfter given q (keptFor image (w .store) (q .sandbox) b))
+  stored =
+      let T = sound-parts in
+      let k : Kept = keptFor image (w .store) (q .sandbox) b in
+      let A = kept-agrees given (w .store) (T .filed) (q .sandbox) b own in
+      let tidy : Tidy ⊥ 256 (framesOf w) (w .store) = record { filed = T .filed; clean = λ c. absurd c } in
+      let a : Accepted (viewOf given (sharesOf w) (k .core)) q = rw (view-at given w (sharesOf w) (q .sandbox) k refl refl A) at met in
+      stored-after given (T .lent) q (w .store) tidy b k (met .inRow)
+      (kept-keeps given (w .store) (T .filed) (q .sandbox) b own) (kept-reads given (w .store) (T .filed) (q .sandbox) b own) A
+      (sharesOf w) a (s .frame) (kind q) (frame-free image w q o s number)

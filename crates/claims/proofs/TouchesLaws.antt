@@ -1,0 +1,166 @@
+-- What an accepted call touches: the fields of `Touches`, and that the entries of other sandboxes are none of those named.
+use mathlib.Core.Path.{_≡_, sym, ap, _∙_}
+use mathlib.Core.Bool.{true, false}
+use mathlib.Core.List.{List}
+use Prim.Native.Nat.{ℕ, suc, _+_, _*_, _<_}
+use native.Mathlib.Omega.{arith}
+use lib.ListN.{length, set}
+use lib.Seq.{set-getD, getD-set-same}
+use borrow.Author.Tests.{eqb-true}
+use Rattle.basics.proofs.TestLaws.{by-cases}
+use Rattle.interface.specs.declared.request.Request.{Request}
+use Rattle.interface.specs.Requests.{_is_, Open, Read, Write, Snapshot, Rewind, Report, pageOf, offsetOf}
+use Rattle.interface.specs.Limits.{within}
+use Rattle.interface.proofs.KindLaws.{kind}
+use Rattle.frames.specs.Frames.{held, mark}
+use Rattle.pages.specs.Parts.{frame, setFrame}
+use Rattle.table.specs.Store.{Store, kept, entry, frontOf, backOf, Filed}
+use Rattle.table.proofs.LeftLaws.{Left}
+use Rattle.state.specs.declared.sandbox.Sandbox.{Sandbox}
+use Rattle.state.specs.World.{World, sandboxAt, closedSandbox, framesOf, pagesIn}
+use Rattle.rules.specs.After.{changes, packedAfter, takenAfter, snapshotAfter, sandboxAfter}
+use Rattle.memory.specs.Memory.{pageRead, storeAfter}
+use Rattle.machine.specs.Step.{takes, Outcome, Stepped}
+use Rattle.claims.specs.Touches.{namesFront, namesBack, leavesSandboxes, Untouched, Touches}
+use Rattle.claims.proofs.StepLaws.{taking, frame-free}
+use Rattle.claims.proofs.StoreSteps.{write-page}
+use Rattle.claims.proofs.TouchSteps.{no-back, back-low, front-low, none-after, pool-after, entries-after, Meets, one-byte, filled, left-after}
+use Rattle.claims.proofs.AcceptedLaws.{number, left, met, sound-parts, own, stored}
+
+-- a request that neither opens, packs areas, snapshots nor rewinds leaves an open sandbox
+sandbox-same : (q : Request) (b : Sandbox) → (q is Open) ≡ false → changes q ≡ false → (q is Snapshot) ≡ false → (q is Rewind) ≡ false
+    → b .opened ≡ true → sandboxAfter q b ≡ b
+unfolding packedAfter takenAfter snapshotAfter
+sandbox-same q b x₁ x₂ x₃ x₄ o =
+    rw (x₂, x₁, x₃, x₄) (λ i. record { opened = sym o i; share = b .share; present = b .present; taken = b .taken; snapshot = b .snapshot })
+
+module _ (image : List ℕ) (w : World) (q : Request) (o : Outcome) (s : Stepped image w q o) (n : o .answer .number ≡ 0) where
+  abbrev b : Sandbox
+  b = sandboxAt w (q .sandbox)
+
+  abbrev after : Store
+  after = storeAfter image (s .frame) q b (w .store)
+
+  -- the front entry of a written page
+  abbrev place : ℕ
+  place = frontOf (q .sandbox) (pageOf q)
+
+  store-is : o .world .store ≡ after
+  store-is = ap (λ (x : World). x .store) (left image w q o s n)
+
+  limits : within (pagesIn (length image)) q ≡ true
+  limits = met image w q o s n .inLimits
+
+  filed : Filed 256 (framesOf w) (w .store)
+  filed = sound-parts image w q o s n .filed
+
+  filed-after : Filed 256 (framesOf w) after
+  filed-after = stored image w q o s n .tidy .filed
+
+  meets : Meets image (s .frame) q b (framesOf w) (w .store)
+  meets = record {
+    filed = filed;
+    whole = sound-parts image w q o s n .lent .image;
+    present = own image w q o s n .present;
+    snapshot = own image w q o s n .snapshot;
+    row = met image w q o s n .inRow;
+    limits = limits;
+    free = frame-free image w q o s (number image w q o s n);
+  }
+
+  -- ---- state
+
+  unchanged : (q is Open) ≡ false → changes q ≡ false → (q is Snapshot) ≡ false → (q is Rewind) ≡ false → o .world .sandboxes ≡ w .sandboxes
+  unchanged x₁ x₂ x₃ x₄ =
+      ap (λ (x : World). x .sandboxes) (left image w q o s n)
+      ∙ ap (set (w .sandboxes) (q .sandbox)) (sandbox-same q b x₁ x₂ x₃ x₄ (met image w q o s n .opened x₁))
+      ∙ set-getD (w .sandboxes) (q .sandbox) closedSandbox
+
+  state : leavesSandboxes q ≡ true → o .world .sandboxes ≡ w .sandboxes
+  state h =
+      by-cases (q is Read) (λ e. let c = eqb-true (q .code) Read e in unchanged (rw c) (rw c) (rw c) (rw c)) λ x.
+      by-cases (q is Write) (λ e. let c = eqb-true (q .code) Write e in unchanged (rw c) (rw c) (rw c) (rw c)) λ y.
+      let c = eqb-true (q .code) Report (rw (x, y) at h) in unchanged (rw c) (rw c) (rw c) (rw c)
+
+  -- ---- entries
+
+  low : (i : ℕ) → namesFront q i ≡ true → i < 64
+  low = front-low q (pagesIn (length image)) limits (kind q)
+
+  entries : (k : ℕ) → ((i : ℕ) → namesFront q i ≡ true → k ≡ frontOf (q .sandbox) i → ⊥) → ((i : ℕ) → namesBack q i ≡ true → k ≡ backOf (q .sandbox) i → ⊥)
+      → entry (o .world .store) k ≡ entry (w .store) k
+  entries k front back = rw store-is (entries-after image (s .frame) q b (w .store) k front back (kind q))
+
+  -- those of another sandbox
+  pub entries-other : (t x : ℕ) → x < 128 → (q .sandbox ≡ t → ⊥) → entry (o .world .store) (t * 128 + x) ≡ entry (w .store) (t * 128 + x)
+  entries-other t x l d =
+      entries (t * 128 + x) (λ i h e. let m = low i h in d (omega arith)) (λ i h e. let m = back-low q i h in d (omega arith))
+
+  entries-back : (q is Snapshot) ≡ false → (t i : ℕ) → i < 64 → entry (o .world .store) (backOf t i) ≡ entry (w .store) (backOf t i)
+  entries-back h t i l = entries (backOf t i) (λ j g e. let m = low j g in omega arith) (λ j g e. no-back q h j g)
+
+  -- ---- frames
+
+  stays : (f : ℕ) → Untouched image w q (s .frame) f → Left 256 f (w .store) after
+  unfolding takes
+  stays f u =
+      left-after image (s .frame) q b (framesOf w) (w .store) meets f (u .unnamed) (λ e z. u .untaken (rw (number image w q o s n, e, z))) (kind q)
+
+  bytes : (f : ℕ) → Untouched image w q (s .frame) f → frame 256 (o .world .store .pool) f ≡ frame 256 (w .store .pool) f
+  bytes f u = rw store-is (stays f u .bytes)
+
+  marks : (f : ℕ) → Untouched image w q (s .frame) f → held (o .world .store .marks) f ≡ held (w .store .marks) f
+  marks f u = rw store-is (stays f u .marked)
+
+  -- unheld frames
+  unheld-stays : (f : ℕ) → held (w .store .marks) f ≡ 0 → (takes image w q ≡ true → f ≡ s .frame → ⊥) → Untouched image w q (s .frame) f
+  unheld-stays f z u = record { unnamed = λ j h e. let one = filed .names .marked (frontOf (q .sandbox) j) f e in omega arith; untaken = u }
+
+  -- the frames of backs: no front names them, and they are held
+  back-stays : (t i f : ℕ) → i < 64 → entry (w .store) (backOf t i) ≡ suc f → Untouched image w q (s .frame) f
+  back-stays t i f l e =
+      record {
+        unnamed = λ j h z. let same : frontOf (q .sandbox) j ≡ backOf t i = filed .names .once _ _ f z e in let m = low j h in omega arith;
+        untaken = λ h z. let one : held (w .store .marks) (s .frame) ≡ 1 = ap (held (w .store .marks)) (sym z) ∙ filed .names .marked (backOf t i) f e in
+            omega (arith, one, s .free h .unheld);
+      }
+
+  -- ---- a write that takes a frame
+
+  module _ (t : takes image w q ≡ true) where
+    filled-after : after
+        ≡ kept (mark (w .store .marks) (s .frame) 1)
+        (set (setFrame 256 (w .store .pool) (s .frame) (pageRead image (w .store) b (q .sandbox) (pageOf q))) (s .frame * 256 + offsetOf q) (q .p2))
+        (set (w .store .table) place (suc (s .frame)))
+    filled-after =
+        let this = taking image w q t in
+        filled image (s .frame) q b (framesOf w) (w .store) meets (this .writes) (eqb-true (entry (w .store) place) 0 (this .bare))
+
+    taken-entry : entry after place ≡ suc (s .frame)
+    taken-entry =
+        ap (λ (x : Store). entry x place) filled-after
+        ∙ getD-set-same (w .store .table) place (suc (s .frame)) 0
+        (omega (arith, write-page _ q (taking image w q t .writes) limits, met image w q o s n .inRow, filed .entries))
+
+    taken-alone : (k : ℕ) → entry after k ≡ suc (s .frame) → k ≡ place
+    taken-alone k e = filed-after .names .once k place (s .frame) e taken-entry
+
+  pub touches : Touches image w q o (s .frame)
+  touches =
+      record {
+        none = λ h. store-is ∙ none-after image (s .frame) q b (w .store) (kind q) h;
+        state = state;
+        snapshot = λ e. rw store-is (pool-after image (s .frame) q b (w .store) e);
+        poolLength = rw store-is (filed-after .pages ∙ sym (filed .pages));
+        tableLength = rw store-is (filed-after .entries ∙ sym (filed .entries));
+        entries = entries;
+        backEntries = λ h t i l. entries-back h t i;
+        bytes = bytes;
+        marks = marks;
+        backs = λ t i f l m e. bytes f (back-stays t i f m e);
+        unheld = λ f z u. bytes f (unheld-stays f z u);
+        oneByte = λ f e z. store-is ∙ one-byte image (s .frame) q b (framesOf w) (w .store) meets e f z;
+        filled = λ t. store-is ∙ filled-after t;
+        free = s .free;
+        alone = λ t. rw store-is (taken-entry t, taken-alone t);
+      }
