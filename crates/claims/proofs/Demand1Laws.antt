@@ -3,11 +3,11 @@ use mathlib.Core.Path.{_≡_, sym, _∙_}
 use mathlib.Core.Bool.{true, false}
 use mathlib.Core.List.{List}
 use Prim.Native.Nat.{ℕ, _*_, _+_, _<_}
-use lib.Dec.{eqb}
+use lib.Dec.{eqb, leb}
 use lib.ListN.{length}
 use lib.Seq.{getD-set-other}
-use borrow.Author.Tests.{eqb-true}
-use Rattle.basics.proofs.TestLaws.{by-cases}
+use borrow.Author.Tests.{eqb-true, leb-true, le-leb}
+use Rattle.basics.proofs.TestLaws.{by-cases, and-both, and-of}
 use Rattle.interface.specs.declared.request.Request.{Request}
 use Rattle.interface.specs.Requests.{isCall}
 use Rattle.interface.specs.Refusals.{refusal}
@@ -19,7 +19,7 @@ use Rattle.state.proofs.TestLaws.{sound-of}
 use Rattle.rules.specs.After.{sandboxAfter}
 use Rattle.machine.specs.Step.{numberAt, Outcome, Stepped}
 use Rattle.machine.proofs.CallLaws.{sound-of-test, number-two, number-three, number-rest}
-use Rattle.claims.specs.Demands.{Demand1}
+use Rattle.claims.specs.Demands.{Coded, Demand1}
 use Rattle.claims.proofs.StepLaws.{number-is, refused-leaves}
 use Rattle.claims.proofs.AnySound.{stays-sound}
 use Rattle.claims.proofs.AcceptedLaws.{left, stored}
@@ -37,16 +37,24 @@ module _ (image : List ℕ) (w : World) (q : Request) (o : Outcome) (s : Stepped
       → contents 256 (o .world .store) (t * 128 + i) ≡ contents 256 (w .store) (t * 128 + i)
   pages n t i l d = rw (left image w q o s n) (stored image w q o s n .others t i d l)
 
-  uncalled : isCall q ≡ false → o .answer .number ≡ 2
-  uncalled c = number-is image w q o s ∙ sym (number-two image w q c)
+  is-call : Coded q → isCall q ≡ true
+  is-call c = and-of (le-leb 1 (q .code) (c .0)) (le-leb (q .code) 9 (c .1))
 
-  unsound : isCall q ≡ true → length (w .sandboxes) ≡ 4 → (Sound image w → ⊥) → o .answer .number ≡ 3
+  uncalled : (Coded q → ⊥) → o .answer .number ≡ 2
+  uncalled c =
+      number-is image w q o s
+      ∙ by-cases (isCall q)
+      (λ e. let both = and-both (leb 1 (q .code)) (leb (q .code) 9) e in
+      absurd (c (leb-true 1 (q .code) (both .0), leb-true (q .code) 9 (both .1))))
+      (λ e. sym (number-two image w q e))
+
+  unsound : Coded q → length (w .sandboxes) ≡ 4 → (Sound image w → ⊥) → o .answer .number ≡ 3
   unsound c four n =
       number-is image w q o s
-      ∙ by-cases (soundb image w) (λ e. absurd (n (sound-of-test image w four e))) (λ e. sym (number-three image w q c e))
+      ∙ by-cases (soundb image w) (λ e. absurd (n (sound-of-test image w four e))) (λ e. sym (number-three image w q (is-call c) e))
 
-  table : isCall q ≡ true → Sound image w → o .answer .number ≡ refusal (viewAt image w (q .sandbox)) q
-  table c S = number-is image w q o s ∙ sym (number-rest image w q c (sound-of image w S))
+  table : Coded q → Sound image w → o .answer .number ≡ refusal (viewAt image w (q .sandbox)) q
+  table c S = number-is image w q o s ∙ sym (number-rest image w q (is-call c) (sound-of image w S))
 
   pub demand-1 : Demand1 image w q o
   demand-1 = record {

@@ -7,7 +7,7 @@ use Prim.Native.Nat.{ℕ, suc, _+_, _*_, _≤_, _<_}
 use lib.ListN.{length, getD}
 use Rattle.interface.specs.declared.request.Request.{Request}
 use Rattle.interface.specs.Answers.{Answered}
-use Rattle.interface.specs.Requests.{_is_, Write, Snapshot, Rewind, isCall, pageOf}
+use Rattle.interface.specs.Requests.{_is_, Write, Snapshot, Rewind, pageOf}
 use Rattle.interface.specs.Slots.{isMapped, rightsAt, mappedPages, copied}
 use Rattle.interface.specs.Limits.{within}
 use Rattle.interface.specs.Refusals.{refusal}
@@ -58,15 +58,19 @@ EveryListRuns g = (qs : List Request) → (as′ : List Answered) × ((v : World
 
 -- ---- demand 1
 
+-- the code is that of one of the nine calls
+abbrev pub Coded : Request → Type 0
+Coded q = (1 ≤ q .code) × (q .code ≤ 9)
+
 -- "answers document 01's refusal number and value 0 and changes nothing. Every other call .. touches only the memory named for it."
 -- (That each call ends, with the number and value of `step`, is the contract of `call` itself.)
 pub record Demand1 (image : List ℕ) (w : World) (q : Request) (o : Outcome) : Type 0 where
   -- "call code not 1 to 9"
-  pub uncalled : isCall q ≡ false → o .answer .number ≡ 2
+  pub uncalled : (Coded q → ⊥) → o .answer .number ≡ 2
   -- "lent length wrong, or state unsound". That four sandboxes stand in the row is what the type [Sandbox; 4] says of any state.
-  pub unsound : isCall q ≡ true → length (w .sandboxes) ≡ 4 → (Sound image w → ⊥) → o .answer .number ≡ 3
+  pub unsound : Coded q → length (w .sandboxes) ≡ 4 → (Sound image w → ⊥) → o .answer .number ≡ 3
   -- else the table: "When several apply, the lowest number is answered"
-  pub table : isCall q ≡ true → Sound image w → o .answer .number ≡ refusal (viewAt image w (q .sandbox)) q
+  pub table : Coded q → Sound image w → o .answer .number ≡ refusal (viewAt image w (q .sandbox)) q
   -- a refused call answers value 0 and leaves state, pool and table
   pub refused : (o .answer .number ≡ 0 → ⊥) → (o .answer .value ≡ 0) × (o .world ≡ w)
   -- an accepted call leaves the other sandboxes, their entries and what these hold
