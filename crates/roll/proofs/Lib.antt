@@ -1,2 +1,3 @@
 pub mod SmallLaws
 pub mod PlayLaws
+pub mod JoinLaws

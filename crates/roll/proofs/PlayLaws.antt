@@ -15,30 +15,30 @@ use Rattle.lines.specs.Lines.{lineAt}
 use Rattle.lines.specs.Prints.{printedReply}
 use Rattle.lines.proofs.PrintLaws.{length-reply}
 use Rattle.state.specs.World.{World}
-use Rattle.machine.specs.Step.{Outcome, Stepped}
+use Rattle.machine.specs.Step.{Outcome}
 use Rattle.claims.specs.Demands.{Run, none, more}
-use Rattle.roll.specs.Play.{malformed, linesIn, requests, replies, printed, Turned, Played}
+use Rattle.roll.specs.Play.{malformed, linesIn, requests, replies, printed, FitsLine, Fits, Turned, Played}
 
 -- ---- runs
 
-run-snoc : {image : List ℕ} {w v : World} {qs : List Request} {as′ : List Answered} {q : Request} {o : Outcome}
-    → Run image w qs as′ v → Stepped image v q o → Run image w (qs ++ (q ∷ [])) (as′ ++ (o .answer ∷ [])) (o .world)
-run-snoc none s = more s none
-run-snoc (more t r) s = more t (run-snoc r s)
+pub run-append : {image : List ℕ} {w v u : World} {qs rs : List Request} {as′ bs : List Answered}
+    → Run image w qs as′ v → Run image v rs bs u → Run image w (qs ++ rs) (as′ ++ bs) u
+run-append none r = r
+run-append (more s t) r = more s (run-append t r)
 
-run-length : {image : List ℕ} {w v : World} {qs : List Request} {as′ : List Answered} → Run image w qs as′ v → length qs ≡ length as′
+pub run-length : {image : List ℕ} {w v : World} {qs : List Request} {as′ : List Answered} → Run image w qs as′ v → length qs ≡ length as′
 run-length none = refl
 run-length (more s r) = ap suc (run-length r)
 
 -- ---- lines
 
-requests-append : (ls ms : List Line) → requests (ls ++ ms) ≡ requests ls ++ requests ms
+pub requests-append : (ls ms : List Line) → requests (ls ++ ms) ≡ requests ls ++ requests ms
 unfolding requests
 requests-append [] ms = refl
 requests-append (Call q ∷ ls) ms = ap (λ l. q ∷ l) (requests-append ls ms)
 requests-append (Malformed ∷ ls) ms = requests-append ls ms
 
-replies-append : (ls ms : List Line) (as′ bs : List Answered) → length (requests ls) ≡ length as′ → replies (ls ++ ms) (as′ ++ bs) ≡ replies ls as′ ++ replies ms bs
+pub replies-append : (ls ms : List Line) (as′ bs : List Answered) → length (requests ls) ≡ length as′ → replies (ls ++ ms) (as′ ++ bs) ≡ replies ls as′ ++ replies ms bs
 unfolding requests replies
 replies-append [] ms [] bs e = refl
 replies-append [] ms (a ∷ as′) bs e = absurd (omega (arith, e))
@@ -60,20 +60,26 @@ lines-length roll (suc n) = length-append (linesIn roll n) (lineAt roll n ∷ []
 
 -- ---- prints
 
-printed-snoc : (first : ℕ) (bs : List Answered) (a : Answered) → printed first (bs ++ (a ∷ [])) ≡ printed first bs ++ printedReply (first + length bs) (a .number) (a .value)
+pub printed-append : (first : ℕ) (as′ bs : List Answered) → printed first (as′ ++ bs) ≡ printed first as′ ++ printed (first + length as′) bs
 unfolding printed
-printed-snoc first [] a = append-nil (printedReply first (a .number) (a .value)) ∙ ap (λ n. printedReply n (a .number) (a .value)) (sym (add-zero first))
-printed-snoc first (b ∷ bs) a =
-    let next : first + 1 + length bs ≡ first + suc (length bs) = omega arith in
-    ap (λ l. printedReply first (b .number) (b .value) ++ l) (printed-snoc (first + 1) bs a)
-    ∙ sym (append-assoc (printedReply first (b .number) (b .value)) (printed (first + 1) bs) (printedReply (first + 1 + length bs) (a .number) (a .value)))
-    ∙ ap (λ n. (printedReply first (b .number) (b .value) ++ printed (first + 1) bs) ++ printedReply n (a .number) (a .value)) next
+printed-append first [] bs = rw add-zero refl
+printed-append first (a ∷ as′) bs =
+    let next : first + 1 + length as′ ≡ first + suc (length as′) = omega arith in
+    ap (λ l. printedReply first (a .number) (a .value) ++ l) (printed-append (first + 1) as′ bs ∙ ap (λ k. printed (first + 1) as′ ++ printed k bs) next)
+    ∙ sym (append-assoc (printedReply first (a .number) (a .value)) (printed (first + 1) as′) (printed (first + suc (length as′)) bs))
 
 printed-length : (first : ℕ) (bs : List Answered) → length (printed first bs) ≡ length bs * 19
 unfolding printed
 printed-length first [] = refl
 printed-length first (b ∷ bs) =
     length-append (printedReply first (b .number) (b .value)) (printed (first + 1) bs) ∙ omega (arith, length-reply first (b .number) (b .value), printed-length (first + 1) bs)
+
+pub fits-append : (first : ℕ) (as′ bs : List Answered) → Fits first as′ → Fits (first + length as′) bs → Fits first (as′ ++ bs)
+unfolding Fits
+fits-append first [] bs f g = rw add-zero at g
+fits-append first (a ∷ as′) bs f g =
+    let next : first + suc (length as′) ≡ first + 1 + length as′ = omega arith in
+    (f .0, fits-append (first + 1) as′ bs (f .1) (rw (← next) g))
 
 -- 19 bytes behind those that are printed
 put-part : (front d ys : List ℕ) (at e : ℕ) → length front ≡ at → e ≡ at + 19 → length ys ≡ 19
@@ -91,12 +97,13 @@ part-length xs ys at e g l h =
 -- ---- played
 
 pub played-none : (image roll out : List ℕ) (w : World) (first : ℕ) → Played image w roll 0 first out out w
-unfolding linesIn requests replies printed
-played-none image roll out w first = record { answers = []; run = none; prints = refl }
+unfolding linesIn requests replies printed Fits
+played-none image roll out w first = record { answers = []; run = none; fits = tt; prints = refl }
 
 -- one line more, of which the bytes stand behind those printed
 module _ (image roll out₀ out ys : List ℕ) (w v : World) (k first at e : ℕ) (o : Outcome) (p : Played image w roll k first out₀ out v)
-    (here : at ≡ k * 19) (there : e ≡ at + 19) (is : ys ≡ printedReply (first + k) (o .answer .number) (o .answer .value)) where
+    (here : at ≡ k * 19) (there : e ≡ at + 19) (is : ys ≡ printedReply (first + k) (o .answer .number) (o .answer .value))
+    (room : FitsLine (first + k) (o .answer)) where
   -- what is there of it
   abbrev now′ : List ℕ
   now′ = take at out ++ (ys ++ drop (e - at) (drop at out))
@@ -105,7 +112,7 @@ module _ (image roll out₀ out ys : List ℕ) (w v : World) (k first at e : ℕ
       → Run image w (requests (linesIn roll k ++ (lineAt roll k ∷ []))) answers (o .world)
       → replies (linesIn roll k ++ (lineAt roll k ∷ [])) answers ≡ replies (linesIn roll k) (p .answers) ++ (o .answer ∷ [])
       → Played image w roll (k + 1) first out₀ now′ (o .world)
-  unfolding linesIn
+  unfolding linesIn printed Fits
   with-line answers l r t =
       let front : List ℕ = printed first (replies (linesIn roll k) (p .answers)) in
       let lines : length (replies (linesIn roll k) (p .answers)) ≡ k = replies-length (linesIn roll k) (p .answers) l ∙ lines-length roll k in
@@ -117,10 +124,11 @@ module _ (image roll out₀ out ys : List ℕ) (w v : World) (k first at e : ℕ
       (record {
         answers = answers;
         run = r;
+        fits = rw t (fits-append first (replies (linesIn roll k) (p .answers)) (o .answer ∷ []) (p .fits) (rw lines (room, tt)));
         prints =
             rw was (put-part front out₀ ys at e n there big)
-            ∙ ap (λ l. (front ++ l) ++ drop e out₀) (is ∙ ap (λ x. printedReply (first + x) (o .answer .number) (o .answer .value)) (sym lines))
-            ∙ ap (λ l. l ++ drop e out₀) (sym (ap (printed first) t ∙ printed-snoc first (replies (linesIn roll k) (p .answers)) (o .answer)))
+            ∙ ap (λ l. (front ++ l) ++ drop e out₀) (is ∙ sym (append-nil _) ∙ ap (λ x. printed (first + x) (o .answer ∷ [])) (sym lines))
+            ∙ ap (λ l. l ++ drop e out₀) (sym (ap (printed first) t ∙ printed-append first (replies (linesIn roll k) (p .answers)) (o .answer ∷ [])))
             ∙ ap (λ x. printed first (replies (linesIn roll k ++ (lineAt roll k ∷ [])) answers) ++ drop x out₀) end;
       })
 
@@ -129,7 +137,7 @@ module _ (image roll out₀ out ys : List ℕ) (w v : World) (k first at e : ℕ
   by-line (Call q) e s =
       let l = run-length (p .run) in
       with-line (p .answers ++ (o .answer ∷ [])) l
-      (rw (e, requests-append (linesIn roll k) (Call q ∷ [])) (run-snoc (p .run) s))
+      (rw (e, requests-append (linesIn roll k) (Call q ∷ [])) (run-append (p .run) (more s none)))
       (rw e (replies-append (linesIn roll k) (Call q ∷ []) (p .answers) (o .answer ∷ []) l))
   by-line Malformed e s =
       let l = run-length (p .run) in

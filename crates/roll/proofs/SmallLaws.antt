@@ -9,9 +9,14 @@ use lib.Dec.{eqb}
 use borrow.Author.Tests.{eqb-true}
 use Rattle.basics.proofs.TestLaws.{when-cases, passed}
 use Rattle.interface.specs.declared.request.Request.{Request}
+use Rattle.interface.specs.declared.answer.Refusal.{Refusal}
+use Rattle.interface.specs.declared.answer.Refusal.the-variants.{Malformed, NoSuchCall, Unsound, NotOpen, AlreadyOpen, OutsideLimits, SnapshotTaken, NoSnapshot, NotMapped, AlreadyMapped, NoGap, NotWritable, ShareExceeded, TooManyAreas}
+use Rattle.interface.specs.declared.answer.Answer.{Answer}
+use Rattle.interface.specs.declared.answer.Answer.the-variants.{Value, Refused}
 use Rattle.interface.specs.declared.page.Backing.{Backing}
 use Rattle.interface.specs.declared.page.Backing.the-variants.{Anonymous, Image}
 use Rattle.interface.specs.Requests.{_is_, isCall, Map, Read, Snapshot, Report, pageOf, offsetOf}
+use Rattle.interface.specs.Answers.{refusalNumber, numberOf}
 use Rattle.interface.specs.Slots.{isCommitted, backingAt}
 use Rattle.interface.specs.Outcome.{firstOf}
 use Rattle.interface.specs.Refusals.{refusal}
@@ -92,3 +97,24 @@ module _ (image : List ℕ) (w : World) (q : Request) (t : Bytes image) (u : Byt
   pub value-small : (o : Outcome) → Stepped image w q o → o .answer .value ≤ 65535
   unfolding step
   value-small o s = rw (s .equals) (when-cases (λ x. x ≤ 65535) (eqb (numberAt image w q) 0) (λ e. value-low (eqb-true (numberAt image w q) 0 e)) (λ _. omega arith))
+
+-- "Turned back" has 14 rows
+refusal-small : (r : Refusal) → refusalNumber r ≤ 14
+refusal-small Malformed = omega arith
+refusal-small NoSuchCall = omega arith
+refusal-small Unsound = omega arith
+refusal-small NotOpen = omega arith
+refusal-small AlreadyOpen = omega arith
+refusal-small OutsideLimits = omega arith
+refusal-small SnapshotTaken = omega arith
+refusal-small NoSnapshot = omega arith
+refusal-small NotMapped = omega arith
+refusal-small AlreadyMapped = omega arith
+refusal-small NoGap = omega arith
+refusal-small NotWritable = omega arith
+refusal-small ShareExceeded = omega arith
+refusal-small TooManyAreas = omega arith
+
+pub number-small : (a : Answer) → numberOf a ≤ 14
+number-small (Value v) = omega arith
+number-small (Refused r) = refusal-small r

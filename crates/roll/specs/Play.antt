@@ -8,7 +8,7 @@ use Rattle.interface.specs.Answers.{Answered}
 use Rattle.lines.specs.declared.Line.{Line}
 use Rattle.lines.specs.declared.Line.the-variants.{Call, Malformed}
 use Rattle.lines.specs.Lines.{lineAt}
-use Rattle.lines.specs.Prints.{printedReply}
+use Rattle.lines.specs.Prints.{UpTo, printedReply}
 use Rattle.state.specs.World.{World}
 use Rattle.machine.specs.Step.{Outcome, Stepped}
 use Rattle.claims.specs.Demands.{Run}
@@ -40,14 +40,24 @@ unfoldable pub printed : ℕ → List Answered → List ℕ
 printed first [] = []
 printed first (a ∷ answers) = printedReply first (a .number) (a .value) ++ printed (first + 1) answers
 
+-- "3 fields a line, same columns": each number of a reply line has room in its 6 columns
+abbrev pub FitsLine : ℕ → Answered → Type 0
+FitsLine line a = UpTo 999999 (line ∷ a .number ∷ a .value ∷ [])
+
+-- the same of reply lines, numbered from first on
+unfoldable pub Fits : ℕ → List Answered → Type 0
+Fits first [] = Unit
+Fits first (a ∷ answers) = FitsLine first a × Fits (first + 1) answers
+
 -- what a line does: a request is called, and a malformed line leaves state, pool and table
 abbrev pub Turned : List ℕ → World → Line → Outcome → Type 0
 Turned image w (Call q) o = Stepped image w q o
 Turned image w Malformed o = o ≡ record { answer = malformed; world = w }
 
 -- n lines of a roll are played from one world to another: some answers are those of a run of the well-formed lines' requests, and what is printed
--- for each line, 19 bytes, stands at the start of out; the rest of it is as it was
+-- for each line, 19 bytes, stands at the start of out, no number wider than its columns; the rest of it is as it was
 pub record Played (image : List ℕ) (w : World) (roll : List ℕ) (n first : ℕ) (out₀ out : List ℕ) (v : World) : Type 0 where
   pub answers : List Answered
   pub run : Run image w (requests (linesIn roll n)) answers v
+  pub fits : Fits first (replies (linesIn roll n) answers)
   pub prints : out ≡ printed first (replies (linesIn roll n) answers) ++ drop (n * 19) out₀

@@ -9,6 +9,7 @@ use Rattle.lines.specs.Lines.{lineAt}
 use Rattle.lines.specs.declared.Line.{Line}
 use Rattle.roll.specs.Play.{Turned, Played}
 use Rattle.roll.proofs.PlayLaws.{part-length, played-none, played-more}
+use Rattle.roll.proofs.SmallLaws.{number-small}
 use Rattle.lines.proofs.PrintLaws.{length-reply}
 use Rattle.roll.proofs.play.Statement.{statement}
 use Rattle.roll.proofs.play.Tie as tie
@@ -82,7 +83,7 @@ loop-again c =
     let o = outcomeOf (got .result) (got .last .1 .0) (got .last .1 .1 .0) in
     let read : _≡_ {A = Line} (c .before .before .before .before .before .before .before .before .before .before .read-line .result) (lineAt roll k) = c .before .before .before .before .before .before .before .before .before .before .read-line .ensures in
     let turned : Turned image v (lineAt roll k) o = subst (λ l. Turned image v l o) read (got .ensures .0) in
-    let played = played-more image roll (a .out .now) (at .out) (shown .last .0) w v k (a .first) (k * 19) (k * 19 + 19) o (inv .6) refl refl (shown .ensures) turned in (
+    let played = played-more image roll (a .out .now) (at .out) (shown .last .0) w v k (a .first) (k * 19) (k * 19 + 19) o (inv .6) refl refl (shown .ensures) (omega (arith, inv .2, less), (omega (arith, number-small (got .result .answer)), (omega (arith, got .ensures .1), tt))) turned in (
       omega (arith, less),
       inv .1,
       inv .2,
