@@ -1,1 +1,2 @@
-pub mod FewLaws
+pub mod ImageLaws
+pub mod ConversationLaws

@@ -1,66 +1,125 @@
 // The player: "reads the roll on standard input and the image from `image.bin`", plays it with 128 frames, and prints a line for each line.
-// It keeps a part of the roll at a time, whole lines but for the roll's end, and hands each part to `roll::play`, whose contract says what is printed.
-// It stands on `roll` and on the kit's `io`, `os` and `libc`; what these read and write nothing proves.
+// It answers each line as soon as the line has come, so that a program can talk with it. It promises that what it reads, one line after the other, is one roll
+// played from a start, and that what it hands on to be written is that roll's replies (`Talked`).
+// It stands on `roll` and on the kit's `io`, `os` and `libc`; which bytes these read and write nothing proves.
+ghost use mathlib.Core.Path.{_≡_};
 ghost use Prim.Native.Nat.{_≤_};
-ghost use Rattle.io.specs.Counts.{Counts};
+ghost use lib.ListN.{length};
+ghost use Rattle.state.specs.World.{worldOf};
+ghost use Rattle.state.specs.Start.{startedBy};
+ghost use Rattle.player.specs.Image.{imageBytes};
+ghost use Rattle.player.specs.Conversation.{turnOf, goesOn, Answers, Talked};
 use lines::Line;
 use lines::lines_of;
 use roll::play;
 use state::sandbox::Machine;
 
-// The machine after a part of the roll, and whether more of the roll is to be played.
+fn main() {
+    let mut image = [0u8; 16_385];
+    let bytes = image_bytes(load(&mut image));
+    let mut pool = [0u8; 32_768];
+    let mut table = [0u16; 512];
+    if !perform(&mut pool, &mut table, &image[..bytes]) {
+        complain();
+    }
+}
+
+// Plays the roll from a start, line by line, and says whether every reply was written. "Lines after the 65,535th are not read."
+fn perform(pool: &mut [u8], table: &mut [u16], image: &[u8]) -> bool
+    ensures { λ r. ⌜ Talked (now (image .entry)) (startedBy (now (pool .entry)) (now (table .entry)) (now (image .entry))) (now (pool .exit)) (now (table .exit)) r ⌝ }
+{
+    let mut machine = soundness::start::start(pool, table, image).machine;
+    let mut number: u32 = 1;
+    while number < 65_536 {
+        let mut line = [0u8; 43];
+        let mut reply = [0u8; 19];
+        let progress = turn(machine, pool, table, image, number, &mut line, &mut reply);
+        if !progress.more {
+            return progress.written;
+        }
+        machine = progress.machine;
+        number += 1;
+    }
+    true
+}
+
+// What a turn leaves: the machine, how many bytes of a line were read, whether its reply was written, and whether another line is to be read.
 struct Progress {
     machine: Machine,
+    got: usize,
+    written: bool,
     more: bool,
 }
 
-fn main() {
-    let mut image = [0u8; 16_385];
-    let bytes = load(&mut image);
-    let mut pool = [0u8; 32_768];
-    let mut table = [0u16; 512];
-    perform(&mut pool, &mut table, &image[..bytes]);
-}
-
-// Plays the roll from a start: "Lines after the 65,535th are not read", and these are 257 parts of 255 lines.
-fn perform(pool: &mut [u8], table: &mut [u16], image: &[u8]) {
-    let mut machine = soundness::start::start(pool, table, image).machine;
-    let mut first: u32 = 1;
-    while first < 65_536 {
-        let progress = part(machine, pool, table, image, first);
-        if !progress.more {
-            return;
-        }
-        machine = progress.machine;
-        first += 255;
-    }
-}
-
-// Reads a part of the roll, plays it and prints the replies. A part that is not full is the last, and so is one whose replies are not all written.
-fn part(machine: Machine, pool: &mut [u8], table: &mut [u16], image: &[u8], first: u32) -> Progress
-    requires { ⌜ first ≤ 65535 ⌝ }
+// Reads a line, plays it and prints its reply. Where nothing is read, nothing is printed.
+fn turn(
+    machine: Machine,
+    pool: &mut [u8],
+    table: &mut [u16],
+    image: &[u8],
+    number: u32,
+    line: &mut [u8],
+    reply: &mut [u8],
+) -> Progress
+    requires { ⌜ (length (now line) ≡ 43) × (length (now reply) ≡ 19) ⌝ }
+    requires { ⌜ number ≤ 65535 ⌝ }
+    ensures { λ r. ⌜ Answers (now (image .entry)) number (worldOf machine (now (pool .entry)) (now (table .entry))) (turnOf r (now (line .exit)) (now (reply .exit))) (worldOf (r .machine) (now (pool .exit)) (now (table .exit))) ⌝ }
+    ensures { λ r. ⌜ r .more ≡ goesOn (turnOf r (now (line .exit)) (now (reply .exit))) ⌝ }
 {
-    let mut lines = [0u8; 10_965];
-    let got = io::read_full(libc::STDIN_FILENO, &mut lines);
-    let mut out = [0u8; 4_845];
-    let after = play(machine, pool, table, image, &lines[..got], first, &mut out);
+    let got = io::read_full(libc::STDIN_FILENO, line);
+    let after = play(machine, pool, table, image, &line[..got], number, reply);
     let size = lines_of(got) * Line::REPLY;
-    let written = io::write_all(libc::STDOUT_FILENO, &out[..size]);
+    let written = io::write_all(libc::STDOUT_FILENO, &reply[..size]);
     Progress {
         machine: after,
-        more: written & (got == 10_965),
+        got: got,
+        written: written,
+        more: written & (got == Line::BYTES),
     }
 }
 
-// Reads the image, "missing: empty", and says how many bytes it has; one above 64 pages has at least a byte more than they.
-fn load(image: &mut [u8]) -> usize
-    ensures { λ r. ⌜ Counts r (now (image .exit)) ⌝ }
+// What became of `image.bin`.
+enum Found {
+    Missing,
+    Whole(usize),
+    Unreadable,
+}
+
+// How many bytes the image has: "missing: empty"; one that cannot be read whole has a wrong length.
+fn image_bytes(found: Found) -> usize
+    ensures { λ r. ⌜ r ≡ imageBytes found ⌝ }
+{
+    match found {
+        Found::Missing => 0,
+        Found::Whole(bytes) => bytes,
+        Found::Unreadable => 16_385,
+    }
+}
+
+// Reads the image, of which a byte more than 64 pages is enough to tell that it has too many. A short read is the file's end, or a read that failed: one more
+// read tells which, and where a file's end cannot be read at all, as a folder's, the image is not whole.
+fn load(image: &mut [u8]) -> Found
+    requires { ⌜ length (now image) ≡ 16385 ⌝ }
+    ensures { λ r. ⌜ imageBytes r ≤ length (now (image .exit)) ⌝ }
 {
     let fd = os::open_read(&[b'i', b'm', b'a', b'g', b'e', b'.', b'b', b'i', b'n']);
     if fd < 0 {
-        return 0;
+        if os::errno() == libc::ENOENT {
+            return Found::Missing;
+        }
+        return Found::Unreadable;
     }
     let bytes = io::read_full(fd, image);
+    let mut more = [0u8; 1];
+    let after = libc::read(fd, &mut more);
     libc::close(fd);
-    bytes
+    if after != 0 {
+        return Found::Unreadable;
+    }
+    Found::Whole(bytes)
+}
+
+// Says on standard error that a reply could not be written, and why.
+fn complain() {
+    os::fail(&[b's', b't', b'd', b'o', b'u', b't']);
 }

@@ -4,12 +4,13 @@ use mathlib.Core.List.{List, [], _∷_, _++_, append-assoc, append-nil}
 use Prim.Native.Nat.{ℕ, zero, suc, _+_, _*_, _≤_}
 use native.Mathlib.Omega.{arith}
 use native.Mathlib.Nat.{add-zero, add-suc}
-use lib.ListN.{length, drop, length-append, length-drop}
-use lib.Seq.{drop-nil, drop-append-le, drop-append-add, take-append-le}
+use lib.ListN.{length, take, drop, length-append, length-drop}
+use lib.Seq.{take-at, drop-nil, drop-append-le, drop-append-add, take-append-le}
 use Rattle.lines.specs.Lines.{lineAt, linesOf}
-use Rattle.roll.specs.Play.{linesIn, replies, printed}
+use Rattle.state.specs.World.{World}
+use Rattle.roll.specs.Play.{linesIn, replies, printed, Played}
 use Rattle.roll.specs.Join.{WholeLines, Joins, CountsOn}
-use Rattle.roll.proofs.PlayLaws.{run-append, run-length, requests-append, replies-append, printed-append, fits-append, a-reply-each}
+use Rattle.roll.proofs.PlayLaws.{run-append, run-length, requests-append, replies-append, printed-append, printed-length, fits-append, a-reply-each}
 
 -- ---- lines
 
@@ -41,6 +42,18 @@ unfolding linesOf
 counts-on whole rest n all few = rw (length-append whole rest) (omega (arith, all, few))
 
 -- ---- played
+
+-- what is printed, apart from what stands behind it
+pub played-alone : (image roll out₀ out : List ℕ) (n first : ℕ) (w v : World) → Played image w roll n first out₀ out v → Played image w roll n first [] (take (n * 19) out) v
+played-alone image roll out₀ out n first w v p =
+    let front : List ℕ = printed first (replies (linesIn roll n) (p .answers)) in
+    let big : length front ≡ n * 19 = printed-length first (replies (linesIn roll n) (p .answers)) ∙ ap (λ k. k * 19) (a-reply-each image w roll n first out₀ out v p) in
+    record {
+      answers = p .answers;
+      run = p .run;
+      fits = p .fits;
+      prints = ap (take (n * 19)) (p .prints) ∙ take-at front (drop (n * 19) out₀) (n * 19) big ∙ sym (append-nil front) ∙ ap (λ l. front ++ l) (sym (drop-nil (n * 19)));
+    }
 
 pub joins : Joins
 joins image whole rest out₁ out₂ n k first w v u all p q =

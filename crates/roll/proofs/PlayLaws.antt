@@ -68,7 +68,7 @@ printed-append first (a ∷ as′) bs =
     ap (λ l. printedReply first (a .number) (a .value) ++ l) (printed-append (first + 1) as′ bs ∙ ap (λ k. printed (first + 1) as′ ++ printed k bs) next)
     ∙ sym (append-assoc (printedReply first (a .number) (a .value)) (printed (first + 1) as′) (printed (first + suc (length as′)) bs))
 
-printed-length : (first : ℕ) (bs : List Answered) → length (printed first bs) ≡ length bs * 19
+pub printed-length : (first : ℕ) (bs : List Answered) → length (printed first bs) ≡ length bs * 19
 unfolding printed
 printed-length first [] = refl
 printed-length first (b ∷ bs) =
