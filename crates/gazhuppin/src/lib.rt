@@ -1,14 +1,9 @@
-// The library for hosts in C and Rust: a roll is played from a start over lent memory, and pool and table are left for the host to look at; or a host
+// The library for hosts in C, Rust and Python. A roll is played from a start over lent memory, and pool and table are left for the host to look at; or a host
 // starts a machine and makes one call at a time, with the state as bytes in its own memory (src/stepwise).
-// It promises that whatever is lent, the call ends; that the replies are those of a run from the start (`Played`), and nothing is touched where
-// they would not fit (`FromStart`); and that they are the plain machine's (proofs/PlainReplies). Of calls one at a time it promises the demands
-// (specs/HostClaims).
+// It promises that whatever is lent, a call ends. Of a roll: the replies are those of a run from the start (`Played`), and nothing is touched where they would
+// not fit (`FromStart`). From this follows all that the C header says (specs/Promised): the replies are the plain machine's, what is left in pool and table
+// is what demand 3 says, and where a lent length is wrong pool and table stay and every line is refused. Of calls one at a time: the demands (specs/HostClaims).
 // It stands on `roll` for the play, on `machine` and `encoding` for a call, and on `soundness` for the start. Nothing that holds an enum crosses to C.
-// they would not fit (`FromStart`); that they are the plain machine's (proofs/PlainReplies), and what is left in pool and table is what demand 3
-// says (proofs/LeftBehind); or, where a lent length is wrong, that pool and table stay and every line is refused (proofs/RefusedReplies).
-// they would not fit (`FromStart`). From this follows all that the C header says (specs/Promised): the replies are the plain machine's, what is left
-// in pool and table is what demand 3 says, and where a lent length is wrong pool and table stay and every line is refused.
-// It stands on `roll` for the play and on `soundness` for the start. The state stays inside: nothing that holds an enum crosses to C.
 ghost use mathlib.Core.Path.{_≡_};
 ghost use Rattle.lines.specs.Lines.{linesOf};
 ghost use Rattle.gazhuppin.specs.FromStart.{FromStart};
