@@ -1,5 +1,5 @@
 -- "Turned back", its rows 2 and 4 to 14 as one table of rolls with their answers: each row's Example, its neighbours that are not refused, every limit on both
--- sides, and "When several apply, the lowest number is answered". (Row 1 is the player's; row 3 stands in claims/specs/TurnedBack.)
+-- sides, and "When several apply, the lowest number is answered". (Row 1 is the player's; row 3 stands in state/specs/Lengths.)
 use mathlib.Core.List.{List, [], _∷_, _++_}
 use lib.ListN.{replicate}
 use Rattle.interface.specs.Requests.{Open, Map, Unmap, Protect, Read, Write, Snapshot, Rewind, Report}
