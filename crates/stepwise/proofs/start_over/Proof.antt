@@ -1,9 +1,9 @@
 use mathlib.Core.Path.{_∙_}
-use Rattle.gazhuppin.proofs.StepwiseLaws.{start-short, start-long}
-use Rattle.gazhuppin.specs.Stepwise.{Handed, handed}
+use Rattle.stepwise.proofs.CallLaws.{start-short, start-long}
+use Rattle.stepwise.specs.Calls.{Handed, handed}
 use borrow.Author.Needs.{needs}
-use Rattle.gazhuppin.proofs.stepwise.gazhuppin_start.Statement.{statement}
-use Rattle.gazhuppin.proofs.stepwise.gazhuppin_start.Tie as tie
+use Rattle.stepwise.proofs.start_over.Statement.{statement}
+use Rattle.stepwise.proofs.start_over.Tie as tie
 
 -- what the caller handed over
 abbrev hands : tie.Start → Handed
@@ -44,8 +44,8 @@ returns-2 c =
     (written .last .1 .0) (branch .if1 .left) (made .ensures .0) (made .ensures .1) (written .ensures) in
     (c .number .ensures ∙ both .0, both .1)
 
-pub gazhuppin-start-spec : {M : Type 1} → statement M
-gazhuppin-start-spec =
+pub start-over-spec : {M : Type 1} → statement M
+start-over-spec =
     tie.close
     (tie.spec
     returns

@@ -26,8 +26,8 @@ use Rattle.machine.specs.Parts.{outcomeOf}
 use Rattle.machine.proofs.CallLaws.{sound-of-test}
 use Rattle.claims.proofs.StepLaws.{was-sound, refused-leaves}
 use Rattle.claims.proofs.Claims.{claim-1}
-use Rattle.gazhuppin.specs.declared.stepwise.Told.{Told}
-use Rattle.gazhuppin.specs.Stepwise.{Handed, handed, handsOf, worldIn, toldBy, answerTold, outcomeIn, startNumber, startHands, Called}
+use Rattle.stepwise.specs.declared.Told.{Told}
+use Rattle.stepwise.specs.Calls.{Handed, handed, handsOf, worldIn, toldBy, answerTold, outcomeIn, startNumber, startHands, Called}
 
 -- ---- what is handed over
 

@@ -1,6 +1,6 @@
 use borrow.Author.Needs.{needs}
-use Rattle.gazhuppin.proofs.stepwise.Told.by.Statement.{statement}
-use Rattle.gazhuppin.proofs.stepwise.Told.by.Tie as tie
+use Rattle.stepwise.proofs.Told.by.Statement.{statement}
+use Rattle.stepwise.proofs.Told.by.Tie as tie
 
 number-requires : tie.Need-number-requires
 number-requires c κs = search needs

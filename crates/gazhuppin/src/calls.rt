@@ -2,34 +2,12 @@
 // Nothing is asked of what is lent. A wrong length and bytes that are no state's are refusal 3 (2 where the code is no call), and nothing changes.
 ghost use mathlib.Core.Path.{_≡_};
 ghost use Rattle.encoding.specs.Layout.{stateSize};
-ghost use Rattle.gazhuppin.specs.Stepwise.{handed, requestOf, toldBy, startNumber, startHands, Called};
-use encoding::decode;
-use encoding::encode;
-use encoding::is_state;
+ghost use Rattle.stepwise.specs.Calls.{handed, requestOf, startNumber, startHands, Called};
 use encoding::size::Size;
-use interface::answer::Answer;
-use interface::answer::Refusal;
 use interface::request::Request;
-use machine::call::call;
-use soundness::start::start;
-
-// What a call answers, as a host sees it: the refusal's number or 0, and the value.
-#[repr(C)]
-pub struct Told {
-    pub number: u32,
-    pub value: u32,
-}
-
-impl Told {
-    fn by(answer: Answer) -> Told
-        ensures { λ r. ⌜ r ≡ toldBy answer ⌝ }
-    {
-        Told {
-            number: answer.number() as u32,
-            value: answer.value(),
-        }
-    }
-}
+use stepwise::Told;
+use stepwise::call_over;
+use stepwise::start_over;
 
 // How many bytes a host lends for the state.
 #[no_mangle]
@@ -52,14 +30,7 @@ pub extern "C" fn gazhuppin_start(
     ensures left { λ r. ⌜ handed (now (state .exit)) (now (pool .exit)) (now (table .exit))
         ≡ startHands (now (image .entry)) (handed (now (state .entry)) (now (pool .entry)) (now (table .entry))) ⌝ }
 {
-    if state.len() != Size::STATE {
-        return 3;
-    }
-    let started = start(pool, table, image);
-    let machine = started.machine;
-    let answer = started.answer;
-    encode(machine, state);
-    answer.number() as u32
+    start_over(state, pool, table, image)
 }
 
 // One call: the state is read from `state`, and the next one written there. A refused call leaves every byte of state, pool and table.
@@ -80,7 +51,7 @@ pub extern "C" fn gazhuppin_call(
     ensures { λ r. ⌜ Called (now (image .entry)) (handed (now (state .entry)) (now (pool .entry)) (now (table .entry)))
         (requestOf code sandbox p1 p2 p3 p4 p5) r (handed (now (state .exit)) (now (pool .exit)) (now (table .exit))) ⌝ }
 {
-    perform(
+    call_over(
         state,
         pool,
         table,
@@ -95,22 +66,4 @@ pub extern "C" fn gazhuppin_call(
             p5: p5,
         },
     )
-}
-
-// The same, of a request.
-fn perform(state: &mut [u8], pool: &mut [u8], table: &mut [u16], image: &[u8], q: Request) -> Told
-    ensures { λ r. ⌜ Called (now (image .entry)) (handed (now (state .entry)) (now (pool .entry)) (now (table .entry))) q r
-        (handed (now (state .exit)) (now (pool .exit)) (now (table .exit))) ⌝ }
-{
-    if !is_state(state) {
-        if (q.code < 1) | (9 < q.code) {
-            return Told::by(Answer::Refused(Refusal::NoSuchCall));
-        }
-        return Told::by(Answer::Refused(Refusal::Unsound));
-    }
-    let reply = call(decode(state), pool, table, image, q);
-    let machine = reply.machine;
-    let answer = reply.answer;
-    encode(machine, state);
-    Told::by(answer)
 }

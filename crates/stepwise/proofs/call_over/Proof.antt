@@ -3,11 +3,11 @@ use native.Mathlib.Omega.{arith}
 use borrow.Author.Tests.{not-true, not-false}
 use Rattle.encoding.proofs.LayoutLaws.{state-long}
 use Rattle.machine.proofs.CallLaws.{no-call, a-call}
-use Rattle.gazhuppin.specs.Stepwise.{Handed, handed}
-use Rattle.gazhuppin.proofs.StepwiseLaws.{call-two, call-three, call-stepped}
+use Rattle.stepwise.specs.Calls.{Handed, handed}
+use Rattle.stepwise.proofs.CallLaws.{call-two, call-three, call-stepped}
 use borrow.Author.Needs.{needs}
-use Rattle.gazhuppin.proofs.stepwise.perform.Statement.{statement}
-use Rattle.gazhuppin.proofs.stepwise.perform.Tie as tie
+use Rattle.stepwise.proofs.call_over.Statement.{statement}
+use Rattle.stepwise.proofs.call_over.Tie as tie
 
 -- what the caller handed over
 
@@ -89,8 +89,8 @@ returns-3 c =
     (decoding .decode .result) (reply .result) (c .by3 .result) (written .last .1 .0) (reply .last .1 .0) (reply .last .1 .1 .0)
     (decoding .decode .ensures) (reply .ensures) (written .ensures) (c .by3 .ensures)
 
-pub perform-spec : {M : Type 1} → statement M
-perform-spec =
+pub call-over-spec : {M : Type 1} → statement M
+call-over-spec =
     tie.close
     (tie.spec
     is-state-requires

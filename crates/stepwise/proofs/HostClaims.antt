@@ -23,10 +23,10 @@ use Rattle.claims.specs.Demands.{Run, RunFrom, Lent}
 use Rattle.claims.specs.Demands.Run.{none, more}
 use Rattle.claims.proofs.Claims.{claim-start, claim-runs, claim-1, claim-2, claim-3}
 use Rattle.claims.proofs.SoundLaws.{agrees-sound, started-agrees}
-use Rattle.gazhuppin.specs.declared.stepwise.Told.{Told}
-use Rattle.gazhuppin.specs.Stepwise.{Handed, handed, handsOf, worldIn, startNumber, startHands, Calls}
-use Rattle.gazhuppin.specs.HostClaims.{givenBy, HostDemand1, CallsAreRuns, HostClaims, HostStarts}
-use Rattle.gazhuppin.proofs.StepwiseLaws.{world-again, hands-again, called}
+use Rattle.stepwise.specs.declared.Told.{Told}
+use Rattle.stepwise.specs.Calls.{Handed, handed, handsOf, worldIn, startNumber, startHands, Calls}
+use Rattle.stepwise.specs.HostClaims.{givenBy, HostDemand1, CallsAreRuns, HostClaims, HostStarts}
+use Rattle.stepwise.proofs.CallLaws.{world-again, hands-again, called}
 
 -- ---- of any bytes that are a state's
 

@@ -1,0 +1,74 @@
+// A start, and then a call at a time, over a state that the caller keeps as bytes beside its pool and table.
+// It asks nothing of what is lent: a wrong length and bytes that are no state's are refusal 3 (2 where the code is no call), and nothing changes. It promises
+// (specs/HostClaims) that calls in turn are a run of the machine, so that each demand is true of them, in bytes.
+// It stands on `machine` for the call, on `soundness` for the start, on `encoding` for the bytes and on `claims` for what is promised.
+ghost use mathlib.Core.Path.{_≡_};
+ghost use Rattle.stepwise.specs.Calls.{handed, toldBy, startNumber, startHands, Called};
+use encoding::decode;
+use encoding::encode;
+use encoding::is_state;
+use encoding::size::Size;
+use interface::answer::Answer;
+use interface::answer::Refusal;
+use interface::request::Request;
+use machine::call::call;
+use soundness::start::start;
+
+// What a call answers, as a host sees it: the refusal's number or 0, and the value.
+#[repr(C)]
+pub struct Told {
+    pub number: u32,
+    pub value: u32,
+}
+
+impl Told {
+    fn by(answer: Answer) -> Told
+        ensures { λ r. ⌜ r ≡ toldBy answer ⌝ }
+    {
+        Told {
+            number: answer.number() as u32,
+            value: answer.value(),
+        }
+    }
+}
+
+// Starts a machine: writes a fresh state and clears pool and table. Answers 0, or 3 where a length is wrong: then pool and table stay as they are, and so does
+// `state` where the wrong length is its own.
+pub fn start_over(state: &mut [u8], pool: &mut [u8], table: &mut [u16], image: &[u8]) -> u32
+    ensures { λ r. ⌜ r ≡ startNumber (now (image .entry)) (handed (now (state .entry)) (now (pool .entry)) (now (table .entry))) ⌝ }
+    ensures left { λ r. ⌜ handed (now (state .exit)) (now (pool .exit)) (now (table .exit))
+        ≡ startHands (now (image .entry)) (handed (now (state .entry)) (now (pool .entry)) (now (table .entry))) ⌝ }
+{
+    if state.len() != Size::STATE {
+        return 3;
+    }
+    let started = start(pool, table, image);
+    let machine = started.machine;
+    let answer = started.answer;
+    encode(machine, state);
+    answer.number() as u32
+}
+
+// One call: the state is read from `state`, and the next one written there. A refused call leaves every byte of state, pool and table.
+pub fn call_over(
+    state: &mut [u8],
+    pool: &mut [u8],
+    table: &mut [u16],
+    image: &[u8],
+    q: Request,
+) -> Told
+    ensures { λ r. ⌜ Called (now (image .entry)) (handed (now (state .entry)) (now (pool .entry)) (now (table .entry))) q r
+        (handed (now (state .exit)) (now (pool .exit)) (now (table .exit))) ⌝ }
+{
+    if !is_state(state) {
+        if (q.code < 1) | (9 < q.code) {
+            return Told::by(Answer::Refused(Refusal::NoSuchCall));
+        }
+        return Told::by(Answer::Refused(Refusal::Unsound));
+    }
+    let reply = call(decode(state), pool, table, image, q);
+    let machine = reply.machine;
+    let answer = reply.answer;
+    encode(machine, state);
+    Told::by(answer)
+}
