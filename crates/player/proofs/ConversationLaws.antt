@@ -71,7 +71,8 @@ conversation-played h (last {t = t} a g) = rw (append-nil (t .line), append-nil 
 conversation-played {image = image} h (next {number = number} {w = w} {v = u} {u = v} {t = t} {ts = ts} a g c) =
     let whole : length (t .line) ≡ 43 = whole-line t g in
     let rest = conversation-played (omega arith) c in
-    let first : Played image w (t .line) 1 number [] (t .reply) u = subst (λ n. Played image w (t .line) n number [] (t .reply) u) (one-line (t .line) whole) (a .played) in
+    let first : Played image w (t .line) 1 number [] (t .reply) u
+    = subst (λ n. Played image w (t .line) n number [] (t .reply) u) (one-line (t .line) whole) (a .played) in
     let few = few-counted (length (rollOf ts)) number h (a .numbered) (few-bytes c) in
     rw (counts-on (t .line) (rollOf ts) 1 whole few)
     (joins image (t .line) (rollOf ts) (t .reply) (repliesOf ts) 1 (linesOf (length (rollOf ts))) number w u v whole first rest)
@@ -95,7 +96,8 @@ one-turn-more image w number v t u so a more e h ts x c =
     (before .0, (before .1 .0, before .1 .1 ∙ rw (was-written t g) refl))
 
 module _ (image : List ℕ) (w : World) (number : ℕ) (v : World) (so : GoesOnTo image w number v) (m : Machine) (pool table : List ℕ) where
-  ended : (ts : List Turn) (written : Bool) → Conversation image number v ts (worldOf m pool table) → written ≡ allWritten ts → Talked image w pool table written
+  ended : (ts : List Turn) (written : Bool) → Conversation image number v ts (worldOf m pool table) → written ≡ allWritten ts
+      → Talked image w pool table written
   ended ts written c e =
       let all = so ts (worldOf m pool table) c in
       record {
@@ -106,7 +108,8 @@ module _ (image : List ℕ) (w : World) (number : ℕ) (v : World) (so : GoesOnT
         told = e ∙ sym (all .1 .1);
       }
 
-  pub ended-by : (t : Turn) → Answers image number v t (worldOf m pool table) → (more : Bool) → more ≡ goesOn t → not more ≡ true → Talked image w pool table (t .written)
+  pub ended-by : (t : Turn) → Answers image number v t (worldOf m pool table) → (more : Bool) → more ≡ goesOn t → not more ≡ true
+      → Talked image w pool table (t .written)
   unfolding allWritten
   ended-by t a more e h = ended (t ∷ []) (t .written) (last a (sym e ∙ not-true more h)) (sym (and-true (t .written)))
 

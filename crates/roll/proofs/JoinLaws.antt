@@ -44,15 +44,19 @@ counts-on whole rest n all few = rw (length-append whole rest) (omega (arith, al
 -- ---- played
 
 -- what is printed, apart from what stands behind it
-pub played-alone : (image roll out₀ out : List ℕ) (n first : ℕ) (w v : World) → Played image w roll n first out₀ out v → Played image w roll n first [] (take (n * 19) out) v
+pub played-alone : (image roll out₀ out : List ℕ) (n first : ℕ) (w v : World)
+    → Played image w roll n first out₀ out v → Played image w roll n first [] (take (n * 19) out) v
 played-alone image roll out₀ out n first w v p =
     let front : List ℕ = printed first (replies (linesIn roll n) (p .answers)) in
-    let big : length front ≡ n * 19 = printed-length first (replies (linesIn roll n) (p .answers)) ∙ ap (λ k. k * 19) (a-reply-each image w roll n first out₀ out v p) in
+    let count : length (replies (linesIn roll n) (p .answers)) ≡ n = a-reply-each image w roll n first out₀ out v p in
+    let big : length front ≡ n * 19 = printed-length first (replies (linesIn roll n) (p .answers)) ∙ ap (λ k. k * 19) count in
     record {
       answers = p .answers;
       run = p .run;
       fits = p .fits;
-      prints = ap (take (n * 19)) (p .prints) ∙ take-at front (drop (n * 19) out₀) (n * 19) big ∙ sym (append-nil front) ∙ ap (λ l. front ++ l) (sym (drop-nil (n * 19)));
+      prints =
+          ap (take (n * 19)) (p .prints) ∙ take-at front (drop (n * 19) out₀) (n * 19) big
+          ∙ sym (append-nil front) ∙ ap (λ l. front ++ l) (sym (drop-nil (n * 19)));
     }
 
 pub joins : Joins

@@ -12,7 +12,8 @@ use Rattle.player.proofs.perform.Tie as tie
 
 abbrev Inv-loop : tie.InvT-loop
 Inv-loop pool₀ table₀ image machine₀ number₀ pool table machine number =
-    (number ≤ 65536) × (length pool ≡ length pool₀) × (length table ≡ length table₀) × GoesOnTo image (worldOf machine₀ pool₀ table₀) number (worldOf machine pool table)
+    (number ≤ 65536) × (length pool ≡ length pool₀) × (length table ≡ length table₀)
+    × GoesOnTo image (worldOf machine₀ pool₀ table₀) number (worldOf machine pool table)
 
 abbrev μ-loop : tie.MeasureT-loop
 μ-loop pool₀ table₀ image machine₀ number₀ pool table machine number = 65536 - number
@@ -72,7 +73,8 @@ loop-again c =
       omega (arith, c .before .before .before .before .before .before .before .before .before .before .before .before .before .before .loop-test .taken),
       got .kept .1 .0 ∙ at .inv .1,
       got .kept .1 .1 .0 ∙ at .inv .2,
-      one-turn-more image w (at .number) v t (worldOf (got .result .machine) pool table) (at .inv .3) (got .ensures .0) (got .result .more) (got .ensures .1) (c .before .if1 .left),
+      one-turn-more image w (at .number) v t (worldOf (got .result .machine) pool table) (at .inv .3)
+          (got .ensures .0) (got .result .more) (got .ensures .1) (c .before .if1 .left),
     )
 
 same-length-3 : tie.Need-same-length-3 Inv-loop μ-loop

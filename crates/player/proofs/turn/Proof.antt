@@ -68,7 +68,8 @@ returns c =
     let image = start .args .image .now in
     let w = worldOf (start .args .machine) (start .args .pool .now) (start .args .table .now) in
     let v = worldOf (played .result) (played .last .1 .0) (played .last .1 .1 .0) in (
-      turn-answers image (got .last .1 .0) (start .args .reply .now) (played .last .1 .1 .1 .1 .1 .1 .0) (start .args .number) (got .result) (c .write-all .result) w v (start .pre .1) (omega (arith, got .ensures .0, got .kept .1 .0, start .pre .0 .0)) (sym (got .ensures .1)) (played .ensures),
+      turn-answers image (got .last .1 .0) (start .args .reply .now) (played .last .1 .1 .1 .1 .1 .1 .0) (start .args .number) (got .result) (c .write-all .result) w v
+          (start .pre .1) (omega (arith, got .ensures .0, got .kept .1 .0, start .pre .0 .0)) (sym (got .ensures .1)) (played .ensures),
       ap (λ n. c .write-all .result && eqb n 43) (got .ensures .1),
     )
 
