@@ -19,10 +19,11 @@ use Rattle.claims.proofs.Runs.{list-agrees}
 use Rattle.claims.proofs.Simulate.{used-one, held-counts, held-same}
 use Rattle.claims.proofs.Claims.{claim-start, claim-3}
 use Rattle.roll.specs.Play.{linesIn, requests, replies, printed}
+use Rattle.roll.specs.Replies.{lent}
+use Rattle.roll.proofs.RepliesLaws.{run-of}
 use Rattle.gazhuppin.specs.FromStart.{FromStart}
 use Rattle.gazhuppin.specs.Left.{LeftAt, Left}
-use Rattle.gazhuppin.specs.Promised.{lent, Room}
-use Rattle.gazhuppin.proofs.PlainReplies.{run-of}
+use Rattle.gazhuppin.specs.Promised.{Room}
 
 module _ (g : Given) (L : Lent g) (qs : List Request) (as′ : List Answered) (v : World) (r : RunFrom g qs as′ v) where
   left-at : (s : ℕ) → s < 4 → LeftAt (v .store .pool) (v .store .table) s (upTo g qs s)
@@ -64,7 +65,8 @@ pub left-behind : (image roll pool₀ table₀ out₀ pool table out : List ℕ)
     → Room roll out₀
     → Left (lent image pool₀) (requests (linesIn roll (linesOf (length roll)))) pool table
 left-behind image roll pool₀ table₀ out₀ pool table out lines r ok room =
-    left-by _ (claim-start pool₀ table₀ image ok .0) _ (r .played room .1 .answers) _ (run-of image roll pool₀ table₀ out₀ pool table out lines r ok room)
+    let p = r .played room .1 in
+    left-by _ (claim-start pool₀ table₀ image ok .0) _ (p .answers) _ (run-of image roll pool₀ table₀ out₀ out _ ok p)
 
 -- ---- a roll of no bytes
 

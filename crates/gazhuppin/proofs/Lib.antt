@@ -1,5 +1,4 @@
 pub mod RoomLaws
-pub mod PlainReplies
+pub mod RepliesLaws
 pub mod LeftBehind
-pub mod RefusedReplies
 pub mod PromisedLaws

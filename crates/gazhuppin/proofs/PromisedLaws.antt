@@ -4,8 +4,7 @@ use mathlib.Core.List.{List}
 use Prim.Native.Nat.{ℕ}
 use Rattle.gazhuppin.specs.FromStart.{FromStart}
 use Rattle.gazhuppin.specs.Promised.{Promised}
-use Rattle.gazhuppin.proofs.PlainReplies.{plain-replies}
-use Rattle.gazhuppin.proofs.RefusedReplies.{refused-replies}
+use Rattle.gazhuppin.proofs.RepliesLaws.{plain-replies, refused-replies}
 use Rattle.gazhuppin.proofs.LeftBehind.{left-behind, empty-roll}
 
 pub promised : (image roll pool₀ table₀ out₀ pool table out : List ℕ) (lines : ℕ)

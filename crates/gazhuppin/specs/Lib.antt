@@ -1,5 +1,4 @@
 -- In reading order.
 pub mod FromStart
-pub mod Replies
 pub mod Left
 pub mod Promised

@@ -6,15 +6,10 @@ use Prim.Native.Nat.{ℕ, _*_, _≤_, _<_}
 use lib.ListN.{length, drop}
 use Rattle.pages.specs.Parts.{zeros}
 use Rattle.lines.specs.Lines.{linesOf}
-use Rattle.state.specs.World.{pagesIn, lengthsOk}
-use Rattle.plain.specs.Machine.{Given}
+use Rattle.state.specs.World.{lengthsOk}
 use Rattle.roll.specs.Play.{linesIn, requests}
-use Rattle.gazhuppin.specs.Replies.{plainReplies, refusedReplies}
+use Rattle.roll.specs.Replies.{lent, plainReplies, refusedReplies}
 use Rattle.gazhuppin.specs.Left.{Left}
-
--- the image, and the frames of the pool
-abbrev pub lent : List ℕ → List ℕ → Given
-lent image pool = record { image = image; frames = pagesIn (length pool) }
 
 -- "at least 19 * gazhuppin_lines(roll_bytes)"
 abbrev pub Room : List ℕ → List ℕ → Type 0

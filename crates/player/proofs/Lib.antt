@@ -1,2 +1,3 @@
 pub mod ImageLaws
 pub mod ConversationLaws
+pub mod RepliesLaws

@@ -1,3 +1,4 @@
 -- In reading order.
 pub mod Image
 pub mod Conversation
+pub mod Replies

@@ -1,6 +1,7 @@
 // The player: "reads the roll on standard input and the image from `image.bin`", plays it with 128 frames, and prints a line for each line.
 // It answers each line as soon as the line has come, so that a program can talk with it. It promises that what it reads, one line after the other, is one roll
-// played from a start, and that what it hands on to be written is that roll's replies (`Talked`).
+// played from a start, and that what it hands on to be written is that roll's replies (`Talked`); so they are the plain machine's, or the refusals of a wrong
+// length (specs/Replies).
 // It stands on `roll` and on the kit's `io`, `os` and `libc`; which bytes these read and write nothing proves.
 ghost use mathlib.Core.Path.{_≡_};
 ghost use Prim.Native.Nat.{_≤_};

@@ -1,3 +1,4 @@
 pub mod SmallLaws
 pub mod PlayLaws
+pub mod RepliesLaws
 pub mod JoinLaws

@@ -1,3 +1,4 @@
 -- In reading order.
 pub mod Play
+pub mod Replies
 pub mod Join

@@ -1,7 +1,8 @@
 // A roll played over lent bytes: each line is read, answered and its reply printed, in order.
 // It promises that the replies are those of a run of the well-formed lines' requests, and refusal 1 for each other line (`Played`);
+// that of a whole roll from a start they are the plain machine's, or the refusals of a wrong length (specs/Replies, proofs/RepliesLaws);
 // and that parts of a roll played one after the other are one roll played (`Joins`, proofs/JoinLaws).
-// It stands on `reader` for the lines, on `machine` for the call and on `lines` for the print.
+// It stands on `reader` for the lines, on `machine` for the call, on `lines` for the print and on `claims` for what the replies are.
 ghost use mathlib.Core.Path.{_≡_};
 ghost use Prim.Native.Nat.{_+_, _*_, _≤_};
 ghost use lib.ListN.{length};

@@ -1,6 +1,6 @@
--- Where a lent length is wrong: pool and table stay, and every line gets its refusal.
+-- The replies to a roll that is played from a start: demand 2, of the printed bytes; and where a lent length is wrong, the refusal of each line.
 use mathlib.Core.Path.{_≡_, refl, ap, ap₂, subst, _∙_}
-use mathlib.Core.Bool.{false, not}
+use mathlib.Core.Bool.{true, false, not}
 use mathlib.Core.List.{List, [], _∷_, _++_, map}
 use Prim.Native.Nat.{ℕ, _*_}
 use lib.ListN.{length, drop}
@@ -14,12 +14,30 @@ use Rattle.lines.specs.declared.Line.the-variants.{Call, Malformed}
 use Rattle.lines.specs.Lines.{linesOf}
 use Rattle.state.specs.World.{World, worldOf, freshMachine, lengthsOk}
 use Rattle.state.specs.Start.{startedBy}
-use Rattle.claims.specs.Demands.{Run, none, more}
-use Rattle.claims.proofs.Claims.{claim-wrong-length}
-use Rattle.roll.specs.Play.{malformed, linesIn, requests, replies, printed}
-use Rattle.gazhuppin.specs.FromStart.{FromStart}
-use Rattle.gazhuppin.specs.Replies.{refusedReply, refusedReplies}
-use Rattle.gazhuppin.specs.Promised.{Room}
+use Rattle.claims.specs.Demands.{Run, none, more, RunFrom}
+use Rattle.claims.proofs.Claims.{claim-start, claim-2, claim-wrong-length}
+use Rattle.roll.specs.Play.{malformed, linesIn, requests, replies, printed, Played}
+use Rattle.roll.specs.Replies.{lent, plainReplies, refusedReply, refusedReplies, RepliesArePlain, RepliesAreRefusals}
+
+-- ---- right lengths
+
+-- a run from what a start leaves
+pub run-of : (image roll pool table out₀ out : List ℕ) (v : World)
+    → lengthsOk (length pool) (length table) (length image) ≡ true
+    → (p : Played image (startedBy pool table image) roll (linesOf (length roll)) 1 out₀ out v)
+    → RunFrom (lent image pool) (requests (linesIn roll (linesOf (length roll)))) (p .answers) v
+run-of image roll pool table out₀ out v ok p =
+    subst (λ w. Run image w (requests (linesIn roll (linesOf (length roll)))) (p .answers) v) (claim-start pool table image ok .1) (p .run)
+
+pub replies-are-plain : RepliesArePlain
+unfolding plainReplies
+replies-are-plain image roll pool table out₀ out v ok p =
+    let n = linesOf (length roll) in
+    let run = run-of image roll pool table out₀ out v ok p in
+    let same = claim-2 (lent image pool) (claim-start pool table image ok .0) (requests (linesIn roll n)) (p .answers) v run in
+    p .prints ∙ ap (λ as′. printed 1 (replies (linesIn roll n) as′) ++ drop (n * 19) out₀) same
+
+-- ---- a wrong length
 
 -- row 2 or row 3
 abbrev rowOf : Request → Answered
@@ -46,24 +64,16 @@ started-wrong : (pool table image : List ℕ) → lengthsOk (length pool) (lengt
 unfolding startedBy
 started-wrong pool table image e = rw e
 
--- where a lent length is wrong and the replies fit, pool and table are as they were, and out begins with the refusal of each line
-pub refused-replies : (image roll pool₀ table₀ out₀ pool table out : List ℕ) (lines : ℕ)
-    → FromStart image roll pool₀ table₀ out₀ pool table out lines
-    → lengthsOk (length pool₀) (length table₀) (length image) ≡ false
-    → Room roll out₀
-    → (pool ≡ pool₀) × ((table ≡ table₀) × (out ≡ refusedReplies roll ++ drop (lines * 19) out₀))
+pub replies-are-refusals : RepliesAreRefusals
 unfolding refusedReplies
-refused-replies image roll pool₀ table₀ out₀ pool table out lines r wrong room =
+replies-are-refusals image roll pool table out₀ out v wrong p =
     let n = linesOf (length roll) in
-    let p = r .played room .1 in
-    let v = worldOf (r .played room .0) pool table in
-    let run = subst (λ w. Run image w (requests (linesIn roll n)) (p .answers) v) (started-wrong pool₀ table₀ image wrong) (p .run) in
+    let run = subst (λ w. Run image w (requests (linesIn roll n)) (p .answers) v) (started-wrong pool table image wrong) (p .run) in
     let done = run-refused run wrong in (
       ap (λ (w : World). w .store .pool) (done .0),
       (
         ap (λ (w : World). w .store .table) (done .0),
         p .prints ∙ ap (λ as′. printed 1 (replies (linesIn roll n) as′) ++ drop (n * 19) out₀) (done .1)
-            ∙ ap (λ as′. printed 1 as′ ++ drop (n * 19) out₀) (refused-each (linesIn roll n))
-            ∙ rw (r .answered room) refl,
+            ∙ ap (λ as′. printed 1 as′ ++ drop (n * 19) out₀) (refused-each (linesIn roll n)),
       ),
     )
