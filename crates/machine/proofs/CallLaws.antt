@@ -1,17 +1,17 @@
 -- A call, by each of its ways out; and what a sound state gives to the parts of an accepted call.
 use Prim.Native.Nat.{ℕ, _<_}
 use mathlib.Core.Path.{_≡_, refl, sym, ap, _∙_}
-use mathlib.Core.Bool.{true, false, not, _&&_, _||_, false≢true}
+use mathlib.Core.Bool.{true, false, false≢true}
 use mathlib.Core.List.{List}
-use lib.Dec.{leb, ltb, eqb}
+use lib.Dec.{eqb}
 use lib.ListN.{length, set}
-use borrow.Author.Tests.{ltb-true, ltb-false, lt-ltb, le-leb, lt-leb, eqb-true}
-use Rattle.basics.proofs.TestLaws.{by-cases, and-left, and-right, or-left, or-right}
+use borrow.Author.Tests.{lt-ltb, eqb-true}
+use Rattle.basics.proofs.TestLaws.{and-left, and-right}
 use Rattle.interface.specs.declared.answer.Refusal.{Refusal}
 use Rattle.interface.specs.declared.answer.Refusal.the-variants.{Malformed, NoSuchCall, Unsound, NotOpen, AlreadyOpen, OutsideLimits, SnapshotTaken, NoSnapshot, NotMapped, AlreadyMapped, NoGap, NotWritable, ShareExceeded, TooManyAreas}
 use Rattle.interface.specs.declared.request.Request.{Request}
 use Rattle.interface.specs.Answers.{refusalNumber}
-use Rattle.interface.specs.Requests.{_is_, Write, isCall, pageOf}
+use Rattle.interface.specs.Requests.{Write, isCall, pageOf}
 use Rattle.interface.specs.Slots.{isMapped}
 use Rattle.interface.specs.Refusals.{allMapped, refusal}
 use Rattle.interface.proofs.AcceptedLaws.{accepted}
@@ -58,15 +58,6 @@ some-number NoGap = refl
 some-number NotWritable = refl
 some-number ShareExceeded = refl
 some-number TooManyAreas = refl
-
--- "call code not 1 to 9", as the code tests it
-pub no-call : (n : ℕ) → (ltb n 1 || ltb 9 n) ≡ true → (leb 1 n && leb n 9) ≡ false
-no-call n h =
-    by-cases (ltb n 1) (λ e. rw (lt-leb 1 n (ltb-true n 1 e)))
-    (λ e. let past : ltb 9 n ≡ true = rw e at h in rw (le-leb 1 n (ltb-false n 1 e), lt-leb n 9 (ltb-true 9 n past)))
-
-pub a-call : (n : ℕ) → (ltb n 1 || ltb 9 n) ≡ false → (leb 1 n && leb n 9) ≡ true
-a-call n h = rw (le-leb 1 n (ltb-false n 1 (or-left (ltb n 1) (ltb 9 n) h)), le-leb n 9 (ltb-false 9 n (or-right (ltb n 1) (ltb 9 n) h)))
 
 module _ (image : List ℕ) (w : World) (q : Request) where
   -- a refused call

@@ -31,7 +31,7 @@ pub struct Reply {
 pub fn call(machine: Machine, pool: &mut [u8], table: &mut [u16], image: &[u8], q: Request) -> Reply
     ensures { λ r. ⌜ Stepped (now (image .entry)) (worldOf machine (now (pool .entry)) (now (table .entry))) q (outcomeOf r (now (pool .exit)) (now (table .exit))) ⌝ }
 {
-    if (q.code < 1) | (9 < q.code) {
+    if !q.is_call() {
         return refuse(machine, Refusal::NoSuchCall);
     }
     if !sound(machine, pool, table, image) {

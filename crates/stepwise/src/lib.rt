@@ -61,7 +61,7 @@ pub fn call_over(
         (handed (now (state .exit)) (now (pool .exit)) (now (table .exit))) ⌝ }
 {
     if !is_state(state) {
-        if (q.code < 1) | (9 < q.code) {
+        if !q.is_call() {
             return Told::by(Answer::Refused(Refusal::NoSuchCall));
         }
         return Told::by(Answer::Refused(Refusal::Unsound));

@@ -2,7 +2,6 @@ use mathlib.Core.Path.{sym, _∙_}
 use native.Mathlib.Omega.{arith}
 use borrow.Author.Tests.{not-true, not-false}
 use Rattle.encoding.proofs.LayoutLaws.{state-long}
-use Rattle.machine.proofs.CallLaws.{no-call, a-call}
 use Rattle.stepwise.specs.Calls.{Handed, handed}
 use Rattle.stepwise.proofs.CallLaws.{call-two, call-three, call-stepped}
 use borrow.Author.Needs.{needs}
@@ -17,6 +16,9 @@ hands c = handed (c .args .state .now) (c .args .pool .now) (c .args .table .now
 is-state-requires : tie.Need-is-state-requires
 is-state-requires c κs = search needs
 
+is-call-requires : tie.Need-is-call-requires
+is-call-requires c κs = search needs
+
 by-requires : tie.Need-by-requires
 by-requires c κs = search needs
 
@@ -25,11 +27,12 @@ same-length c = search needs
 
 returns : tie.Need-returns
 returns c =
-    let branch = c .before .before .before .before in
+    let code = c .before .before .is-call in
+    let branch = c .before .before .before in
     let tested = branch .before .is-state in
     let first = branch .before .before .before .before .before .before .before in
     let no-state = sym (tested .ensures) ∙ not-true (tested .result) (branch .if1 .taken) in
-    rw (c .by .ensures) (call-two (first .args .image .now) (hands first) (first .args .q) no-state (no-call (first .args .q .code) (c .before .if2 .taken)))
+    rw (c .by .ensures) (call-two (first .args .image .now) (hands first) (first .args .q) no-state (sym (code .ensures) ∙ not-true (code .result) (c .before .if2 .taken)))
 
 by-requires-2 : tie.Need-by-requires-2
 by-requires-2 c κs = search needs
@@ -39,11 +42,12 @@ same-length-2 c = search needs
 
 returns-2 : tie.Need-returns-2
 returns-2 c =
-    let branch = c .before .before .before .before in
+    let code = c .before .before .is-call in
+    let branch = c .before .before .before in
     let tested = branch .before .is-state in
     let first = branch .before .before .before .before .before .before .before in
     let no-state = sym (tested .ensures) ∙ not-true (tested .result) (branch .if1 .taken) in
-    rw (c .by2 .ensures) (call-three (first .args .image .now) (hands first) (first .args .q) no-state (a-call (first .args .q .code) (c .before .if2 .left)))
+    rw (c .by2 .ensures) (call-three (first .args .image .now) (hands first) (first .args .q) no-state (sym (code .ensures) ∙ not-false (code .result) (c .before .if2 .left)))
 
 decode-requires : tie.Need-decode-requires
 decode-requires c κs =
@@ -94,6 +98,7 @@ call-over-spec =
     tie.close
     (tie.spec
     is-state-requires
+    is-call-requires
     by-requires
     same-length
     returns
