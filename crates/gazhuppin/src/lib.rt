@@ -32,7 +32,8 @@ pub extern "C" fn gazhuppin_play(
     table: &mut [u16],
     out: &mut [u8],
 ) -> usize
-    ensures { λ r. ⌜ FromStart (now (image .entry)) (now (roll .entry)) (now (pool .entry)) (now (table .entry)) (now (out .entry)) (now (pool .exit)) (now (table .exit)) (now (out .exit)) r ⌝ }
+    ensures { λ r. ⌜ FromStart (now (image .entry)) (now (roll .entry)) (now (pool .entry)) (now (table .entry)) (now (out .entry)) (now (pool .exit))
+        (now (table .exit)) (now (out .exit)) r ⌝ }
 {
     let lines = lines_of(roll.len());
     if out.len() < lines * Line::REPLY {

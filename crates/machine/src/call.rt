@@ -29,7 +29,8 @@ pub struct Reply {
 
 // One request. Whatever is handed in, it ends with the outcome of `step`.
 pub fn call(machine: Machine, pool: &mut [u8], table: &mut [u16], image: &[u8], q: Request) -> Reply
-    ensures { λ r. ⌜ Stepped (now (image .entry)) (worldOf machine (now (pool .entry)) (now (table .entry))) q (outcomeOf r (now (pool .exit)) (now (table .exit))) ⌝ }
+    ensures { λ r. ⌜ Stepped (now (image .entry)) (worldOf machine (now (pool .entry)) (now (table .entry))) q
+        (outcomeOf r (now (pool .exit)) (now (table .exit))) ⌝ }
 {
     if !q.is_call() {
         return refuse(machine, Refusal::NoSuchCall);
@@ -75,10 +76,12 @@ fn perform(
     frames: u8,
     images: u8,
 ) -> Reply
-    requires { ⌜ Asked (now image) frames images q (sandboxAt (worldOf machine (now pool) (now table)) (q .sandbox)) (kept (machine .held) (now pool) (now table)) ⌝ }
+    requires { ⌜ Asked (now image) frames images q (sandboxAt (worldOf machine (now pool) (now table)) (q .sandbox))
+        (kept (machine .held) (now pool) (now table)) ⌝ }
     requires { ⌜ pagesIn (length (now pool)) ≡ frames ⌝ }
     requires { ⌜ present ≡ presentAfter q (sandboxAt (worldOf machine (now pool) (now table)) (q .sandbox)) ⌝ }
-    ensures { λ r. ⌜ Performed (now (image .entry)) (worldOf machine (now (pool .entry)) (now (table .entry))) q (outcomeOf r (now (pool .exit)) (now (table .exit))) ⌝ }
+    ensures { λ r. ⌜ Performed (now (image .entry)) (worldOf machine (now (pool .entry)) (now (table .entry))) q
+        (outcomeOf r (now (pool .exit)) (now (table .exit))) ⌝ }
 {
     let k = q.sandbox as usize;
     let mut m = machine;

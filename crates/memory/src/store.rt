@@ -33,7 +33,8 @@ pub fn store_after(
     images: u8,
 ) -> Held
     requires { ⌜ Asked (now image) frames images q b (kept held (now pool) (now table)) ⌝ }
-    ensures { λ r. ⌜ StoreStepped (now (image .entry)) frames q b (kept held (now (pool .entry)) (now (table .entry))) (kept r (now (pool .exit)) (now (table .exit))) ⌝ }
+    ensures { λ r. ⌜ StoreStepped (now (image .entry)) frames q b (kept held (now (pool .entry)) (now (table .entry)))
+        (kept r (now (pool .exit)) (now (table .exit))) ⌝ }
 {
     let code = q.code;
     let s = q.sandbox as u8;
@@ -66,7 +67,8 @@ fn write(
 ) -> Held
     requires { ⌜ q .code ≡ Write ⌝ }
     requires { ⌜ Asked (now image) frames images q b (kept held (now pool) (now table)) ⌝ }
-    ensures { λ r. ⌜ StoreStepped (now (image .entry)) frames q b (kept held (now (pool .entry)) (now (table .entry))) (kept r (now (pool .exit)) (now (table .exit))) ⌝ }
+    ensures { λ r. ⌜ StoreStepped (now (image .entry)) frames q b (kept held (now (pool .entry)) (now (table .entry)))
+        (kept r (now (pool .exit)) (now (table .exit))) ⌝ }
 {
     let s = q.sandbox as u8;
     let page = PageNo((q.p1 / 256) as u8);
@@ -104,7 +106,8 @@ fn touch(
     requires { ⌜ sourceEnd source * 256 ≤ length (now image) ⌝ }
     requires { ⌜ Filed 256 frames (kept held (now pool) (now table)) ⌝ }
     requires { ⌜ (entry (kept held (now pool) (now table)) (frontOf s (page .0)) ≡ 0 → usedBelow (entry (kept held (now pool) (now table))) 512 < frames) ⌝ }
-    ensures { λ r. ⌜ TouchStepped (now (image .entry)) frames s (page .0) committed source (kept held (now (pool .entry)) (now (table .entry))) (kept r (now (pool .exit)) (now (table .exit))) ⌝ }
+    ensures { λ r. ⌜ TouchStepped (now (image .entry)) frames s (page .0) committed source (kept held (now (pool .entry)) (now (table .entry)))
+        (kept r (now (pool .exit)) (now (table .exit))) ⌝ }
 {
     let front = table::entry::front(table, s, page);
     if front != 0 {
@@ -128,7 +131,8 @@ fn rewind(
     requires { ⌜ Ready images b ⌝ }
     requires { ⌜ length (now image) ≡ images * 256 ⌝ }
     requires { ⌜ Ranged 256 (now pool) (now table) ⌝ }
-    ensures { λ r. ⌜ kept r (now (pool .exit)) (now (table .exit)) ≡ rewindTo 256 (s * 128) (keepsFront b) (copyPage (now (image .entry)) b) (kept held (now (pool .entry)) (now (table .entry))) 64 ⌝ }
+    ensures { λ r. ⌜ kept r (now (pool .exit)) (now (table .exit)) ≡ rewindTo 256 (s * 128) (keepsFront b) (copyPage (now (image .entry)) b)
+        (kept held (now (pool .entry)) (now (table .entry))) 64 ⌝ }
 {
     let present = b.present;
     let mut h = held;
@@ -153,7 +157,9 @@ fn rewind_page(
     requires { ⌜ Near (present .list) ⌝ }
     requires { ⌜ Ranged 256 (now pool) (now table) ⌝ }
     requires { ⌜ sourceEnd (sourceOf (backingAt (slots present (page .0)))) * 256 ≤ length (now image) ⌝ }
-    ensures { λ r. ⌜ kept r (now (pool .exit)) (now (table .exit)) ≡ rewindPage 256 (frontOf s (page .0)) (backOf s (page .0)) (isCommitted (slots present (page .0))) (sourceBytes (now (image .entry)) (sourceOf (backingAt (slots present (page .0))))) (kept held (now (pool .entry)) (now (table .entry))) ⌝ }
+    ensures { λ r. ⌜ kept r (now (pool .exit)) (now (table .exit)) ≡ rewindPage 256 (frontOf s (page .0)) (backOf s (page .0))
+        (isCommitted (slots present (page .0))) (sourceBytes (now (image .entry)) (sourceOf (backingAt (slots present (page .0)))))
+        (kept held (now (pool .entry)) (now (table .entry))) ⌝ }
 {
     let front = table::entry::front(table, s, page);
     if front == 0 {

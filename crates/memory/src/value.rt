@@ -59,7 +59,8 @@ fn read(pool: &[u8], table: &[u16], image: &[u8], b: Sandbox, q: Request, images
     requires { ⌜ Ready images b ⌝ }
     requires { ⌜ length (now image) ≡ images * 256 ⌝ }
     requires { ⌜ Ranged 256 (now pool) (now table) ⌝ }
-    ensures { λ r. ⌜ ((h : Words) → r ≡ getD (pageRead (now (image .entry)) (kept h (now (pool .entry)) (now (table .entry))) b (q .sandbox) (pageOf q)) (offsetOf q) 0) ⌝ }
+    ensures { λ r. ⌜
+        ((h : Words) → r ≡ getD (pageRead (now (image .entry)) (kept h (now (pool .entry)) (now (table .entry))) b (q .sandbox) (pageOf q)) (offsetOf q) 0) ⌝ }
 {
     let present = b.present;
     let page = PageNo((q.p1 / 256) as u8);

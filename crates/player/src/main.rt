@@ -27,7 +27,8 @@ fn main() {
 
 // Plays the roll from a start, line by line, and says whether every reply was written. "Lines after the 65,535th are not read."
 fn perform(pool: &mut [u8], table: &mut [u16], image: &[u8]) -> bool
-    ensures { λ r. ⌜ Talked (now (image .entry)) (startedBy (now (pool .entry)) (now (table .entry)) (now (image .entry))) (now (pool .exit)) (now (table .exit)) r ⌝ }
+    ensures { λ r. ⌜ Talked (now (image .entry)) (startedBy (now (pool .entry)) (now (table .entry)) (now (image .entry))) (now (pool .exit))
+        (now (table .exit)) r ⌝ }
 {
     let mut machine = soundness::start::start(pool, table, image).machine;
     let mut number: u32 = 1;
@@ -64,7 +65,8 @@ fn turn(
 ) -> Progress
     requires { ⌜ (length (now line) ≡ 43) × (length (now reply) ≡ 19) ⌝ }
     requires { ⌜ number ≤ 65535 ⌝ }
-    ensures { λ r. ⌜ Answers (now (image .entry)) number (worldOf machine (now (pool .entry)) (now (table .entry))) (turnOf r (now (line .exit)) (now (reply .exit))) (worldOf (r .machine) (now (pool .exit)) (now (table .exit))) ⌝ }
+    ensures { λ r. ⌜ Answers (now (image .entry)) number (worldOf machine (now (pool .entry)) (now (table .entry)))
+        (turnOf r (now (line .exit)) (now (reply .exit))) (worldOf (r .machine) (now (pool .exit)) (now (table .exit))) ⌝ }
     ensures { λ r. ⌜ r .more ≡ goesOn (turnOf r (now (line .exit)) (now (reply .exit))) ⌝ }
 {
     let got = io::read_full(libc::STDIN_FILENO, line);

@@ -58,7 +58,8 @@ fn whole_pages(low: usize, high: usize, bytes: usize) -> bool
 fn sandboxes_ok(sandboxes: [Sandbox; 4], table: &[u16], images: u8) -> bool
     requires { ⌜ images ≤ 64 ⌝ }
     requires { ⌜ length (now table) ≡ 512 ⌝ }
-    ensures { λ r. ⌜ ((h : Words) (pool : List ℕ) → r ≡ every (λ s. sandboxOk images (kept h pool (now (table .entry))) s (getD sandboxes s closedSandbox)) 0 4) ⌝ }
+    ensures { λ r. ⌜
+        ((h : Words) (pool : List ℕ) → r ≡ every (λ s. sandboxOk images (kept h pool (now (table .entry))) s (getD sandboxes s closedSandbox)) 0 4) ⌝ }
 {
     for s in 0..4u8 {
         let k = s as usize;

@@ -16,7 +16,8 @@ pub struct Started {
 // "starting clears pool and table, or, where a length is wrong, is refusal 3 and clears nothing, though the state it gives is fresh"
 pub fn start(pool: &mut [u8], table: &mut [u16], image: &[u8]) -> Started
     ensures { λ r. ⌜ r .answer ≡ startAnswer (now (pool .entry)) (now (table .entry)) (now (image .entry)) ⌝ }
-    ensures world { λ r. ⌜ worldOf (r .machine) (now (pool .exit)) (now (table .exit)) ≡ startedBy (now (pool .entry)) (now (table .entry)) (now (image .entry)) ⌝ }
+    ensures world { λ r. ⌜ worldOf (r .machine) (now (pool .exit)) (now (table .exit)) ≡ startedBy (now (pool .entry)) (now (table .entry))
+        (now (image .entry)) ⌝ }
 {
     let mut machine = Machine::fresh();
     if !lengths_ok(pool.len(), table.len(), image.len()) {

@@ -43,7 +43,8 @@ pub fn read_byte(
     requires { ⌜ page .0 < 64 ⌝ }
     requires { ⌜ Ranged 256 (now pool) (now table) ⌝ }
     requires { ⌜ sourceEnd source * 256 ≤ length (now image) ⌝ }
-    ensures { λ r. ⌜ ((h : Words) → r ≡ getD (pageFrom (underFront committed (sourceBytes (now (image .entry)) source) (contents 256 (kept h (now (pool .entry)) (now (table .entry))) (backOf sandbox (page .0)))) (contents 256 (kept h (now (pool .entry)) (now (table .entry))) (frontOf sandbox (page .0)))) offset 0) ⌝ }
+    ensures { λ r. ⌜
+        ((h : Words) → r ≡ getD (pageFrom (underFront committed (sourceBytes (now (image .entry)) source) (contents 256 (kept h (now (pool .entry)) (now (table .entry))) (backOf sandbox (page .0)))) (contents 256 (kept h (now (pool .entry)) (now (table .entry))) (frontOf sandbox (page .0)))) offset 0) ⌝ }
 {
     let front = front(table, sandbox, page);
     if front != 0 {
@@ -61,7 +62,8 @@ pub fn store_byte(pool: &mut [u8], table: &[u16], sandbox: u8, page: PageNo, off
     requires { ⌜ sandbox < 4 ⌝ }
     requires { ⌜ page .0 < 64 ⌝ }
     requires { ⌜ Ranged 256 (now pool) (now table) ⌝ }
-    ensures { λ r. ⌜ ((h : Words) → kept h (now (pool .exit)) (now (table .entry)) ≡ storeByte 256 (frontOf sandbox (page .0)) offset byte (kept h (now (pool .entry)) (now (table .entry)))) ⌝ }
+    ensures { λ r. ⌜
+        ((h : Words) → kept h (now (pool .exit)) (now (table .entry)) ≡ storeByte 256 (frontOf sandbox (page .0)) offset byte (kept h (now (pool .entry)) (now (table .entry)))) ⌝ }
 {
     let front = front(table, sandbox, page);
     if front == 0 {
@@ -88,7 +90,8 @@ pub fn touch(
     requires { ⌜ Filed 256 frames (kept held (now pool) (now table)) ⌝ }
     requires { ⌜ getD (now table) (frontOf sandbox (page .0)) 0 ≡ 0 ⌝ }
     requires { ⌜ usedBelow (entry (kept held (now pool) (now table))) 512 < frames ⌝ }
-    ensures { λ r. ⌜ Touched 256 frames (frontOf sandbox (page .0)) (underFront committed (sourceBytes (now (image .entry)) source) (contents 256 (kept held (now (pool .entry)) (now (table .entry))) (backOf sandbox (page .0)))) (kept held (now (pool .entry)) (now (table .entry))) (kept r (now (pool .exit)) (now (table .exit))) ⌝ }
+    ensures { λ r. ⌜ Touched 256 frames (frontOf sandbox (page .0))
+        (underFront committed (sourceBytes (now (image .entry)) source) (contents 256 (kept held (now (pool .entry)) (now (table .entry))) (backOf sandbox (page .0)))) (kept held (now (pool .entry)) (now (table .entry))) (kept r (now (pool .exit)) (now (table .exit))) ⌝ }
 {
     let found = held.greatest_free(frames);
     match found {
@@ -112,7 +115,8 @@ pub fn free_front(held: Held, pool: &mut [u8], table: &mut [u16], sandbox: u8, p
     requires { ⌜ sandbox < 4 ⌝ }
     requires { ⌜ page .0 < 64 ⌝ }
     requires { ⌜ Ranged 256 (now pool) (now table) ⌝ }
-    ensures { λ r. ⌜ kept r (now (pool .exit)) (now (table .exit)) ≡ free 256 (frontOf sandbox (page .0)) (kept held (now (pool .entry)) (now (table .entry))) ⌝ }
+    ensures { λ r. ⌜ kept r (now (pool .exit)) (now (table .exit)) ≡ free 256 (frontOf sandbox (page .0))
+        (kept held (now (pool .entry)) (now (table .entry))) ⌝ }
 {
     let at = front_index(sandbox, page);
     let entry = table[at];
@@ -137,7 +141,8 @@ pub fn free_range(
     requires { ⌜ sandbox < 4 ⌝ }
     requires { ⌜ first .0 + n ≤ 64 ⌝ }
     requires { ⌜ Ranged 256 (now pool) (now table) ⌝ }
-    ensures { λ r. ⌜ kept r (now (pool .exit)) (now (table .exit)) ≡ freeTo 256 (frontOf sandbox (first .0)) (kept held (now (pool .entry)) (now (table .entry))) n ⌝ }
+    ensures { λ r. ⌜ kept r (now (pool .exit)) (now (table .exit)) ≡ freeTo 256 (frontOf sandbox (first .0))
+        (kept held (now (pool .entry)) (now (table .entry))) n ⌝ }
 {
     let mut h = held;
     for i in 0..n {
@@ -161,7 +166,8 @@ pub fn restore_page(
     requires { ⌜ page .0 < 64 ⌝ }
     requires { ⌜ Ranged 256 (now pool) (now table) ⌝ }
     requires { ⌜ sourceEnd source * 256 ≤ length (now image) ⌝ }
-    ensures { λ r. ⌜ kept r (now (pool .exit)) (now (table .exit)) ≡ rewindPage 256 (frontOf sandbox (page .0)) (backOf sandbox (page .0)) keep (sourceBytes (now (image .entry)) source) (kept held (now (pool .entry)) (now (table .entry))) ⌝ }
+    ensures { λ r. ⌜ kept r (now (pool .exit)) (now (table .exit)) ≡ rewindPage 256 (frontOf sandbox (page .0)) (backOf sandbox (page .0)) keep
+        (sourceBytes (now (image .entry)) source) (kept held (now (pool .entry)) (now (table .entry))) ⌝ }
 {
     let front = front(table, sandbox, page);
     if front == 0 {
@@ -193,7 +199,8 @@ fn take(
     requires { ⌜ sourceEnd source * 256 ≤ length (now image) ⌝ }
     requires { ⌜ f .0 < 128 ⌝ }
     requires { ⌜ f .0 * 256 + 256 ≤ length (now pool) ⌝ }
-    ensures { λ r. ⌜ kept r (now (pool .exit)) (now (table .exit)) ≡ take 256 (frontOf sandbox (page .0)) (f .0) (underFront committed (sourceBytes (now (image .entry)) source) (contents 256 (kept held (now (pool .entry)) (now (table .entry))) (backOf sandbox (page .0)))) (kept held (now (pool .entry)) (now (table .entry))) ⌝ }
+    ensures { λ r. ⌜ kept r (now (pool .exit)) (now (table .exit)) ≡ take 256 (frontOf sandbox (page .0)) (f .0)
+        (underFront committed (sourceBytes (now (image .entry)) source) (contents 256 (kept held (now (pool .entry)) (now (table .entry))) (backOf sandbox (page .0)))) (kept held (now (pool .entry)) (now (table .entry))) ⌝ }
 {
     let under = back_if(table, sandbox, page, committed);
     fill_frame(pool, f, under, image, source);
@@ -221,7 +228,8 @@ fn fill_frame(pool: &mut [u8], f: FrameNo, entry: u16, image: &[u8], source: Sou
     requires { ⌜ entry ≤ 128 ⌝ }
     requires { ⌜ entry * 256 ≤ length (now pool) ⌝ }
     requires { ⌜ sourceEnd source * 256 ≤ length (now image) ⌝ }
-    ensures { λ r. ⌜ now (pool .exit) ≡ setFrame 256 (now (pool .entry)) (f .0) (pageFrom (sourceBytes (now (image .entry)) source) (pageIn 256 (now (pool .entry)) entry)) ⌝ }
+    ensures { λ r. ⌜ now (pool .exit) ≡ setFrame 256 (now (pool .entry)) (f .0)
+        (pageFrom (sourceBytes (now (image .entry)) source) (pageIn 256 (now (pool .entry)) entry)) ⌝ }
 {
     if entry == 0 {
         crate::source::fill_frame(pool, f, image, source);
