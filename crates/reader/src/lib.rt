@@ -1,6 +1,6 @@
 // The roll's reader: the lent bytes, and the number of the line before which it stands.
 // It promises that what is read is what that line says (`lineAt` of `lines`): the 43 bytes there, or "A short last line"; and that it moves on by one line.
-// It stands on `lines`, whose `line_at` does the work. Other crates call `read_line`, which takes the bytes and the number.
+// It stands on `lines`, whose `line_at` does the work. `roll` goes over a roll with one reader.
 ghost use mathlib.Core.Path.{_≡_};
 ghost use Prim.Native.Nat.{_+_, _<_, _^_};
 ghost use Rattle.lines.specs.Lines.{lineAt};
@@ -27,27 +27,13 @@ pub fn next<'a>(reader: Reader<'a>) -> Line
     line_at(reader.src, reader.line)
 }
 
-// Moves on by a line: "the next 43 bytes follow".
-pub fn skip<'s, 'a>(reader: &'s mut Reader<'a>)
-    requires { ⌜ now reader .line + 1 < 2 ^ 64 ⌝ }
-    ensures { λ _. ⌜ (now (reader .exit) .src ≡ now (reader .entry) .src) × (now (reader .exit) .line ≡ now (reader .entry) .line + 1) ⌝ }
-{
-    reader.line = reader.line + 1;
-}
-
-// The reader, before the line of that number.
-pub fn moved<'a>(reader: Reader<'a>, line: usize) -> Reader<'a>
-    ensures { λ r. ⌜ (r .src ≡ reader .entry .src) × (r .line ≡ line) ⌝ }
+// The reader, moved on by a line: "the next 43 bytes follow".
+pub fn skip<'a>(reader: Reader<'a>) -> Reader<'a>
+    requires { ⌜ reader .line + 1 < 2 ^ 64 ⌝ }
+    ensures { λ r. ⌜ (r .src ≡ reader .entry .src) × (r .line ≡ reader .entry .line + 1) ⌝ }
 {
     Reader {
         src: reader.src,
-        line,
+        line: reader.line + 1,
     }
-}
-
-// What the line of that number says, from 0 on.
-pub fn read_line(src: &[u8], line: usize) -> Line
-    ensures { λ r. ⌜ r ≡ lineAt (now (src .entry)) line ⌝ }
-{
-    next(moved(new(src), line))
 }

@@ -1,3 +1,4 @@
+pub mod Again
 pub mod SmallLaws
 pub mod PlayLaws
 pub mod RepliesLaws

@@ -1,5 +1,5 @@
 -- How a played roll grows by a line.
-use mathlib.Core.Path.{_≡_, refl, sym, ap, _∙_}
+use mathlib.Core.Path.{_≡_, refl, sym, ap, subst, _∙_}
 use mathlib.Core.List.{List, [], _∷_, _++_, append-assoc, append-nil}
 use Prim.Native.Nat.{ℕ, zero, suc, _+_, _-_, _*_, _≤_}
 use native.Mathlib.Omega.{arith}
@@ -17,7 +17,7 @@ use Rattle.lines.proofs.PrintLaws.{length-reply}
 use Rattle.state.specs.World.{World}
 use Rattle.machine.specs.Step.{Outcome}
 use Rattle.claims.specs.Demands.{Run, none, more}
-use Rattle.roll.specs.Play.{malformed, linesIn, requests, replies, printed, FitsLine, Fits, Turned, Played}
+use Rattle.roll.specs.Play.{malformed, linesIn, requests, replies, printed, FitsLine, Fits, Turned, Replied, Played}
 
 -- ---- runs
 
@@ -94,6 +94,12 @@ part-length xs ys at e g l h =
     let t : length (take at xs) ≡ at = length-take-le at xs (omega arith) in
     rw (n, length-append (take at xs) (ys ++ drop 19 (drop at xs)), length-append ys (drop 19 (drop at xs)), length-drop 19 (drop at xs), length-drop at xs, t, h) (omega arith)
 
+-- the same bytes, as `Replied` has them
+pub part-is : (xs ys : List ℕ) (at e : ℕ) → e ≡ at + 19 → take at xs ++ (ys ++ drop (e - at) (drop at xs)) ≡ take at xs ++ (ys ++ drop (at + 19) xs)
+part-is xs ys at e g =
+    let n : e - at ≡ 19 = omega arith in
+    rw (n, drop-drop) refl
+
 -- ---- played
 
 pub played-none : (image roll out : List ℕ) (w : World) (first : ℕ) → Played image w roll 0 first out out w
@@ -147,6 +153,13 @@ module _ (image roll out₀ out ys : List ℕ) (w v : World) (k first at e : ℕ
 
   pub played-more : Turned image v (lineAt roll k) o → Played image w roll (k + 1) first out₀ now′ (o .world)
   played-more t = by-line (lineAt roll k) refl t
+
+-- a line more is played where it is replied to
+pub played-on : (image roll out₀ out out′ : List ℕ) (w v u : World) (k first : ℕ) → Played image w roll k first out₀ out v
+    → Replied image v (lineAt roll k) (first + k) (k * 19) out out′ u → Played image w roll (k + 1) first out₀ out′ u
+played-on image roll out₀ out out′ w v u k first p r =
+    subst (λ l. Played image w roll (k + 1) first out₀ l u) (part-is out (printedReply (first + k) (r .answer .number) (r .answer .value)) (k * 19) (k * 19 + 19) refl ∙ sym (r .prints))
+    (played-more image roll out₀ out (printedReply (first + k) (r .answer .number) (r .answer .value)) w v k first (k * 19) (k * 19 + 19) (record { answer = r .answer; world = u }) p refl refl refl (r .fits) (r .turned))
 
 -- every line has a reply
 pub a-reply-each : (image : List ℕ) (w : World) (roll : List ℕ) (n first : ℕ) (out₀ out : List ℕ) (v : World) (p : Played image w roll n first out₀ out v)

@@ -2,7 +2,7 @@
 use mathlib.Core.Path.{_≡_}
 use mathlib.Core.List.{List, [], _∷_, _++_}
 use Prim.Native.Nat.{ℕ, zero, suc, _+_, _*_}
-use lib.ListN.{drop}
+use lib.ListN.{take, drop}
 use Rattle.interface.specs.declared.request.Request.{Request}
 use Rattle.interface.specs.Answers.{Answered}
 use Rattle.lines.specs.declared.Line.{Line}
@@ -53,6 +53,13 @@ Fits first (a ∷ answers) = FitsLine first a × Fits (first + 1) answers
 abbrev pub Turned : List ℕ → World → Line → Outcome → Type 0
 Turned image w (Call q) o = Stepped image w q o
 Turned image w Malformed o = o ≡ record { answer = malformed; world = w }
+
+-- one line with its reply: what is printed for it, 19 bytes, stands at a place of out, no number wider than its columns; the rest of it is as it was
+pub record Replied (image : List ℕ) (w : World) (line : Line) (number at : ℕ) (out₀ out : List ℕ) (v : World) : Type 0 where
+  pub answer : Answered
+  pub turned : Turned image w line (record { answer = answer; world = v })
+  pub fits : FitsLine number answer
+  pub prints : out ≡ take at out₀ ++ (printedReply number (answer .number) (answer .value) ++ drop (at + 19) out₀)
 
 -- n lines of a roll are played from one world to another: some answers are those of a run of the well-formed lines' requests, and what is printed
 -- for each line, 19 bytes, stands at the start of out, no number wider than its columns; the rest of it is as it was

@@ -11,7 +11,7 @@ ghost use Rattle.lines.specs.Lines.{linesOf};
 ghost use Rattle.lines.specs.Prints.{printedReply};
 ghost use Rattle.state.specs.World.{worldOf};
 ghost use Rattle.machine.specs.Parts.{outcomeOf};
-ghost use Rattle.roll.specs.Play.{Turned, Played};
+ghost use Rattle.roll.specs.Play.{Turned, Replied, Played};
 use interface::answer::Answer;
 use interface::answer::Refusal;
 use lines::Line;
@@ -19,7 +19,9 @@ use lines::lines_of;
 use lines::print_reply;
 use machine::call::Reply;
 use machine::call::call;
-use reader::read_line;
+use reader::new;
+use reader::next;
+use reader::skip;
 use state::sandbox::Machine;
 
 // Plays a roll, or a part of one that starts at a line's start, whose first line has the number first. Each line's reply is 19 bytes of out.
@@ -37,20 +39,62 @@ pub fn play(
     requires { ⌜ first + linesOf (length (now roll)) ≤ 1000000 ⌝ }
     ensures { λ r. ⌜ Played (now (image .entry)) (worldOf machine (now (pool .entry)) (now (table .entry))) (now (roll .entry)) (linesOf (length (now (roll .entry)))) first (now (out .entry)) (now (out .exit)) (worldOf r (now (pool .exit)) (now (table .exit))) ⌝ }
 {
-    let n = lines_of(roll.len());
+    play_lines(
+        machine,
+        pool,
+        table,
+        image,
+        roll,
+        first,
+        out,
+        lines_of(roll.len()),
+    )
+}
+
+// The first n lines of the roll, over which one reader goes line by line.
+fn play_lines(
+    machine: Machine,
+    pool: &mut [u8],
+    table: &mut [u16],
+    image: &[u8],
+    roll: &[u8],
+    first: u32,
+    out: &mut [u8],
+    n: usize,
+) -> Machine
+    requires { ⌜ (n * 19 ≤ length (now out)) × (first + n ≤ 1000000) ⌝ }
+    ensures { λ r. ⌜ Played (now (image .entry)) (worldOf machine (now (pool .entry)) (now (table .entry))) (now (roll .entry)) n first (now (out .entry)) (now (out .exit)) (worldOf r (now (pool .exit)) (now (table .exit))) ⌝ }
+{
     let mut state = machine;
-    let mut k: usize = 0;
-    while k < n {
-        let r = turn(state, pool, table, image, read_line(roll, k));
-        let after = r.machine;
-        state = after;
-        let at = k * Line::REPLY;
-        let end = at + Line::REPLY;
-        let answer = r.answer;
-        print(&mut out[at..end], first + k as u32, answer);
-        k += 1;
+    let mut reader = new(roll);
+    while reader.line < n {
+        let line = next(reader);
+        state = answer(state, pool, table, image, line, first, reader.line, out);
+        reader = skip(reader);
     }
     state
+}
+
+// One line, with its reply: 19 bytes of out.
+fn answer<'a, 'b>(
+    machine: Machine,
+    pool: &'a mut [u8],
+    table: &'a mut [u16],
+    image: &'b [u8],
+    line: Line,
+    first: u32,
+    k: usize,
+    out: &'a mut [u8],
+) -> Machine
+    requires { ⌜ (k * 19 + 19 ≤ length (now out)) × (first + k ≤ 999999) ⌝ }
+    ensures { λ r. ⌜ Replied (now (image .entry)) (worldOf machine (now (pool .entry)) (now (table .entry))) line (first + k) (k * 19) (now (out .entry)) (now (out .exit)) (worldOf r (now (pool .exit)) (now (table .exit))) ⌝ }
+{
+    let r = turn(machine, pool, table, image, line);
+    let at = k * Line::REPLY;
+    let end = at + Line::REPLY;
+    let answer = r.answer;
+    print(&mut out[at..end], first + k as u32, answer);
+    r.machine
 }
 
 // One line: its request is called; a malformed one is refused.

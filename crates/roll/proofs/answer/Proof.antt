@@ -1,0 +1,79 @@
+use mathlib.Core.Path.{refl, ap, _∙_}
+use mathlib.Core.List.{_++_}
+use lib.ListN.{take, drop}
+use Prim.Native.Nat.{_+_, _*_}
+use native.Mathlib.Omega.{arith}
+use borrow.Author.Needs.{needs}
+use Rattle.interface.specs.Answers.{numberOf, valueOf}
+use Rattle.roll.proofs.PlayLaws.{part-is}
+use Rattle.roll.proofs.SmallLaws.{number-small}
+use Rattle.roll.proofs.answer.Statement.{statement}
+use Rattle.roll.proofs.answer.Tie as tie
+
+turn-requires : tie.Need-turn-requires
+turn-requires c κs = search needs
+
+mul-at : tie.Need-mul-at
+mul-at c = search needs
+
+add-end : tie.Need-add-end
+add-end c = search needs
+
+sub-print : tie.Need-sub-print
+sub-print c = search needs
+
+part-print-start : tie.Need-part-print-start
+part-print-start c = search needs
+
+part-print-end : tie.Need-part-print-end
+part-print-end c = search needs
+
+cast-print : tie.Need-cast-print
+cast-print c = search needs
+
+add-print : tie.Need-add-print
+add-print c = search needs
+
+print-requires : tie.Need-print-requires
+print-requires c κs = search needs
+
+same-length : tie.Need-same-length
+same-length c = search needs
+
+same-length-2 : tie.Need-same-length-2
+same-length-2 c = search needs
+
+same-length-3 : tie.Need-same-length-3
+same-length-3 c = search needs
+
+returns : tie.Need-returns
+returns c =
+    let start = c .before .before .before .before .before .before .before .before .before .before .before .before .before .before .before .before in
+    let got = c .before .before .before .before .before .before .before .before .before .turn in
+    let shown = c .before .before .before .print in
+    let a = start .args in
+    let at = a .k * 19 in
+    record {
+      answer = record { number = numberOf (got .result .answer); value = valueOf (got .result .answer) };
+      turned = got .ensures .0;
+      fits = (omega (arith, start .pre .1), (omega (arith, number-small (got .result .answer)), (omega (arith, got .ensures .1), tt)));
+      prints = part-is (a .out .now) (shown .last .0) at (at + 19) refl ∙ ap (λ ys. take at (a .out .now) ++ (ys ++ drop (at + 19) (a .out .now))) (shown .ensures);
+    }
+
+pub answer-spec : {M : Type 1} → statement M
+answer-spec =
+    tie.close
+    (tie.spec
+    turn-requires
+    mul-at
+    add-end
+    sub-print
+    part-print-start
+    part-print-end
+    cast-print
+    add-print
+    print-requires
+    same-length
+    same-length-2
+    same-length-3
+    returns)
