@@ -69,14 +69,14 @@ fn play_lines(
     let mut reader = new(roll);
     while reader.line < n {
         let line = next(reader);
-        state = answer(state, pool, table, image, line, first, reader.line, out);
+        state = reply(state, pool, table, image, line, first, reader.line, out);
         reader = skip(reader);
     }
     state
 }
 
 // One line, with its reply: 19 bytes of out.
-fn answer<'a, 'b>(
+fn reply<'a, 'b>(
     machine: Machine,
     pool: &'a mut [u8],
     table: &'a mut [u16],

@@ -7,8 +7,8 @@ use borrow.Author.Needs.{needs}
 use Rattle.interface.specs.Answers.{numberOf, valueOf}
 use Rattle.roll.proofs.PlayLaws.{part-is}
 use Rattle.roll.proofs.SmallLaws.{number-small}
-use Rattle.roll.proofs.answer.Statement.{statement}
-use Rattle.roll.proofs.answer.Tie as tie
+use Rattle.roll.proofs.reply.Statement.{statement}
+use Rattle.roll.proofs.reply.Tie as tie
 
 turn-requires : tie.Need-turn-requires
 turn-requires c κs = search needs
@@ -60,8 +60,8 @@ returns c =
       prints = part-is (a .out .now) (shown .last .0) at (at + 19) refl ∙ ap (λ ys. take at (a .out .now) ++ (ys ++ drop (at + 19) (a .out .now))) (shown .ensures);
     }
 
-pub answer-spec : {M : Type 1} → statement M
-answer-spec =
+pub reply-spec : {M : Type 1} → statement M
+reply-spec =
     tie.close
     (tie.spec
     turn-requires
