@@ -43,22 +43,26 @@ module _ (R : RattleType) (x : RefT (List (R .Denot))) where
       (fsep (fobor κ q (Held R (length ys) (x .ptr .0) (x .ptr .1) (x .name)))
       (fsep (fobs (x .name) (codedHoleys R .code (heres R ys))) (fauth (x .name) (codedHoleys R .code (heres R ys)))))
 
-  module _ {M : Type 1} (𝓤 : URA M) (H : Heap 𝓤) (A : Atoms 𝓤) (W : Given 𝓤 H A) (ℓ ℓ′ : Lifetime) (κ ν : Lft) (q : Share) (ys : List (R .Denot)) (n : ℕ) (e : length ys ≡ n) where
+  module _ {M : Type 1} (𝓤 : URA M) (H : Heap 𝓤) (A : Atoms 𝓤) (W : Given 𝓤 H A) (ℓ ℓ′ : Lifetime) (κ ν : Lft) (q : Share) (ys : List (R .Denot)) (n : ℕ)
+      (e : length ys ≡ n) where
     lends-again : ent 𝓤 (sep 𝓤 (sem 𝓤 H A (MutSlice ℓ κ R .own (at (x .name) ys) (vals n))) (A .lft κ q))
         (H .⇛ (ex 𝓤 (λ (δ : GName). sep 𝓤 (sem 𝓤 H A (MutSlice ℓ′ ν R .own (at δ ys) (vals n))) (sem 𝓤 H A (Lent κ ν q δ ys)))))
     lends-again =
         qed W (‵ (MutSlice ℓ κ R .own (at (x .name) ys) (vals n)) ∷ ‵ (flft κ q) ∷ []) ∵ updating ! $ fsplit ! $
         pureL ! (at-slice R (at (x .name) ys) (vals n)) (λ p. fsplit ! $ opens-slice ! tt R ys (x .ptr .0) (x .ptr .1) $
         use1 W (‵ (cells (mem R) ys (x .ptr .0) (x .ptr .1))) (whole-in 𝓤 H A W R ys (x .ptr .0) (x .ptr .1)) $
-        use1 W (later (some (λ (δ : GName). ‵ (MutSlice ℓ′ ν R .own (at δ ys) (vals n)) ⊛ ‵ (flent ν (Held R (length ys) (x .ptr .0) (x .ptr .1) δ))))) (lent (p .1)) $ await ! tt $ pick ! (λ δ. split ! $
+        use1 W (later (some (λ (δ : GName). ‵ (MutSlice ℓ′ ν R .own (at δ ys) (vals n)) ⊛ ‵ (flent ν (Held R (length ys) (x .ptr .0) (x .ptr .1) δ)))))
+        (lent (p .1)) $ await ! tt $ pick ! (λ δ. split ! $
         -- [the new slice; the lender's part at ν; the open borrow at κ; obs; auth]
         at-once ! $ show ! (λ (γ : GName). sep 𝓤 (sem 𝓤 H A (MutSlice ℓ′ ν R .own (at γ ys) (vals n))) (sem 𝓤 H A (Lent κ ν q γ ys))) δ $ frame ! $
         move ! (2 ∷ 3 ∷ []) $ fjoin ! $ move ! (2 ∷ 0 ∷ []) $ fjoin ! $ move ! (1 ∷ 0 ∷ []) $ fjoin ! $ done !))
       where
         lent : Room R (length ys) → ent 𝓤 (sem 𝓤 H A (cells (mem R) ys (x .ptr .0) (x .ptr .1)))
-            (H .⇛ (ex 𝓤 (λ (δ : GName). sep 𝓤 (sem 𝓤 H A (MutSlice ℓ′ ν R .own (at δ ys) (vals n))) (A .lent ν (Held R (length ys) (x .ptr .0) (x .ptr .1) δ)))))
+            (H .⇛ (ex 𝓤 (λ (δ : GName). sep 𝓤 (sem 𝓤 H A (MutSlice ℓ′ ν R .own (at δ ys) (vals n))) (A .lent ν (Held R (length ys) (x .ptr .0)
+            (x .ptr .1) δ)))))
         lent room = subst (λ (m : ℕ). ent 𝓤 (sem 𝓤 H A (cells (mem R) ys (x .ptr .0) (x .ptr .1)))
-            (H .⇛ (ex 𝓤 (λ (δ : GName). sep 𝓤 (sem 𝓤 H A (MutSlice ℓ′ ν R .own (at δ ys) (vals m))) (A .lent ν (Held R (length ys) (x .ptr .0) (x .ptr .1) δ)))))) e
+            (H .⇛ (ex 𝓤 (λ (δ : GName). sep 𝓤 (sem 𝓤 H A (MutSlice ℓ′ ν R .own (at δ ys) (vals m))) (A .lent ν (Held R (length ys) (x .ptr .0)
+            (x .ptr .1) δ)))))) e
             (lends-slice 𝓤 H A W R ℓ′ ν ys (x .ptr .0) (x .ptr .1) room)
 
     comes-back : (δ : GName) (zs : List (R .Denot)) → Room R n → length zs ≡ length ys
@@ -66,20 +70,25 @@ module _ (R : RattleType) (x : RefT (List (R .Denot))) where
         (H .⇛ (sep 𝓤 (sem 𝓤 H A (MutSlice ℓ κ R .own (at (x .name) zs) (vals n))) (A .lft κ q)))
     comes-back δ zs room l =
         qed W (‵ (fdead ν) ∷ ‵ (Lent κ ν q δ ys) ∷ ‵ (finally R δ zs) ∷ []) ∵ updating ! $ move ! (1 ∷ []) $ fsplit ! $ move ! (2 ∷ 0 ∷ 3 ∷ []) $
-        use3 W (later (‵ (Arr (mem R) (length ys) .lies zs (x .ptr .0) (x .ptr .1)))) (slice-back 𝓤 H A W R ν δ zs (length ys) (x .ptr .0) (x .ptr .1)) $ await ! tt $ fsplit ! $ drop ! $
+        use3 W (later (‵ (Arr (mem R) (length ys) .lies zs (x .ptr .0) (x .ptr .1)))) (slice-back 𝓤 H A W R ν δ zs (length ys) (x .ptr .0) (x .ptr .1)) $
+        await ! tt $ fsplit ! $ drop ! $
         use1 W (‵ (row R fullShare zs (x .ptr .0) (x .ptr .1))) (whole-out 𝓤 H A W R zs (x .ptr .0) (x .ptr .1)) $
-        move ! (1 ∷ []) $ fsplit ! $ move ! (1 ∷ []) $ fsplit ! $ move ! (3 ∷ 2 ∷ 0 ∷ 1 ∷ []) $ closes-slice ! tt R ys zs l (x .ptr .0) (x .ptr .1) $ at-once ! $
+        move ! (1 ∷ []) $ fsplit ! $ move ! (1 ∷ []) $ fsplit ! $ move ! (3 ∷ 2 ∷ 0 ∷ 1 ∷ []) $ closes-slice ! tt R ys zs l (x .ptr .0) (x .ptr .1) $
+        at-once ! $
         fjoin ! $ pureI ! (at-slice R (at (x .name) zs) (vals n)) (tt, (tt, tt)) (ap vals (sym (l ∙ e)), subst (Room R) (sym (l ∙ e)) room) $ fjoin ! $ done !
 
 -- as steps
 module _ {M : Type 1} {𝓤 : URA M} {H : Heap 𝓤} {A : Atoms 𝓤} {K : Type 0} {W : Given 𝓤 H A} {Γ : List (Item 𝓤)} {G : Goal 𝓤 H} where
-  pub lends : K → Soaks G → (R : RattleType) (x : RefT (List (R .Denot))) (ℓ ℓ′ : Lifetime) (κ ν : Lft) (q : Share) (ys : List (R .Denot)) → length ys ≡ length (x .now)
+  pub lends : K → Soaks G → (R : RattleType) (x : RefT (List (R .Denot))) (ℓ ℓ′ : Lifetime) (κ ν : Lft) (q : Share) (ys : List (R .Denot))
+      → length ys ≡ length (x .now)
       → ((δ : GName) → Seq K W (‵ (Owned R x ℓ′ ν δ ys) ∷ ‵ (Lent R x κ ν q δ ys) ∷ Γ) G) → Seq K W (‵ (Owned R x ℓ κ (x .name) ys) ∷ ‵ (flft κ q) ∷ Γ) G
   lends t z R x ℓ ℓ′ κ ν q ys e k =
-      use2 W (later (some (λ (δ : GName). ‵ (Owned R x ℓ′ ν δ ys) ⊛ ‵ (Lent R x κ ν q δ ys)))) (lends-again R x 𝓤 H A W ℓ ℓ′ κ ν q ys (length (x .now)) e) $ await t z $ pick t (λ δ. split t $ k δ)
+      use2 W (later (some (λ (δ : GName). ‵ (Owned R x ℓ′ ν δ ys) ⊛ ‵ (Lent R x κ ν q δ ys)))) (lends-again R x 𝓤 H A W ℓ ℓ′ κ ν q ys (length (x .now)) e) $
+      await t z $ pick t (λ δ. split t $ k δ)
 
   pub backs : K → Soaks G → (R : RattleType) (x : RefT (List (R .Denot))) (ℓ : Lifetime) (κ ν : Lft) (q : Share) (ys zs : List (R .Denot)) (δ : GName)
       → Room R (length (x .now)) → length ys ≡ length (x .now) → length zs ≡ length ys
       → Step K W (‵ (Owned R x ℓ κ (x .name) zs) ∷ ‵ (flft κ q) ∷ Γ) G (‵ (fdead ν) ∷ ‵ (Lent R x κ ν q δ ys) ∷ ‵ (finally R δ zs) ∷ Γ) G
   backs t z R x ℓ κ ν q ys zs δ room e l =
-      step (λ s. use3 W (later (‵ (Owned R x ℓ κ (x .name) zs) ⊛ ‵ (flft κ q))) (comes-back R x 𝓤 H A W ℓ ℓ κ ν q ys (length (x .now)) e δ zs room l) $ await t z $ split t $ s)
+      step (λ s. use3 W (later (‵ (Owned R x ℓ κ (x .name) zs) ⊛ ‵ (flft κ q))) (comes-back R x 𝓤 H A W ℓ ℓ κ ν q ys (length (x .now)) e δ zs room l) $
+      await t z $ split t $ s)

@@ -95,7 +95,8 @@ abbrev shr : Lifetime → Ty
 shr ℓ = sliceTy (tyRef ℓ imm (tyInt w8))
 
 module _ (P : Passed) (ok : Fits P) (is : Is M.the-row (P .args .0) (M′.lowered (P .args .0) ∷ []))
-    (image-is : Is (ShrSlice (named 2) (κi P) u8) (image P) (slice (image P) ∷ [])) (roll-is : Is (ShrSlice (named 3) (κr P) u8) (roll P) (slice (roll P) ∷ [])) where
+    (image-is : Is (ShrSlice (named 2) (κi P) u8) (image P) (slice (image P) ∷ [])) (roll-is : Is (ShrSlice (named 3) (κr P) u8) (roll P)
+    (slice (roll P) ∷ [])) where
   -- a turn is at a line, and is nearer to the end than one at an earlier line
   record Upto : Type 0 where
     line : ℕ
@@ -106,6 +107,11 @@ module _ (P : Passed) (ok : Fits P) (is : Is M.the-row (P .args .0) (M′.lowere
 
   Nearer-wf : WellFounded Nearer
   Nearer-wf = InvImage·wf (λ (x : Upto). n P - x .line) (Nat·lt-wfRel .wf)
+
+  -- the machine values that are passed
+  abbrev passed : List Val
+  passed = M′.lowered (P .args .0) ∷ slice (pool₀ P) ∷ slice (table₀ P) ∷ slice (image P) ∷ slice (roll P) ∷ vint w32 (first P) ∷ slice (out₀ P)
+      ∷ vint w64 (n P) ∷ []
 
   abbrev begun : Upto
   begun = record { line = 0; turn = start P ok is }
@@ -133,10 +139,14 @@ module _ (P : Passed) (ok : Fits P) (is : Is M.the-row (P .args .0) (M′.lowere
     typed-reader : (j : ℕ) → j < 2 ^ 64 → Holds (hasTy readerTy (mach P j)) × WT (mach P j)
     typed-reader j fits = (tt, (typed-slice (named 3) (κr P) (roll P) roll-is .1, (record { fits = fits }, tt)))
 
-    module _ (known-new : Triple 𝓤 (C #reader·new) (New 𝓤 H A mem run)) (known-next : Triple 𝓤 (C #reader·next) (Next 𝓤 H A mem run)) (known-skip : Triple 𝓤 (C #reader·skip) (Skip 𝓤 H A mem run)) (known-reply : Triple 𝓤 (C #roll·reply) (Reply 𝓤 H A mem run)) where
+    module _ (known-new : Triple 𝓤 (C #reader·new) (New 𝓤 H A mem run)) (known-next : Triple 𝓤 (C #reader·next) (Next 𝓤 H A mem run))
+        (known-skip : Triple 𝓤 (C #reader·skip) (Skip 𝓤 H A mem run)) (known-reply : Triple 𝓤 (C #roll·reply) (Reply 𝓤 H A mem run)) where
       module _ (l₀ l₁ l₂ l₃ l₄ l₅ l₆ l₇ l₈ l₉ l₁₀ l₁₁ l₁₂ l₁₃ l₁₄ l₁₅ l₁₆ l₁₇ l₁₈ l₁₉ l₂₀ l₂₁ l₂₂ : ℕ) where
         abbrev En : Env 𝓤 H
-        En = (machineTy, l₀) ∷ (machineTy, l₁) ∷ ((ref-u8 (named 0)), l₂) ∷ ((ref-u16 (named 1)), l₃) ∷ ((shr (named 2)), l₄) ∷ ((shr (named 3)), l₅) ∷ ((tyInt w32), l₆) ∷ ((ref-u8 (named 4)), l₇) ∷ ((tyInt w64), l₈) ∷ (machineTy, l₉) ∷ (readerTy, l₁₀) ∷ (S′.mir, l₁₁) ∷ ((tyInt w64), l₁₂) ∷ (tyBool, l₁₃) ∷ (readerTy, l₁₄) ∷ (ptr8, l₁₅) ∷ ((ref-u8 erased), l₁₆) ∷ (ptr16, l₁₇) ∷ ((ref-u16 erased), l₁₈) ∷ ((tyInt w64), l₁₉) ∷ (ptr8, l₂₀) ∷ ((ref-u8 erased), l₂₁) ∷ (readerTy, l₂₂) ∷ []
+        En = (machineTy, l₀) ∷ (machineTy, l₁) ∷ (ref-u8 (named 0), l₂) ∷ (ref-u16 (named 1), l₃) ∷ (shr (named 2), l₄) ∷ (shr (named 3), l₅)
+            ∷ (tyInt w32, l₆) ∷ (ref-u8 (named 4), l₇) ∷ (tyInt w64, l₈) ∷ (machineTy, l₉) ∷ (readerTy, l₁₀) ∷ (S′.mir, l₁₁) ∷ (tyInt w64, l₁₂)
+            ∷ (tyBool, l₁₃) ∷ (readerTy, l₁₄) ∷ (ptr8, l₁₅) ∷ (ref-u8 erased, l₁₆) ∷ (ptr16, l₁₇) ∷ (ref-u16 erased, l₁₈) ∷ (tyInt w64, l₁₉) ∷ (ptr8, l₂₀)
+            ∷ (ref-u8 erased, l₂₁) ∷ (readerTy, l₂₂) ∷ []
 
         -- before a line: what is held, and the locals from the last to the result, each with its end
         abbrev At : Upto → List (Item 𝓤)
@@ -166,35 +176,53 @@ module _ (P : Passed) (ok : Fits P) (is : Is M.the-row (P .args .0) (M′.lowere
             ∷ ‵ (froom machineTy l₀ 0) ∷ ‵ (fdies machineTy l₀) ∷ []
 
         abbrev Turned : Upto → Out → SProp 𝓤
-        Turned x = afterTurn 𝓤 H (Below 𝓤 H A Nearer At x) (afterBlock 𝓤 H (afterSeq 𝓤 H (Wp 𝓤 H C Λ En body.t-4 (atReturn 𝓤 H En Post′)) (atReturn 𝓤 H En Post′)))
+        Turned x = afterTurn 𝓤 H (Below 𝓤 H A Nearer At x) (afterBlock 𝓤 H (afterSeq 𝓤 H (Wp 𝓤 H C Λ En body.t-4 (atReturn 𝓤 H En Post′))
+            (atReturn 𝓤 H En Post′)))
 
         -- a turn, where the test comes out as it does
         turn-by : (x : Upto) (t : Bool) → ltb (x .line) (n P) ≡ t → Sq W (At x) (runs C Λ En body.turn-1 (anyQ (Turned x)))
         unfolding afterTurn
         turn-by x true o =
-            assigns ! (of-opd ! (load ! (from ! (fld ! refl (stop !))) (look-in ! 25 (sub ! 1 refl (whole !))))) (from ! (stop !)) (init ! 21 refl (tt, record { fits = fits })) $
-            assigns ! (bin ! (load ! (from ! (stop !)) (look ! 21 refl)) (load ! (from ! (stop !)) (look ! 29 refl)) tt) (from ! (stop !)) (init ! 19 refl (tt, tt)) $
+            assigns ! (of-opd ! (load ! (from ! (fld ! refl (stop !))) (look-in ! 25 (sub ! 1 refl (whole !))))) (from ! (stop !))
+            (init ! 21 refl (tt, record { fits = fits })) $
+            assigns ! (bin ! (load ! (from ! (stop !)) (look ! 21 refl)) (load ! (from ! (stop !)) (look ! 29 refl)) tt) (from ! (stop !))
+            (init ! 19 refl (tt, tt)) $
             rewrite ! 19 (λ (b : Bool). ‵ (fat fullShare tyBool l₁₃ 0 (vbool b))) o refl $ stays ! (load ! (from ! (stop !)) (look ! 19 refl)) $
             assigns ! (of-opd ! (load ! (from ! (stop !)) (look ! 25 refl))) (from ! (stop !)) (init ! 17 refl (typed-reader (x .line) fits)) $
-            use1 W (raw (C #reader·next (mach P (x .line) ∷ []) (λ w. mean 𝓤 H A (Read P 𝓤 H A (x .turn) w)))) (nexted P 𝓤 H A W mem run C fm (x .line) (x .turn) known-next) $
+            use1 W (raw (C #reader·next (mach P (x .line) ∷ []) (λ w. mean 𝓤 H A (Read P 𝓤 H A (x .turn) w)))) (nexted P 𝓤 H A W mem run C fm (x .line)
+            (x .turn) known-next) $
             calls ! fm (Read P 𝓤 H A (x .turn)) (and-then ! (load ! (from ! (stop !)) (look ! 17 refl)) (no-more !)) (λ v. await ! tt $ learn ! (λ is-line.
             land ! (from ! (stop !)) (init ! 23 refl (EL.lawful S.the-type S′.the-laws 𝓤 H A W tt .typed (lineAt (roll P .now) (x .line)) _ is-line .0)) $
             assigns ! (addr ! (from ! (fld ! refl (hop ! (look-in ! 41 (sub ! 0 refl (whole !))) (stop !))))) (from ! (stop !)) (init ! 15 refl (tt, tt)) $
-            assigns ! (agg ! (and-then ! (load ! (from ! (stop !)) (look ! 15 refl)) (and-then ! (load ! (from ! (fld ! refl (stop !))) (look-in ! 41 (sub ! 1 refl (whole !)))) (no-more !)))) (from ! (stop !)) (init ! 13 refl (tt, (tt, (record { fits = ok .pool-room .0 }, tt)))) $
+            assigns ! (agg ! (and-then ! (load ! (from ! (stop !)) (look ! 15 refl)) (and-then ! (load ! (from ! (fld ! refl (stop !)))
+            (look-in ! 41 (sub ! 1 refl (whole !)))) (no-more !)))) (from ! (stop !)) (init ! 13 refl (tt, (tt, (record { fits = ok .pool-room .0 }, tt)))) $
             assigns ! (addr ! (from ! (fld ! refl (hop ! (look-in ! 39 (sub ! 0 refl (whole !))) (stop !))))) (from ! (stop !)) (init ! 11 refl (tt, tt)) $
-            assigns ! (agg ! (and-then ! (load ! (from ! (stop !)) (look ! 11 refl)) (and-then ! (load ! (from ! (fld ! refl (stop !))) (look-in ! 39 (sub ! 1 refl (whole !)))) (no-more !)))) (from ! (stop !)) (init ! 9 refl (tt, (tt, (record { fits = ok .table-room .0 }, tt)))) $
-            assigns ! (of-opd ! (load ! (from ! (fld ! refl (stop !))) (look-in ! 25 (sub ! 1 refl (whole !))))) (from ! (stop !)) (init ! 7 refl (tt, record { fits = fits })) $
+            assigns ! (agg ! (and-then ! (load ! (from ! (stop !)) (look ! 11 refl)) (and-then ! (load ! (from ! (fld ! refl (stop !)))
+            (look-in ! 39 (sub ! 1 refl (whole !)))) (no-more !)))) (from ! (stop !)) (init ! 9 refl (tt, (tt, (record { fits = ok .table-room .0 }, tt)))) $
+            assigns ! (of-opd ! (load ! (from ! (fld ! refl (stop !))) (look-in ! 25 (sub ! 1 refl (whole !))))) (from ! (stop !))
+            (init ! 7 refl (tt, record { fits = fits })) $
             assigns ! (addr ! (from ! (fld ! refl (hop ! (look-in ! 31 (sub ! 0 refl (whole !))) (stop !))))) (from ! (stop !)) (init ! 5 refl (tt, tt)) $
-            assigns ! (agg ! (and-then ! (load ! (from ! (stop !)) (look ! 5 refl)) (and-then ! (load ! (from ! (fld ! refl (stop !))) (look-in ! 31 (sub ! 1 refl (whole !)))) (no-more !)))) (from ! (stop !)) (init ! 3 refl (tt, (tt, (record { fits = ok .out-room .0 }, tt)))) $
-            use1 W (later (raw (C #roll·reply (call.vals P ok 𝓤 H A W mem run C fm (x .line) (x .turn) less v is-line) (λ w. mean 𝓤 H A (RepliedAt P 𝓤 H A (x .line) w))))) (replied P ok 𝓤 H A W mem run C fm (x .line) (x .turn) less v is-line known-reply) $ await ! tt $
+            assigns ! (agg ! (and-then ! (load ! (from ! (stop !)) (look ! 5 refl)) (and-then ! (load ! (from ! (fld ! refl (stop !)))
+            (look-in ! 31 (sub ! 1 refl (whole !)))) (no-more !)))) (from ! (stop !)) (init ! 3 refl (tt, (tt, (record { fits = ok .out-room .0 }, tt)))) $
+            use1 W (later (raw (C #roll·reply (call.vals P ok 𝓤 H A W mem run C fm (x .line) (x .turn) less v is-line)
+            (λ w. mean 𝓤 H A (RepliedAt P 𝓤 H A (x .line) w))))) (replied P ok 𝓤 H A W mem run C fm (x .line) (x .turn) less v is-line known-reply) $
+            await ! tt $
             calls ! fm (RepliedAt P 𝓤 H A (x .line))
-            (and-then ! (load ! (from ! (stop !)) (look ! 27 refl)) (and-then ! (load ! (from ! (stop !)) (look ! 13 refl)) (and-then ! (load ! (from ! (stop !)) (look ! 9 refl)) (and-then ! (load ! (from ! (stop !)) (look ! 37 refl)) (and-then ! (load ! (from ! (stop !)) (look ! 23 refl)) (and-then ! (load ! (from ! (stop !)) (look ! 33 refl)) (and-then ! (load ! (from ! (stop !)) (look ! 7 refl)) (and-then ! (load ! (from ! (stop !)) (look ! 3 refl)) (no-more !))))))))) (λ w. await ! tt $ pick ! (λ t. learn ! (λ e.
-            land ! (from ! (stop !)) (store ! 27 refl (subst (λ (z : Val). Holds (hasTy machineTy z) × WT z) (sym e) (typed-machine (t .machine) (t .is)))) $ rewrite ! 27 (λ (z : Val). ‵ (fat fullShare machineTy l₉ 0 z)) e refl $
+            (and-then ! (load ! (from ! (stop !)) (look ! 27 refl)) (and-then ! (load ! (from ! (stop !)) (look ! 13 refl))
+            (and-then ! (load ! (from ! (stop !)) (look ! 9 refl)) (and-then ! (load ! (from ! (stop !)) (look ! 37 refl))
+            (and-then ! (load ! (from ! (stop !)) (look ! 23 refl)) (and-then ! (load ! (from ! (stop !)) (look ! 33 refl))
+            (and-then ! (load ! (from ! (stop !)) (look ! 7 refl)) (and-then ! (load ! (from ! (stop !)) (look ! 3 refl)) (no-more !)))))))))
+            (λ w. await ! tt $ pick ! (λ t. learn ! (λ e.
+            land ! (from ! (stop !)) (store ! 27 refl (subst (λ (z : Val). Holds (hasTy machineTy z) × WT z) (sym e) (typed-machine (t .machine) (t .is)))) $
+            rewrite ! 27 (λ (z : Val). ‵ (fat fullShare machineTy l₉ 0 z)) e refl $
             assigns ! (of-opd ! (load ! (from ! (stop !)) (look ! 25 refl))) (from ! (stop !)) (init ! 1 refl (typed-reader (x .line) fits)) $
-            use1 W (raw (C #reader·skip (mach P (x .line) ∷ []) (λ w. mean 𝓤 H A (Moved P 𝓤 H A (x .line) t w)))) (skipped P 𝓤 H A W mem run C fm (x .line) t known-skip fits-next) $
+            use1 W (raw (C #reader·skip (mach P (x .line) ∷ []) (λ w. mean 𝓤 H A (Moved P 𝓤 H A (x .line) t w))))
+            (skipped P 𝓤 H A W mem run C fm (x .line) t known-skip fits-next) $
             calls-last ! fm (Moved P 𝓤 H A (x .line) t) (and-then ! (load ! (from ! (stop !)) (look ! 1 refl)) (no-more !)) (λ u. await ! tt $ learn ! (λ e′.
-            land-last ! (from ! (stop !)) (store ! 25 refl (subst (λ (z : Val). Holds (hasTy readerTy z) × WT z) (sym e′) (typed-reader (x .line + 1) fits-next))) $ rewrite ! 25 (λ (z : Val). ‵ (fat fullShare readerTy l₁₀ 0 z)) e′ refl $
-            forget ! 1 refl $ forget ! 3 refl $ forget ! 5 refl $ forget ! 7 refl $ forget ! 9 refl $ forget ! 11 refl $ forget ! 13 refl $ forget ! 15 refl $ forget ! 17 refl $ forget ! 19 refl $ forget ! 21 refl $ forget ! 23 refl $
+            land-last ! (from ! (stop !)) (store ! 25 refl (subst (λ (z : Val). Holds (hasTy readerTy z) × WT z) (sym e′)
+            (typed-reader (x .line + 1) fits-next))) $ rewrite ! 25 (λ (z : Val). ‵ (fat fullShare readerTy l₁₀ 0 z)) e′ refl $
+            forget ! 1 refl $ forget ! 3 refl $ forget ! 5 refl $ forget ! 7 refl $ forget ! 9 refl $ forget ! 11 refl $ forget ! 13 refl $
+            forget ! 15 refl $ forget ! 17 refl $ forget ! 19 refl $ forget ! 21 refl $ forget ! 23 refl $
             again ! Nearer At x (record { line = x .line + 1; turn = t }) (omega (arith, less)))))))))
           where
             less : x .line < n P
@@ -206,13 +234,22 @@ module _ (P : Passed) (ok : Fits P) (is : Is M.the-row (P .args .0) (M′.lowere
             fits-next : x .line + 1 < 2 ^ 64
             fits-next = omega (arith, less, ok .n-fits)
         turn-by x false o =
-            assigns ! (of-opd ! (load ! (from ! (fld ! refl (stop !))) (look-in ! 25 (sub ! 1 refl (whole !))))) (from ! (stop !)) (init ! 21 refl (tt, record { fits = fits })) $
-            assigns ! (bin ! (load ! (from ! (stop !)) (look ! 21 refl)) (load ! (from ! (stop !)) (look ! 29 refl)) tt) (from ! (stop !)) (init ! 19 refl (tt, tt)) $
+            assigns ! (of-opd ! (load ! (from ! (fld ! refl (stop !))) (look-in ! 25 (sub ! 1 refl (whole !))))) (from ! (stop !))
+            (init ! 21 refl (tt, record { fits = fits })) $
+            assigns ! (bin ! (load ! (from ! (stop !)) (look ! 21 refl)) (load ! (from ! (stop !)) (look ! 29 refl)) tt) (from ! (stop !))
+            (init ! 19 refl (tt, tt)) $
             rewrite ! 19 (λ (b : Bool). ‵ (fat fullShare tyBool l₁₃ 0 (vbool b))) o refl $
-            leaves-loop ! (load ! (from ! (stop !)) (look ! 19 refl)) $ exec ! C Λ En body.t-4 (atRet En (Post′)) $
-            assigns ! (of-opd ! (load ! (from ! (stop !)) (look ! 27 refl))) (from ! (stop !)) (init ! 45 refl (typed-machine (x .turn .machine) (x .turn .is))) $
-            returns ! (look ! 45 refl) $ forget ! 19 refl $ forget ! 21 refl $ forget ! 25 refl $ forget ! 27 refl $ forget ! 29 refl $ forget ! 31 refl $ forget ! 33 refl $ forget ! 35 refl $ forget ! 37 refl $ forget ! 39 refl $ forget ! 41 refl $ forget ! 43 refl $ forget ! 45 refl $
-            move ! (45 ∷ 46 ∷ []) $ free1 ! $ move ! (43 ∷ 44 ∷ []) $ free1 ! $ move ! (41 ∷ 42 ∷ []) $ free1 ! $ move ! (39 ∷ 40 ∷ []) $ free1 ! $ move ! (37 ∷ 38 ∷ []) $ free1 ! $ move ! (35 ∷ 36 ∷ []) $ free1 ! $ move ! (33 ∷ 34 ∷ []) $ free1 ! $ move ! (31 ∷ 32 ∷ []) $ free1 ! $ move ! (29 ∷ 30 ∷ []) $ free1 ! $ move ! (27 ∷ 28 ∷ []) $ free1 ! $ move ! (25 ∷ 26 ∷ []) $ free1 ! $ move ! (23 ∷ 24 ∷ []) $ free1 ! $ move ! (21 ∷ 22 ∷ []) $ free1 ! $ move ! (19 ∷ 20 ∷ []) $ free1 ! $ move ! (17 ∷ 18 ∷ []) $ free1 ! $ move ! (15 ∷ 16 ∷ []) $ free1 ! $ move ! (13 ∷ 14 ∷ []) $ free1 ! $ move ! (11 ∷ 12 ∷ []) $ free1 ! $ move ! (9 ∷ 10 ∷ []) $ free1 ! $ move ! (7 ∷ 8 ∷ []) $ free1 ! $ move ! (5 ∷ 6 ∷ []) $ free1 ! $ move ! (3 ∷ 4 ∷ []) $ free1 ! $ move ! (1 ∷ 2 ∷ []) $ free1 ! $ free0 ! $
+            leaves-loop ! (load ! (from ! (stop !)) (look ! 19 refl)) $ exec ! C Λ En body.t-4 (atRet En Post′) $
+            assigns ! (of-opd ! (load ! (from ! (stop !)) (look ! 27 refl))) (from ! (stop !)) (init ! 45 refl (typed-machine (x .turn .machine)
+            (x .turn .is))) $
+            returns ! (look ! 45 refl) $ forget ! 19 refl $ forget ! 21 refl $ forget ! 25 refl $ forget ! 27 refl $ forget ! 29 refl $ forget ! 31 refl $
+            forget ! 33 refl $ forget ! 35 refl $ forget ! 37 refl $ forget ! 39 refl $ forget ! 41 refl $ forget ! 43 refl $ forget ! 45 refl $
+            move ! (45 ∷ 46 ∷ []) $ free1 ! $ move ! (43 ∷ 44 ∷ []) $ free1 ! $ move ! (41 ∷ 42 ∷ []) $ free1 ! $ move ! (39 ∷ 40 ∷ []) $ free1 ! $
+            move ! (37 ∷ 38 ∷ []) $ free1 ! $ move ! (35 ∷ 36 ∷ []) $ free1 ! $ move ! (33 ∷ 34 ∷ []) $ free1 ! $ move ! (31 ∷ 32 ∷ []) $ free1 ! $
+            move ! (29 ∷ 30 ∷ []) $ free1 ! $ move ! (27 ∷ 28 ∷ []) $ free1 ! $ move ! (25 ∷ 26 ∷ []) $ free1 ! $ move ! (23 ∷ 24 ∷ []) $ free1 ! $
+            move ! (21 ∷ 22 ∷ []) $ free1 ! $ move ! (19 ∷ 20 ∷ []) $ free1 ! $ move ! (17 ∷ 18 ∷ []) $ free1 ! $ move ! (15 ∷ 16 ∷ []) $ free1 ! $
+            move ! (13 ∷ 14 ∷ []) $ free1 ! $ move ! (11 ∷ 12 ∷ []) $ free1 ! $ move ! (9 ∷ 10 ∷ []) $ free1 ! $ move ! (7 ∷ 8 ∷ []) $ free1 ! $
+            move ! (5 ∷ 6 ∷ []) $ free1 ! $ move ! (3 ∷ 4 ∷ []) $ free1 ! $ move ! (1 ∷ 2 ∷ []) $ free1 ! $ free0 ! $
             by ! (exits P ok is 𝓤 H A W mem run (x .line) (x .line) (x .turn) last)
           where
             fits : x .line < 2 ^ 64
@@ -225,49 +262,86 @@ module _ (P : Passed) (ok : Fits P) (is : Is M.the-row (P .args .0) (M′.lowere
         turns x = turn-by x (ltb (x .line) (n P)) refl
 
         looped : Sq W (At begun) (runs C Λ En body.t-3 (atRet En Post′))
-        looped = into ! $ blocks ! $ loops ! 𝓣 Nearer Nearer-wf At {E = En} {b = body.turn-1} {q = anyQ (afterBlock 𝓤 H (afterSeq 𝓤 H (Wp 𝓤 H C Λ En body.t-4 (atReturn 𝓤 H En Post′)) (atReturn 𝓤 H En Post′)))} turns begun
+        looped = into ! $ blocks ! $ loops ! 𝓣 Nearer Nearer-wf At {E = En} {b = body.turn-1} {q = anyQ (afterBlock 𝓤 H (afterSeq 𝓤 H (Wp 𝓤 H C Λ En body.t-4
+            (atReturn 𝓤 H En Post′)) (atReturn 𝓤 H En Post′)))} turns begun
 
-      walk : ent 𝓤 (onEntry 𝓤 H A play-lines.signature (P .κs) (P .qs) (P .args) (vals P ok is)) (WpFn 𝓤 H C Λ code.function ((M′.lowered (P .args .0)) ∷ (slice (pool₀ P)) ∷ (slice (table₀ P)) ∷ (slice (image P)) ∷ (slice (roll P)) ∷ (vint w32 (first P)) ∷ (slice (out₀ P)) ∷ (vint w64 (n P)) ∷ []) Post′)
+      walk : ent 𝓤 (onEntry 𝓤 H A play-lines.signature (P .κs) (P .qs) (P .args) (vals P ok is)) (WpFn 𝓤 H C Λ code.function passed Post′)
       unfolding start
       walk =
-          qed W (raw (onEntry 𝓤 H A play-lines.signature (P .κs) (P .qs) (P .args) (vals P ok is)) ∷ []) ∵ enter ! C Λ code.function ((M′.lowered (P .args .0)) ∷ (slice (pool₀ P)) ∷ (slice (table₀ P)) ∷ (slice (image P)) ∷ (slice (roll P)) ∷ (vint w32 (first P)) ∷ (slice (out₀ P)) ∷ (vint w64 (n P)) ∷ []) _ $
-          alloc1 ! (λ l₀. alloc1 ! (λ l₁. alloc1 ! (λ l₂. alloc1 ! (λ l₃. alloc1 ! (λ l₄. alloc1 ! (λ l₅. alloc1 ! (λ l₆. alloc1 ! (λ l₇. alloc1 ! (λ l₈. alloc1 ! (λ l₉. alloc1 ! (λ l₁₀. alloc1 ! (λ l₁₁. alloc1 ! (λ l₁₂. alloc1 ! (λ l₁₃. alloc1 ! (λ l₁₄. alloc1 ! (λ l₁₅. alloc1 ! (λ l₁₆. alloc1 ! (λ l₁₇. alloc1 ! (λ l₁₈. alloc1 ! (λ l₁₉. alloc1 ! (λ l₂₀. alloc1 ! (λ l₂₁. alloc1 ! (λ l₂₂. alloc0 ! $ params1 ! $
-          pass1 ! (init ! 42 refl (typed-machine (P .args .0) is)) $ pass1 ! (init ! 40 refl (tt, (tt, (record { fits = ok .pool-room .0 }, tt)))) $ pass1 ! (init ! 38 refl (tt, (tt, (record { fits = ok .table-room .0 }, tt)))) $ pass1 ! (init ! 36 refl (typed-slice (named 2) (κi P) (image P) image-is)) $ pass1 ! (init ! 34 refl (typed-slice (named 3) (κr P) (roll P) roll-is)) $ pass1 ! (init ! 32 refl (tt, record { fits = ok .first-fits })) $ pass1 ! (init ! 30 refl (tt, (tt, (record { fits = ok .out-room .0 }, tt)))) $ pass1 ! (init ! 28 refl (tt, record { fits = ok .n-fits })) $ pass0 ! $
+          qed W (raw (onEntry 𝓤 H A play-lines.signature (P .κs) (P .qs) (P .args) (vals P ok is)) ∷ []) ∵ enter ! C Λ code.function passed _ $
+          alloc1 ! (λ l₀. alloc1 ! (λ l₁. alloc1 ! (λ l₂. alloc1 ! (λ l₃. alloc1 ! (λ l₄. alloc1 ! (λ l₅. alloc1 ! (λ l₆. alloc1 ! (λ l₇. alloc1 !
+          (λ l₈. alloc1 ! (λ l₉. alloc1 ! (λ l₁₀. alloc1 ! (λ l₁₁. alloc1 ! (λ l₁₂. alloc1 ! (λ l₁₃. alloc1 ! (λ l₁₄. alloc1 ! (λ l₁₅. alloc1 !
+          (λ l₁₆. alloc1 ! (λ l₁₇. alloc1 ! (λ l₁₈. alloc1 ! (λ l₁₉. alloc1 ! (λ l₂₀. alloc1 ! (λ l₂₁. alloc1 ! (λ l₂₂. alloc0 ! $ params1 ! $
+          pass1 ! (init ! 42 refl (typed-machine (P .args .0) is)) $ pass1 ! (init ! 40 refl (tt, (tt, (record { fits = ok .pool-room .0 }, tt)))) $
+          pass1 ! (init ! 38 refl (tt, (tt, (record { fits = ok .table-room .0 }, tt)))) $
+          pass1 ! (init ! 36 refl (typed-slice (named 2) (κi P) (image P) image-is)) $
+          pass1 ! (init ! 34 refl (typed-slice (named 3) (κr P) (roll P) roll-is)) $ pass1 ! (init ! 32 refl (tt, record { fits = ok .first-fits })) $
+          pass1 ! (init ! 30 refl (tt, (tt, (record { fits = ok .out-room .0 }, tt)))) $ pass1 ! (init ! 28 refl (tt, record { fits = ok .n-fits })) $
+          pass0 ! $
           assigns ! (of-opd ! (load ! (from ! (stop !)) (look ! 42 refl))) (from ! (stop !)) (init ! 26 refl (typed-machine (P .args .0) is)) $
-          move ! (46 ∷ []) $ use1 W (raw (C #reader·new (slice (roll P) ∷ []) (λ w. mean 𝓤 H A (Made P ok is 𝓤 H A W mem run w)))) (made P ok is 𝓤 H A W mem run C fm known-new) $
+          move ! (46 ∷ []) $ use1 W (raw (C #reader·new (slice (roll P) ∷ []) (λ w. mean 𝓤 H A (Made P ok is 𝓤 H A W mem run w))))
+          (made P ok is 𝓤 H A W mem run C fm known-new) $
           calls ! fm (Made P ok is 𝓤 H A W mem run) (and-then ! (load ! (from ! (stop !)) (look ! 35 refl)) (no-more !)) (λ w. await ! tt $ learn ! (λ e.
-          land ! (from ! (stop !)) (init ! 25 refl (subst (λ (z : Val). Holds (hasTy readerTy z) × WT z) (sym e) (typed-reader 0 (omega arith)))) $ rewrite ! 25 (λ (z : Val). ‵ (fat fullShare readerTy l₁₀ 0 z)) e refl $
+          land ! (from ! (stop !)) (init ! 25 refl (subst (λ (z : Val). Holds (hasTy readerTy z) × WT z) (sym e) (typed-reader 0 (omega arith)))) $
+          rewrite ! 25 (λ (z : Val). ‵ (fat fullShare readerTy l₁₀ 0 z)) e refl $
           looped l₀ l₁ l₂ l₃ l₄ l₅ l₆ l₇ l₈ l₉ l₁₀ l₁₁ l₁₂ l₁₃ l₁₄ l₁₅ l₁₆ l₁₇ l₁₈ l₁₉ l₂₀ l₂₁ l₂₂)))))))))))))))))))))))))
 
 module _ {M₁ : Type 1} (𝓤 : URA M₁) (H : Heap 𝓤) (A : Atoms 𝓤) (W : Given 𝓤 H A) (mem : Memory → SProp 𝓤) (run : Routine → Fun 𝓤) (𝓣 : Tables 𝓤 H)
-    (known-new : Triple 𝓤 (𝓣 .C #reader·new) (New 𝓤 H A mem run)) (known-next : Triple 𝓤 (𝓣 .C #reader·next) (Next 𝓤 H A mem run)) (known-skip : Triple 𝓤 (𝓣 .C #reader·skip) (Skip 𝓤 H A mem run)) (known-reply : Triple 𝓤 (𝓣 .C #roll·reply) (Reply 𝓤 H A mem run)) where
+    (known-new : Triple 𝓤 (𝓣 .C #reader·new) (New 𝓤 H A mem run)) (known-next : Triple 𝓤 (𝓣 .C #reader·next) (Next 𝓤 H A mem run))
+    (known-skip : Triple 𝓤 (𝓣 .C #reader·skip) (Skip 𝓤 H A mem run)) (known-reply : Triple 𝓤 (𝓣 .C #roll·reply) (Reply 𝓤 H A mem run)) where
   play-lines-walks : Walks 𝓤 H A play-lines.ended stayed (WpFn 𝓤 H (𝓣 .C) (𝓣 .Λ) code.function) (play-lines.clauses 𝓤 H A mem run)
   play-lines-walks = walked 𝓤 H A play-lines.ended stayed (play-lines.clauses 𝓤 H A mem run) (WpFn 𝓤 H (𝓣 .C) (𝓣 .Λ) code.function)
       (λ κs. ((λ m. M′.lowered m ∷ []), (slice-vals, (slice-vals, (slice-vals, (slice-vals, (uint-vals w32, (slice-vals, (uint-vals w64, tt)))))))))
-      (λ κs. (M′.lowers .val-is, (mut-slice-tells (named 0) (κs .0) u8, (mut-slice-tells (named 1) (κs .1 .0) u16, (shr-slice-tells (named 2) (κs .1 .1 .0) u8, (shr-slice-tells (named 3) (κs .1 .1 .1 .0) u8, (uint-tells w32, (mut-slice-tells (named 4) (κs .1 .1 .1 .1 .0) u8, (uint-tells w64, tt)))))))))
+      (λ κs. (
+        M′.lowers .val-is,
+        (
+          mut-slice-tells (named 0) (κs .0) u8,
+          (
+            mut-slice-tells (named 1) (κs .1 .0) u16,
+            (
+              shr-slice-tells (named 2)
+                  (κs .1 .1 .0) u8,
+              (
+                shr-slice-tells (named 3) (κs .1 .1 .1 .0) u8,
+                (
+                  uint-tells w32,
+                  (
+                    mut-slice-tells (named 4)
+                        (κs .1 .1 .1 .1 .0) u8,
+                    (uint-tells w64, tt),
+                  ),
+                ),
+              ),
+            ),
+          ),
+        ),
+      ))
       (λ κs qs bounds a g are. needs 𝓤 _ _ (λ asked.
       walk (record { κs = κs; qs = qs; args = a })
-      (record { pool-room = are .1 .0 .0 .1; table-room = are .1 .1 .0 .0 .1; out-room = are .1 .1 .1 .1 .1 .1 .0 .0 .1; first-fits = are .1 .1 .1 .1 .1 .0 .1; n-fits = are .1 .1 .1 .1 .1 .1 .1 .0 .1; room = asked .0; numbers = asked .1 })
+      (record {
+        pool-room = are .1 .0 .0 .1;
+        table-room = are .1 .1 .0 .0 .1;
+        out-room = are .1 .1 .1 .1 .1 .1 .0 .0 .1;
+        first-fits = are .1 .1 .1 .1 .1 .0
+            .1;
+        n-fits = are .1 .1 .1 .1 .1 .1 .1 .0 .1;
+        room = asked .0;
+        numbers = asked .1;
+      })
       (are .0) (are .1 .1 .1 .0) (are .1 .1 .1 .1 .0) 𝓤 H A W mem run 𝓣 known-new known-next known-skip known-reply))
 
   play-lines-meets : Meets 𝓤 H A play-lines.signature (WpFn 𝓤 H (𝓣 .C) (𝓣 .Λ) code.function) (play-lines.spec 𝓤 H A mem run)
-  play-lines-meets = walk-meets 𝓤 H A play-lines.ended stayed W (
-    goes-none 𝓤 H A W 5 (λ _. M.the-row) yes (λ κs x f. refl),
-    (
-      goes-slice 𝓤 H A W 5 0 tt (plain (λ _. u8)),
-      (
-        goes-slice 𝓤 H A W 5 1 tt (plain (λ _. u16)),
-        (
-          goes-none-slice 𝓤 H A W 5 (2 ∷ []) tt (plain (λ _. u8)) yes,
-          (
-            goes-none-slice 𝓤 H A W 5 (3 ∷ []) tt (plain (λ _. u8)) yes,
-            (goes-none 𝓤 H A W 5 (λ _. u32) yes (λ κs x f. refl), (goes-slice 𝓤 H A W 5 4 tt (plain (λ _. u8)), (goes-none 𝓤 H A W 5 (λ _. usize) yes (λ κs x f. refl), tt))),
-          ),
-        ),
-      ),
-    ),
-  )
-      (play-lines.clauses 𝓤 H A mem run) (WpFn 𝓤 H (𝓣 .C) (𝓣 .Λ) code.function) (WpFn-mono 𝓤 H (W .laws) 𝓣 code.function) play-lines-walks
+  play-lines-meets =
+      let pool = goes-slice 𝓤 H A W 5 0 tt (plain (λ _. u8)) in
+      let table = goes-slice 𝓤 H A W 5 1 tt (plain (λ _. u16)) in
+      let out = goes-slice 𝓤 H A W 5 4 tt (plain (λ _. u8)) in
+      let image = goes-none-slice 𝓤 H A W 5 (2 ∷ []) tt (plain (λ _. u8)) yes in
+      let roll = goes-none-slice 𝓤 H A W 5 (3 ∷ []) tt (plain (λ _. u8)) yes in
+      let machine = goes-none 𝓤 H A W 5 (λ _. M.the-row) yes (λ κs x f. refl) in
+      let first = goes-none 𝓤 H A W 5 (λ _. u32) yes (λ κs x f. refl) in
+      let n = goes-none 𝓤 H A W 5 (λ _. usize) yes (λ κs x f. refl) in
+      walk-meets 𝓤 H A play-lines.ended stayed W (machine, (pool, (table, (image, (roll, (first, (out, (n, tt)))))))) (play-lines.clauses 𝓤 H A mem run)
+      (WpFn 𝓤 H (𝓣 .C) (𝓣 .Λ) code.function) (WpFn-mono 𝓤 H (W .laws) 𝓣 code.function) play-lines-walks
 
 pub play-lines-spec : {M : Type 1} → stated.statement M
 unfolding code.routine tablesOf

@@ -64,7 +64,8 @@ module _ {M₁ : Type 1} (𝓤 : URA M₁) (H : Heap 𝓤) (A : Atoms 𝓤) (mem
   abbrev pub New : Contract 𝓤
   New = tripleOf 𝓤 H A new.signature (new.spec 𝓤 H A mem run)
 
-  new-said : (κ : Lft) (s : RefT (List ℕ)) (r : Reader) → ent 𝓤 (ensured 𝓤 H A new.ended (new.clauses 𝓤 H A mem run) (κ, tt) (s, tt) tt r) (fact 𝓤 ((r .src ≡ s) × (r .line ≡ 0)))
+  new-said : (κ : Lft) (s : RefT (List ℕ)) (r : Reader) → ent 𝓤 (ensured 𝓤 H A new.ended (new.clauses 𝓤 H A mem run) (κ, tt) (s, tt) tt r)
+      (fact 𝓤 ((r .src ≡ s) × (r .line ≡ 0)))
   new-said κ s r = exE 𝓤 _ (λ ws. snd∗ 𝓤 (sem 𝓤 H A (lasts new.ended (κ, tt) (s, tt) ws)) (fact 𝓤 ((r .src ≡ s) × (r .line ≡ 0))))
 
 module _ (P : Passed) (ok : Fits P) (is : Is M.the-row (P .args .0) (M′.lowered (P .args .0) ∷ [])) where
@@ -108,14 +109,19 @@ module _ (P : Passed) (ok : Fits P) (is : Is M.the-row (P .args .0) (M′.lowere
     pub exits : (k j : ℕ) (t : Turn P k) → k ≡ n P → ent 𝓤 (⋆ 𝓤 H A (Held P 𝓤 j t)) (Post (M′.lowered (t .machine)))
     exits k j t e =
         qed W (Held P 𝓤 j t) ∵
-        suffices ! _ (ends-at 𝓤 H A play-lines.ended stayed (play-lines.clauses 𝓤 H A mem run) W ((P .κs, P .qs, tt, P .args, vals), tt) (M′.lowered (t .machine)) (t .machine) (tt, (t .pool, (t .table, (tt, (tt, (tt, (t .out, (tt, tt))))))))
+        suffices ! _ (ends-at 𝓤 H A play-lines.ended stayed (play-lines.clauses 𝓤 H A mem run) W ((P .κs, P .qs, tt, P .args, vals), tt)
+        (M′.lowered (t .machine)) (t .machine) (tt, (t .pool, (t .table, (tt, (tt, (tt, (t .out, (tt, tt))))))))
         (tt, (t .pool-length, (t .table-length, (tt, (tt, (tt, (t .out-length, (tt, tt))))))))) $
-        says ! (subst (λ (m : ℕ). Played (image P .now) (worldOf (P .args .0) (pool₀ P .now) (table₀ P .now)) (roll P .now) m (first P) (out₀ P .now) (t .out) (worldOf (t .machine) (t .pool) (t .table))) e (t .played)) $
+        says ! (subst (λ (m : ℕ). Played (image P .now) (worldOf (P .args .0) (pool₀ P .now) (table₀ P .now)) (roll P .now) m (first P) (out₀ P .now)
+        (t .out) (worldOf (t .machine) (t .pool) (t .table))) e (t .played)) $
         -- the tokens, and then what is had of each parameter, and the result
         keep ! (3 ∷ 5 ∷ 9 ∷ 1 ∷ 7 ∷ 2 ∷ 4 ∷ 8 ∷ 10 ∷ 6 ∷ []) $ nothing ! $
-        move ! (5 ∷ 0 ∷ []) $ join ! $ move ! (4 ∷ 0 ∷ []) $ join ! $ move ! (3 ∷ 0 ∷ []) $ join ! $ move ! (2 ∷ 0 ∷ []) $ join ! $ move ! (1 ∷ 0 ∷ []) $ join ! $ frame ! $
-        nothing ! $ owned ! usize (Is usize) (uint-makes 𝓤 H A W w64) (n P) _ (refl, ok .n-fits) $ fjoin ! $ move ! (5 ∷ 0 ∷ []) $ fjoin ! $ owned ! u32 (Is u32) (uint-makes 𝓤 H A W w32) (first P) _ (refl, ok .first-fits) $ fjoin ! $
-        move ! (4 ∷ 0 ∷ []) $ fjoin ! $ move ! (3 ∷ 0 ∷ []) $ fjoin ! $ move ! (2 ∷ 0 ∷ []) $ fjoin ! $ move ! (1 ∷ 0 ∷ []) $ fjoin ! $ owned ! M.the-row (Is M.the-row) (LL.makes M.the-type M′.the-plain 𝓤 H A) (P .args .0) _ is $ fjoin ! $
+        move ! (5 ∷ 0 ∷ []) $ join ! $ move ! (4 ∷ 0 ∷ []) $ join ! $ move ! (3 ∷ 0 ∷ []) $ join ! $ move ! (2 ∷ 0 ∷ []) $ join ! $ move ! (1 ∷ 0 ∷ []) $
+        join ! $ frame ! $
+        nothing ! $ owned ! usize (Is usize) (uint-makes 𝓤 H A W w64) (n P) _ (refl, ok .n-fits) $ fjoin ! $ move ! (5 ∷ 0 ∷ []) $ fjoin ! $
+        owned ! u32 (Is u32) (uint-makes 𝓤 H A W w32) (first P) _ (refl, ok .first-fits) $ fjoin ! $
+        move ! (4 ∷ 0 ∷ []) $ fjoin ! $ move ! (3 ∷ 0 ∷ []) $ fjoin ! $ move ! (2 ∷ 0 ∷ []) $ fjoin ! $ move ! (1 ∷ 0 ∷ []) $ fjoin ! $
+        owned ! M.the-row (Is M.the-row) (LL.makes M.the-type M′.the-plain 𝓤 H A) (P .args .0) _ is $ fjoin ! $
         owned ! M.the-row (Is M.the-row) (LL.makes M.the-type M′.the-plain 𝓤 H A) (t .machine) _ (t .is) $ move ! (1 ∷ 0 ∷ []) $ done !
 
     -- ---- new
@@ -123,32 +129,39 @@ module _ (P : Passed) (ok : Fits P) (is : Is M.the-row (P .args .0) (M′.lowere
     to-new = (((κr P, tt), (P .qs .1 .1 .1 .0, tt), tt, (roll P, tt), (slice (roll P) ∷ [], tt)), tt)
 
     goes-new : ent 𝓤 (⋆ 𝓤 H A (‵ (Roll P) ∷ Roll-token P 𝓤 ∷ [])) (New 𝓤 H A mem run .pre to-new)
-    goes-new = qed W (‵ (Roll P) ∷ Roll-token P 𝓤 ∷ []) ∵ nothing ! $ move ! (1 ∷ 0 ∷ []) $ fjoin ! $ nothing ! $ move ! (2 ∷ 0 ∷ []) $ join ! $ join ! $ frame ! $ done !
+    goes-new = qed W (‵ (Roll P) ∷ Roll-token P 𝓤 ∷ []) ∵ nothing ! $ move ! (1 ∷ 0 ∷ []) $ fjoin ! $ nothing ! $ move ! (2 ∷ 0 ∷ []) $ join ! $ join ! $
+        frame ! $ done !
 
     abbrev pub Made : Val → Item 𝓤
     Made w = later (given (w ≡ mach P 0) (raw (⋆ 𝓤 H A (Held P 𝓤 0 start))))
 
     abbrev Reader-made : Val → Reader → Item 𝓤
-    Reader-made w r = ((Roll-token P 𝓤 ⊛ ‵ ftrue) ⊛ ‵ (B P .own r (w ∷ []))) ⊛ raw (ensured 𝓤 H A new.ended (new.clauses 𝓤 H A mem run) (κr P, tt) (roll P, tt) tt r)
+    Reader-made w r = ((Roll-token P 𝓤 ⊛ ‵ ftrue) ⊛ ‵ (B P .own r (w ∷ []))) ⊛ raw (ensured 𝓤 H A new.ended (new.clauses 𝓤 H A mem run) (κr P, tt)
+        (roll P, tt) tt r)
 
     after-new : (w : Val) → ent 𝓤 (sep 𝓤 (New 𝓤 H A mem run .post to-new w) (⋆ 𝓤 H A (Slices P 𝓤 start))) (mean 𝓤 H A (Made w))
     after-new w =
-        qed W (raw (New 𝓤 H A mem run .post to-new w) ∷ Slices P 𝓤 start) ∵ updating ! $ use1 W (later (some (Reader-made w))) (id⊢ 𝓤 _) $ await ! tt $ pick ! (λ r.
+        qed W (raw (New 𝓤 H A mem run .post to-new w) ∷ Slices P 𝓤 start) ∵ updating ! $ use1 W (later (some (Reader-made w))) (id⊢ 𝓤 _) $ await ! tt $
+        pick ! (λ r.
         split ! $ move ! (1 ∷ []) $ use1 W (raw (fact 𝓤 ((r .src ≡ roll P) × (r .line ≡ 0)))) (new-said 𝓤 H A mem run (κr P) (roll P) r) $
-        heard ! ((r .src ≡ roll P) × (r .line ≡ 0)) (λ e. split ! $ move ! (1 ∷ []) $ rewrite ! 0 (λ (x : Reader). ‵ (B P .own x (w ∷ []))) (λ i. record { src = e .0 i; line = e .1 i }) refl $
-        peeks ! (B P) (Is (B P)) (shows 𝓤 H A (B P)) (reader P 0) (w ∷ []) (λ is. rewrite ! 0 (λ (vs : List Val). ‵ (B P .own (reader P 0) vs)) (spelled P 0 w is) refl $
+        heard ! ((r .src ≡ roll P) × (r .line ≡ 0)) (λ e. split ! $ move ! (1 ∷ []) $
+        rewrite ! 0 (λ (x : Reader). ‵ (B P .own x (w ∷ []))) (λ i. record { src = e .0 i; line = e .1 i }) refl $
+        peeks ! (B P) (Is (B P)) (shows 𝓤 H A (B P)) (reader P 0) (w ∷ []) (λ is. rewrite ! 0 (λ (vs : List Val). ‵ (B P .own (reader P 0) vs))
+        (spelled P 0 w is) refl $
         move ! (1 ∷ []) $ split ! $ move ! (1 ∷ []) $ drop ! $ move ! (1 ∷ 0 ∷ []) $ at-once ! $ check ! (ap only (spelled P 0 w is)) $ done !)))
 
     pub made : (C : Calls 𝓤 H) → FmC 𝓤 H (W .laws) C → Triple 𝓤 (C #reader·new) (New 𝓤 H A mem run)
         → ent 𝓤 (onEntry 𝓤 H A play-lines.signature (P .κs) (P .qs) (P .args) vals) (C #reader·new (slice (roll P) ∷ []) (λ w. mean 𝓤 H A (Made w)))
     unfolding start
     made C fm known =
-        qed W ((‵ (flft (P .κs .0) (P .qs .0)) ⊛ ‵ (flft (P .κs .1 .0) (P .qs .1 .0)) ⊛ Token P 𝓤 ⊛ Roll-token P 𝓤 ⊛ ‵ (flft (P .κs .1 .1 .1 .1 .0) (P .qs .1 .1 .1 .1 .0)) ⊛ ‵ ftrue)
+        qed W ((‵ (flft (P .κs .0) (P .qs .0)) ⊛ ‵ (flft (P .κs .1 .0) (P .qs .1 .0)) ⊛ Token P 𝓤 ⊛ Roll-token P 𝓤 ⊛ ‵ (flft (P .κs .1 .1 .1 .1 .0)
+        (P .qs .1 .1 .1 .1 .0)) ⊛ ‵ ftrue)
         ∷ ‵ (owns (typesAt (play-lines.signature .params) (P .κs)) (P .args) vals) ∷ []) ∵
         -- the tokens of pool, table, image, roll and out, and then what is owned
         split ! $ move ! (1 ∷ []) $ split ! $ move ! (1 ∷ []) $ split ! $ move ! (1 ∷ []) $ split ! $ move ! (1 ∷ []) $ split ! $ move ! (1 ∷ []) $ drop ! $
         -- [κo; κr; κi; κt; κp; owns]
-        move ! (5 ∷ []) $ fsplit ! $ drop ! $ fsplit ! $ move ! (1 ∷ []) $ fsplit ! $ move ! (1 ∷ []) $ fsplit ! $ move ! (1 ∷ []) $ fsplit ! $ move ! (1 ∷ []) $ fsplit ! $ drop ! $ fsplit ! $
+        move ! (5 ∷ []) $ fsplit ! $ drop ! $ fsplit ! $ move ! (1 ∷ []) $ fsplit ! $ move ! (1 ∷ []) $ fsplit ! $ move ! (1 ∷ []) $ fsplit ! $
+        move ! (1 ∷ []) $ fsplit ! $ drop ! $ fsplit ! $
         -- [out; usize; Roll; Image; table; pool; κo; κr; κi; κt; κp]
         move ! (2 ∷ []) $ use1 W (‵ (Roll P) ⊛ ‵ (Roll P)) (shr-slice-copy 𝓤 H A W (named 3) (κr P) u8 .twice (roll P) (slice (roll P) ∷ [])) $ split ! $
         -- [Roll; Roll; out; usize; Image; table; pool; κo; κr; κi; κt; κp]

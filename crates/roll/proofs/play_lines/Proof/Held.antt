@@ -186,7 +186,8 @@ module _ (P : Passed) where
       abbrev pub Replied : ℕ → Val → Item 𝓤
       Replied k w = later (some (λ (t : Turn (k + 1)). given (w ≡ M′.lowered (t .machine)) (raw (⋆ 𝓤 H A (Held k t)))))
 
-  module _ {M₁ : Type 1} (𝓤 : URA M₁) (H : Heap 𝓤) (A : Atoms 𝓤) (W : Given 𝓤 H A) (mem : Memory → SProp 𝓤) (run : Routine → Fun 𝓤) (C : Calls 𝓤 H) (fm : FmC 𝓤 H (W .laws) C) where
+  module _ {M₁ : Type 1} (𝓤 : URA M₁) (H : Heap 𝓤) (A : Atoms 𝓤) (W : Given 𝓤 H A) (mem : Memory → SProp 𝓤) (run : Routine
+      → Fun 𝓤) (C : Calls 𝓤 H) (fm : FmC 𝓤 H (W .laws) C) where
     -- a call whose callee is handed `pre`, and R is kept
     pub called : (f : Name) (c : Contract 𝓤) → Triple 𝓤 (C f) c → (x : c .Ghost) (R : SProp 𝓤) (Q : Val → SProp 𝓤)
         → ((w : Val) → ent 𝓤 (sep 𝓤 (c .post x w) R) (Q w)) → ent 𝓤 (sep 𝓤 (c .pre x) R) (C f (c .args x) Q)
@@ -198,22 +199,29 @@ module _ (P : Passed) where
       to-next = (((κr, tt), (P .qs .1 .1 .1 .0, tt), tt, (reader k, tt), (mach k ∷ [], tt)), tt)
 
       goes-next : ent 𝓤 (⋆ 𝓤 H A (‵ (Own k) ∷ Roll-token 𝓤 ∷ [])) (Next 𝓤 H A mem run .pre to-next)
-      goes-next = qed W (‵ (Own k) ∷ Roll-token 𝓤 ∷ []) ∵ nothing ! $ move ! (1 ∷ 0 ∷ []) $ fjoin ! $ nothing ! $ move ! (2 ∷ 0 ∷ []) $ join ! $ join ! $ frame ! $ done !
+      goes-next = qed W (‵ (Own k) ∷ Roll-token 𝓤 ∷ []) ∵ nothing ! $ move ! (1 ∷ 0 ∷ []) $ fjoin ! $ nothing ! $ move ! (2 ∷ 0 ∷ []) $ join ! $ join ! $
+          frame ! $ done !
 
       abbrev Line-read : Val → Line → Item 𝓤
-      Line-read w l = ((Roll-token 𝓤 ⊛ ‵ ftrue) ⊛ ‵ (S.the-row .own l (w ∷ []))) ⊛ raw (ensured 𝓤 H A next.ended (next.clauses 𝓤 H A mem run) (κr, tt) (reader k, tt) tt l)
+      Line-read w l = ((Roll-token 𝓤 ⊛ ‵ ftrue) ⊛ ‵ (S.the-row .own l (w ∷ []))) ⊛ raw (ensured 𝓤 H A next.ended (next.clauses 𝓤 H A mem run) (κr, tt)
+          (reader k, tt) tt l)
 
       after-next : (w : Val) → ent 𝓤 (sep 𝓤 (Next 𝓤 H A mem run .post to-next w) (⋆ 𝓤 H A (‵ (Own k) ∷ Slices 𝓤 t))) (mean 𝓤 H A (Read 𝓤 H A t w))
       after-next w =
-          qed W (raw (Next 𝓤 H A mem run .post to-next w) ∷ ‵ (Own k) ∷ Slices 𝓤 t) ∵ updating ! $ use1 W (later (some (Line-read w))) (id⊢ 𝓤 _) $ await ! tt $ pick ! (λ l.
-          split ! $ move ! (1 ∷ []) $ use1 W (raw (fact 𝓤 (l ≡ lineAt (roll .now) k))) (next-said 𝓤 H A mem run κr (reader k) l) $ heard ! (l ≡ lineAt (roll .now) k) (λ e. split ! $ move ! (1 ∷ []) $
-          rewrite ! 0 (λ (x : Line). ‵ (S.the-row .own x (w ∷ []))) e refl $ facts ! S.the-row (Is S.the-row) (shows 𝓤 H A S.the-row) (lineAt (roll .now) k) (w ∷ []) (λ is.
+          qed W (raw (Next 𝓤 H A mem run .post to-next w) ∷ ‵ (Own k) ∷ Slices 𝓤 t) ∵ updating ! $ use1 W (later (some (Line-read w))) (id⊢ 𝓤 _) $
+          await ! tt $ pick ! (λ l.
+          split ! $ move ! (1 ∷ []) $ use1 W (raw (fact 𝓤 (l ≡ lineAt (roll .now) k))) (next-said 𝓤 H A mem run κr (reader k) l) $
+          heard ! (l ≡ lineAt (roll .now) k) (λ e. split ! $ move ! (1 ∷ []) $
+          rewrite ! 0 (λ (x : Line). ‵ (S.the-row .own x (w ∷ []))) e refl $
+          facts ! S.the-row (Is S.the-row) (shows 𝓤 H A S.the-row) (lineAt (roll .now) k) (w ∷ []) (λ is.
           split ! $ move ! (1 ∷ []) $ drop ! $ move ! (1 ∷ 0 ∷ []) $ at-once ! $ check ! is $ done !)))
 
-      pub nexted : Triple 𝓤 (C #reader·next) (Next 𝓤 H A mem run) → ent 𝓤 (⋆ 𝓤 H A (Held 𝓤 k t)) (C #reader·next (mach k ∷ []) (λ w. mean 𝓤 H A (Read 𝓤 H A t w)))
+      pub nexted : Triple 𝓤 (C #reader·next) (Next 𝓤 H A mem run) → ent 𝓤 (⋆ 𝓤 H A (Held 𝓤 k t)) (C #reader·next (mach k ∷ [])
+          (λ w. mean 𝓤 H A (Read 𝓤 H A t w)))
       nexted known =
           qed W (Held 𝓤 k t) ∵
-          use1 W (‵ (Own k) ⊛ ‵ (Own k)) (LL.copy (T.the-type (namedLft 1 0 tt (κr, tt))) (T′.the-copy (namedLft 1 0 tt (κr, tt))) 𝓤 H A W .twice (reader k) (mach k ∷ [])) $ split ! $
+          use1 W (‵ (Own k) ⊛ ‵ (Own k)) (LL.copy (T.the-type (namedLft 1 0 tt (κr, tt))) (T′.the-copy (namedLft 1 0 tt (κr, tt))) 𝓤 H A W .twice (reader k)
+          (mach k ∷ [])) $ split ! $
           move ! (0 ∷ 2 ∷ []) $ use2 W (raw (Next 𝓤 H A mem run .pre to-next)) goes-next $
           by ! (called #reader·next (Next 𝓤 H A mem run) known to-next (⋆ 𝓤 H A (‵ (Own k) ∷ Slices 𝓤 t)) (λ w. mean 𝓤 H A (Read 𝓤 H A t w)) after-next)
 
@@ -223,20 +231,26 @@ module _ (P : Passed) where
       to-skip = (((κr, tt), (P .qs .1 .1 .1 .0, tt), tt, (reader j, tt), (mach j ∷ [], tt)), tt)
 
       goes-skip : j + 1 < 2 ^ 64 → ent 𝓤 (⋆ 𝓤 H A (‵ (Own j) ∷ Roll-token 𝓤 ∷ [])) (Skip 𝓤 H A mem run .pre to-skip)
-      goes-skip ok = qed W (‵ (Own j) ∷ Roll-token 𝓤 ∷ []) ∵ says ! ok $ nothing ! $ move ! (1 ∷ 0 ∷ []) $ fjoin ! $ nothing ! $ move ! (2 ∷ 0 ∷ []) $ join ! $ frame ! $ done !
+      goes-skip ok = qed W (‵ (Own j) ∷ Roll-token 𝓤 ∷ []) ∵ says ! ok $ nothing ! $ move ! (1 ∷ 0 ∷ []) $ fjoin ! $ nothing ! $ move ! (2 ∷ 0 ∷ []) $
+          join ! $ frame ! $ done !
 
       abbrev Reader-moved : Val → Reader → Item 𝓤
-      Reader-moved w r = ((Roll-token 𝓤 ⊛ ‵ ftrue) ⊛ ‵ (B .own r (w ∷ []))) ⊛ raw (ensured 𝓤 H A skip.ended (skip.clauses 𝓤 H A mem run) (κr, tt) (reader j, tt) tt r)
+      Reader-moved w r = ((Roll-token 𝓤 ⊛ ‵ ftrue) ⊛ ‵ (B .own r (w ∷ []))) ⊛ raw (ensured 𝓤 H A skip.ended (skip.clauses 𝓤 H A mem run) (κr, tt)
+          (reader j, tt) tt r)
 
       after-skip : (w : Val) → ent 𝓤 (sep 𝓤 (Skip 𝓤 H A mem run .post to-skip w) (⋆ 𝓤 H A (Slices 𝓤 t))) (mean 𝓤 H A (Moved 𝓤 H A j t w))
       after-skip w =
-          qed W (raw (Skip 𝓤 H A mem run .post to-skip w) ∷ Slices 𝓤 t) ∵ updating ! $ use1 W (later (some (Reader-moved w))) (id⊢ 𝓤 _) $ await ! tt $ pick ! (λ r.
+          qed W (raw (Skip 𝓤 H A mem run .post to-skip w) ∷ Slices 𝓤 t) ∵ updating ! $ use1 W (later (some (Reader-moved w))) (id⊢ 𝓤 _) $ await ! tt $
+          pick ! (λ r.
           split ! $ move ! (1 ∷ []) $ use1 W (raw (fact 𝓤 ((r .src ≡ roll) × (r .line ≡ j + 1)))) (skip-said 𝓤 H A mem run κr (reader j) r) $
-          heard ! ((r .src ≡ roll) × (r .line ≡ j + 1)) (λ e. split ! $ move ! (1 ∷ []) $ rewrite ! 0 (λ (x : Reader). ‵ (B .own x (w ∷ []))) (λ i. record { src = e .0 i; line = e .1 i }) refl $
-          peeks ! B (Is B) (shows 𝓤 H A B) (reader (j + 1)) (w ∷ []) (λ is. rewrite ! 0 (λ (vs : List Val). ‵ (B .own (reader (j + 1)) vs)) (spelled (j + 1) w is) refl $
+          heard ! ((r .src ≡ roll) × (r .line ≡ j + 1)) (λ e. split ! $ move ! (1 ∷ []) $
+          rewrite ! 0 (λ (x : Reader). ‵ (B .own x (w ∷ []))) (λ i. record { src = e .0 i; line = e .1 i }) refl $
+          peeks ! B (Is B) (shows 𝓤 H A B) (reader (j + 1)) (w ∷ []) (λ is. rewrite ! 0 (λ (vs : List Val). ‵ (B .own (reader (j + 1)) vs))
+          (spelled (j + 1) w is) refl $
           move ! (1 ∷ []) $ split ! $ move ! (1 ∷ []) $ drop ! $ move ! (1 ∷ 0 ∷ []) $ at-once ! $ check ! (ap only (spelled (j + 1) w is)) $ done !)))
 
-      pub skipped : Triple 𝓤 (C #reader·skip) (Skip 𝓤 H A mem run) → j + 1 < 2 ^ 64 → ent 𝓤 (⋆ 𝓤 H A (Held 𝓤 j t)) (C #reader·skip (mach j ∷ []) (λ w. mean 𝓤 H A (Moved 𝓤 H A j t w)))
+      pub skipped : Triple 𝓤 (C #reader·skip) (Skip 𝓤 H A mem run) → j + 1 < 2 ^ 64
+          → ent 𝓤 (⋆ 𝓤 H A (Held 𝓤 j t)) (C #reader·skip (mach j ∷ []) (λ w. mean 𝓤 H A (Moved 𝓤 H A j t w)))
       skipped known ok =
           qed W (Held 𝓤 j t) ∵ use2 W (raw (Skip 𝓤 H A mem run .pre to-skip)) (goes-skip ok) $
           by ! (called #reader·skip (Skip 𝓤 H A mem run) known to-skip (⋆ 𝓤 H A (Slices 𝓤 t)) (λ w. mean 𝓤 H A (Moved 𝓤 H A j t w)) after-skip)

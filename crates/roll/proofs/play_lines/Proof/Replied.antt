@@ -46,7 +46,8 @@ use Rattle.roll.proofs.reply.Symbol.{name as #roll·reply}
 use Rattle.roll.specs.Play.{Replied as ReplySaid}
 use Rattle.roll.proofs.play_lines.Proof.Held.{Passed, Fits, Turn, Held, Image, Token, Own, Roll, Roll-token, Reply, Replied, called, slice, pool₀, table₀, image, roll, first, out₀, n, κi}
 
-module _ (P : Passed) (ok : Fits P) {M₁ : Type 1} (𝓤 : URA M₁) (H : Heap 𝓤) (A : Atoms 𝓤) (W : Given 𝓤 H A) (mem : Memory → SProp 𝓤) (run : Routine → Fun 𝓤) (C : Calls 𝓤 H) (fm : FmC 𝓤 H (W .laws) C)
+module _ (P : Passed) (ok : Fits P) {M₁ : Type 1} (𝓤 : URA M₁) (H : Heap 𝓤) (A : Atoms 𝓤) (W : Given 𝓤 H A) (mem : Memory → SProp 𝓤) (run : Routine
+    → Fun 𝓤) (C : Calls 𝓤 H) (fm : FmC 𝓤 H (W .laws) C)
     (k : ℕ) (t : Turn P k) (less : k < n P) (v : Val) (is-line : Is S.the-row (lineAt (roll P .now) k) (v ∷ [])) where
   -- the machine values that are passed
   abbrev pub vals : List Val
@@ -58,7 +59,32 @@ module _ (P : Passed) (ok : Fits P) {M₁ : Type 1} (𝓤 : URA M₁) (H : Heap 
     κs′ = (ν ∷ [], (κi P, tt))
 
     abbrev passed : Args reply.signature κs′
-    passed = (t .machine, (at u8 (pool₀ P) p (t .pool), (at u16 (table₀ P) s (t .table), (image P, (lineAt (roll P .now) k, (first P, (k, (at u8 (out₀ P) o (t .out), tt))))))))
+    passed = (
+      t .machine,
+      (
+        at u8 (pool₀ P) p (t .pool),
+        (
+          at u16 (table₀ P) s (t .table),
+          (
+            image P,
+            (
+              lineAt (roll P .now) k,
+              (
+                first P,
+                (
+                  k,
+                  (
+                    at u8 (out₀ P) o
+                        (t .out),
+                    tt,
+                  ),
+                ),
+              ),
+            ),
+          ),
+        ),
+      ),
+    )
 
     abbrev to-reply : Reply 𝓤 H A mem run .Ghost
     to-reply = (
@@ -67,7 +93,29 @@ module _ (P : Passed) (ok : Fits P) {M₁ : Type 1} (𝓤 : URA M₁) (H : Heap 
         (fullShare, (P .qs .1 .1 .0, tt)),
         tt,
         passed,
-        (M′.lowered (t .machine) ∷ [], (slice (pool₀ P) ∷ [], (slice (table₀ P) ∷ [], (slice (image P) ∷ [], (v ∷ [], (vint w32 (first P) ∷ [], (vint w64 k ∷ [], (slice (out₀ P) ∷ [], tt)))))))),
+        (
+          M′.lowered (t .machine) ∷ [],
+          (
+            slice (pool₀ P) ∷ [],
+            (
+              slice (table₀ P) ∷ [],
+              (
+                slice (image P) ∷ [],
+                (
+                  v ∷ [],
+                  (
+                    vint w32 (first P) ∷ [],
+                    (
+                      vint w64 k
+                          ∷ [],
+                      (slice (out₀ P) ∷ [], tt),
+                    ),
+                  ),
+                ),
+              ),
+            ),
+          ),
+        ),
       ),
       tt,
     )
@@ -79,7 +127,8 @@ module _ (P : Passed) (ok : Fits P) {M₁ : Type 1} (𝓤 : URA M₁) (H : Heap 
 
     abbrev Kept : List (Item 𝓤)
     Kept = ‵ (Lent u8 (pool₀ P) (P .κs .0) (ν ∷ []) (P .qs .0) p (t .pool)) ∷ ‵ (Lent u16 (table₀ P) (P .κs .1 .0) (ν ∷ []) (P .qs .1 .0) s (t .table))
-        ∷ ‵ (Lent u8 (out₀ P) (P .κs .1 .1 .1 .1 .0) (ν ∷ []) (P .qs .1 .1 .1 .1 .0) o (t .out)) ∷ ‵ (Image P) ∷ ‵ (Roll P) ∷ ‵ (Own P k) ∷ Roll-token P 𝓤 ∷ []
+        ∷ ‵ (Lent u8 (out₀ P) (P .κs .1 .1 .1 .1 .0) (ν ∷ []) (P .qs .1 .1 .1 .1 .0) o (t .out)) ∷ ‵ (Image P) ∷ ‵ (Roll P) ∷ ‵ (Own P k) ∷ Roll-token P 𝓤
+        ∷ []
 
     goes-reply : ent 𝓤 (⋆ 𝓤 H A Handed) (Reply 𝓤 H A mem run .pre to-reply)
     goes-reply =
@@ -99,32 +148,40 @@ module _ (P : Passed) (ok : Fits P) {M₁ : Type 1} (𝓤 : URA M₁) (H : Heap 
     out-of zs = zs .1 .1 .1 .1 .1 .1 .1 .0
 
     abbrev Said : Machine → Ends → Type 0
-    Said r zs = ReplySaid (image P .now) (worldOf (t .machine) (t .pool) (t .table)) (lineAt (roll P .now) k) (first P + k) (k * 19) (t .out) (out-of zs) (worldOf r (zs .1 .0) (zs .1 .1 .0))
+    Said r zs = ReplySaid (image P .now) (worldOf (t .machine) (t .pool) (t .table)) (lineAt (roll P .now) k) (first P + k) (k * 19) (t .out) (out-of zs)
+        (worldOf r (zs .1 .0) (zs .1 .1 .0))
 
     abbrev Returned : Val → Machine → Item 𝓤
-    Returned w r = ((‵ (flft (ν ∷ []) fullShare) ⊛ Token P 𝓤 ⊛ ‵ ftrue) ⊛ ‵ (M.the-row .own r (w ∷ []))) ⊛ raw (ensured 𝓤 H A reply.ended (reply.clauses 𝓤 H A mem run) κs′ passed tt r)
+    Returned w r = ((‵ (flft (ν ∷ []) fullShare) ⊛ Token P 𝓤 ⊛ ‵ ftrue) ⊛ ‵ (M.the-row .own r (w
+        ∷ []))) ⊛ raw (ensured 𝓤 H A reply.ended (reply.clauses 𝓤 H A mem run) κs′ passed tt r)
 
     abbrev Ended-at : Machine → Ends → Item 𝓤
     Ended-at r zs = ‵ (lasts reply.ended κs′ passed zs) ⊛ raw (fact 𝓤 (Said r zs))
 
     after-reply : (w : Val) → ent 𝓤 (sep 𝓤 (Reply 𝓤 H A mem run .post to-reply w) (⋆ 𝓤 H A Kept)) (mean 𝓤 H A (Replied P 𝓤 H A k w))
     after-reply w =
-        qed W (raw (Reply 𝓤 H A mem run .post to-reply w) ∷ Kept) ∵ updating ! $ use1 W (later (some (Returned w))) (id⊢ 𝓤 _) $ await ! tt $ pick ! (λ r. split ! $ move ! (1 ∷ []) $
+        qed W (raw (Reply 𝓤 H A mem run .post to-reply w) ∷ Kept) ∵ updating ! $ use1 W (later (some (Returned w))) (id⊢ 𝓤 _) $ await ! tt $
+        pick ! (λ r. split ! $ move ! (1 ∷ []) $
         use1 W (some (Ended-at r)) (id⊢ 𝓤 _) $ pick ! (λ zs. split ! $ move ! (1 ∷ []) $ heard ! (Said r zs) (λ said. fsplit ! $ drop ! $
         -- the last lists, each as long as it was
         fsplit ! $ fsplit ! $ move ! (1 ∷ []) $ feqL ! (λ lp. move ! (1 ∷ []) $ fsplit ! $ fsplit ! $ move ! (1 ∷ []) $ feqL ! (λ ls. move ! (1 ∷ []) $
         fsplit ! $ drop ! $ fsplit ! $ drop ! $ fsplit ! $ drop ! $ fsplit ! $ drop ! $ fsplit ! $ fsplit ! $ move ! (1 ∷ []) $ feqL ! (λ lo.
         -- [out's; true; table's; pool's; the tokens and the result; what is kept]
         move ! (4 ∷ []) $ split ! $ move ! (1 ∷ []) $ facts ! M.the-row (Is M.the-row) (shows 𝓤 H A M.the-row) r (w ∷ []) (λ is. split ! $ lft-end ! tt $
-        use1 W (‵ (fdead (ν ∷ [])) ⊛ ‵ (fdead (ν ∷ []))) (W .lfts .dead-dup (ν ∷ [])) $ split ! $ use1 W (‵ (fdead (ν ∷ [])) ⊛ ‵ (fdead (ν ∷ []))) (W .lfts .dead-dup (ν ∷ [])) $ split ! $
-        move ! (0 ∷ 8 ∷ 7 ∷ []) $ backs ! tt u8 (pool₀ P) (named 0) (P .κs .0) (ν ∷ []) (P .qs .0) (t .pool) (zs .1 .0) p (ok .pool-room) (t .pool-length) lp $
-        move ! (2 ∷ 8 ∷ 7 ∷ []) $ backs ! tt u16 (table₀ P) (named 1) (P .κs .1 .0) (ν ∷ []) (P .qs .1 .0) (t .table) (zs .1 .1 .0) s (ok .table-room) (t .table-length) ls $
-        move ! (4 ∷ 8 ∷ 6 ∷ []) $ backs ! tt u8 (out₀ P) (named 4) (P .κs .1 .1 .1 .1 .0) (ν ∷ []) (P .qs .1 .1 .1 .1 .0) (t .out) (out-of zs) o (ok .out-room) (t .out-length) lo $
+        use1 W (‵ (fdead (ν ∷ [])) ⊛ ‵ (fdead (ν ∷ []))) (W .lfts .dead-dup (ν ∷ [])) $ split ! $
+        use1 W (‵ (fdead (ν ∷ [])) ⊛ ‵ (fdead (ν ∷ []))) (W .lfts .dead-dup (ν ∷ [])) $ split ! $
+        move ! (0 ∷ 8 ∷ 7 ∷ []) $ backs ! tt u8 (pool₀ P) (named 0) (P .κs .0) (ν ∷ []) (P .qs .0) (t .pool) (zs .1 .0) p (ok .pool-room)
+        (t .pool-length) lp $
+        move ! (2 ∷ 8 ∷ 7 ∷ []) $ backs ! tt u16 (table₀ P) (named 1) (P .κs .1 .0) (ν ∷ []) (P .qs .1 .0) (t .table) (zs .1 .1 .0) s (ok .table-room)
+        (t .table-length) ls $
+        move ! (4 ∷ 8 ∷ 6 ∷ []) $ backs ! tt u8 (out₀ P) (named 4) (P .κs .1 .1 .1 .1 .0) (ν ∷ []) (P .qs .1 .1 .1 .1 .0) (t .out)
+        (out-of zs) o (ok .out-room) (t .out-length) lo $
         move ! (6 ∷ []) $ split ! $ keep ! (11 ∷ 12 ∷ 6 ∷ 7 ∷ 4 ∷ 5 ∷ 2 ∷ 3 ∷ 9 ∷ 0 ∷ 10 ∷ []) $
         at-once ! $ show ! (λ (t′ : Turn P (k + 1)). guard 𝓤 (w ≡ M′.lowered (t′ .machine)) (⋆ 𝓤 H A (Held P 𝓤 k t′))) (on r zs said lp ls lo is) $
         check ! (ap only (M′.lowers .val-is r (w ∷ []) is)) $ done !)))))))
       where
-        on : (r : Machine) (zs : Ends) → Said r zs → length (zs .1 .0) ≡ length (t .pool) → length (zs .1 .1 .0) ≡ length (t .table) → length (out-of zs) ≡ length (t .out)
+        on : (r : Machine) (zs : Ends) → Said r zs → length (zs .1 .0) ≡ length (t .pool) → length (zs .1 .1 .0) ≡ length (t .table)
+            → length (out-of zs) ≡ length (t .out)
             → Is M.the-row r (w ∷ []) → Turn P (k + 1)
         on r zs said lp ls lo is = record {
           machine = r;
@@ -136,18 +193,22 @@ module _ (P : Passed) (ok : Fits P) {M₁ : Type 1} (𝓤 : URA M₁) (H : Heap 
           pool-length = lp ∙ t .pool-length;
           table-length = ls ∙ t .table-length;
           out-length = lo ∙ t .out-length;
-          played = played-on (image P .now) (roll P .now) (out₀ P .now) (t .out) (out-of zs) (worldOf (P .args .0) (pool₀ P .now) (table₀ P .now)) (worldOf (t .machine) (t .pool) (t .table))
+          played = played-on (image P .now) (roll P .now) (out₀ P .now) (t .out) (out-of zs) (worldOf (P .args .0) (pool₀ P .now) (table₀ P .now))
+              (worldOf (t .machine) (t .pool) (t .table))
               (worldOf r (zs .1 .0) (zs .1 .1 .0)) k (first P) (t .played) said;
         }
 
-  pub replied : Triple 𝓤 (C #roll·reply) (Reply 𝓤 H A mem run) → ent 𝓤 (⋆ 𝓤 H A (Held P 𝓤 k t)) (H .⇛ (C #roll·reply vals (λ w. mean 𝓤 H A (Replied P 𝓤 H A k w))))
+  pub replied : Triple 𝓤 (C #roll·reply) (Reply 𝓤 H A mem run) → ent 𝓤 (⋆ 𝓤 H A (Held P 𝓤 k t))
+      (H .⇛ (C #roll·reply vals (λ w. mean 𝓤 H A (Replied P 𝓤 H A k w))))
   replied known =
       qed W (Held P 𝓤 k t) ∵ updating ! $ lft-new ! tt (λ ν.
       move ! (3 ∷ 4 ∷ []) $ lends ! tt u8 (pool₀ P) (named 0) (named 0) (P .κs .0) (ν ∷ []) (P .qs .0) (t .pool) (t .pool-length) (λ p.
       move ! (5 ∷ 6 ∷ []) $ lends ! tt u16 (table₀ P) (named 1) (named 0) (P .κs .1 .0) (ν ∷ []) (P .qs .1 .0) (t .table) (t .table-length) (λ s.
       move ! (7 ∷ 8 ∷ []) $ lends ! tt u8 (out₀ P) (named 4) (named 0) (P .κs .1 .1 .1 .1 .0) (ν ∷ []) (P .qs .1 .1 .1 .1 .0) (t .out) (t .out-length) (λ o.
-      move ! (9 ∷ []) $ use1 W (‵ (Image P) ⊛ ‵ (Image P)) (shr-slice-copy 𝓤 H A W (named 2) (κi P) u8 .twice (image P) (slice (image P) ∷ [])) $ split ! $ at-once ! $
+      move ! (9 ∷ []) $ use1 W (‵ (Image P) ⊛ ‵ (Image P)) (shr-slice-copy 𝓤 H A W (named 2) (κi P) u8 .twice (image P) (slice (image P) ∷ [])) $ split ! $
+      at-once ! $
       move ! (8 ∷ 6 ∷ 4 ∷ 2 ∷ 11 ∷ 0 ∷ 7 ∷ 5 ∷ 3 ∷ 1 ∷ 12 ∷ 9 ∷ 10 ∷ []) $
       by ! (via 𝓤 (sep 𝓤 (⋆ 𝓤 H A (Handed ν p s o)) (⋆ 𝓤 H A (Kept ν p s o))) (⊢++ 𝓤 H A (Handed ν p s o) (Kept ν p s o))
       (via 𝓤 (sep 𝓤 (Reply 𝓤 H A mem run .pre (to-reply ν p s o)) (⋆ 𝓤 H A (Kept ν p s o))) (monoL 𝓤 (⋆ 𝓤 H A (Kept ν p s o)) (goes-reply ν p s o))
-      (called P 𝓤 H A W mem run C fm #roll·reply (Reply 𝓤 H A mem run) known (to-reply ν p s o) (⋆ 𝓤 H A (Kept ν p s o)) (λ w. mean 𝓤 H A (Replied P 𝓤 H A k w)) (after-reply ν p s o))))))))
+      (called P 𝓤 H A W mem run C fm #roll·reply (Reply 𝓤 H A mem run) known (to-reply ν p s o) (⋆ 𝓤 H A (Kept ν p s o))
+      (λ w. mean 𝓤 H A (Replied P 𝓤 H A k w)) (after-reply ν p s o))))))))
