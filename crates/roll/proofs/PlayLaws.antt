@@ -1,12 +1,12 @@
 -- How a played roll grows by a line.
 use mathlib.Core.Path.{_≡_, refl, sym, ap, subst, _∙_}
 use mathlib.Core.List.{List, [], _∷_, _++_, append-assoc, append-nil}
-use Prim.Native.Nat.{ℕ, zero, suc, _+_, _-_, _*_, _≤_}
+use Prim.Native.Nat.{ℕ, zero, suc, _+_, _-_, _*_}
 use native.Mathlib.Omega.{arith}
 use native.Mathlib.Numerals.{add-one}
 use native.Mathlib.Nat.{add-zero}
-use lib.ListN.{length, take, drop, length-append, length-drop}
-use lib.Seq.{length-take-le, take-append-seam, drop-append-seam, drop-drop}
+use lib.ListN.{length, take, drop, length-append}
+use lib.Seq.{take-append-seam, drop-append-seam, drop-drop}
 use Rattle.interface.specs.declared.request.Request.{Request}
 use Rattle.interface.specs.Answers.{Answered}
 use Rattle.lines.specs.declared.Line.{Line}
@@ -88,13 +88,7 @@ put-part front d ys at e f g h =
     let n : e - at ≡ 19 = omega arith in
     rw (← f, take-append-seam, drop-append-seam, f, n, drop-drop, ← g, append-assoc)
 
-pub part-length : (xs ys : List ℕ) (at e : ℕ) → e ≡ at + 19 → e ≤ length xs → length ys ≡ 19 → length (take at xs ++ (ys ++ drop (e - at) (drop at xs))) ≡ length xs
-part-length xs ys at e g l h =
-    let n : e - at ≡ 19 = omega arith in
-    let t : length (take at xs) ≡ at = length-take-le at xs (omega arith) in
-    rw (n, length-append (take at xs) (ys ++ drop 19 (drop at xs)), length-append ys (drop 19 (drop at xs)), length-drop 19 (drop at xs), length-drop at xs, t, h) (omega arith)
-
--- the same bytes, as `Replied` has them
+-- they are the bytes that `Replied` has
 pub part-is : (xs ys : List ℕ) (at e : ℕ) → e ≡ at + 19 → take at xs ++ (ys ++ drop (e - at) (drop at xs)) ≡ take at xs ++ (ys ++ drop (at + 19) xs)
 part-is xs ys at e g =
     let n : e - at ≡ 19 = omega arith in
