@@ -37,7 +37,8 @@ pub fn play(
 ) -> Machine
     requires { ⌜ linesOf (length (now roll)) * 19 ≤ length (now out) ⌝ }
     requires { ⌜ first + linesOf (length (now roll)) ≤ 1000000 ⌝ }
-    ensures { λ r. ⌜ Played (now (image .entry)) (worldOf machine (now (pool .entry)) (now (table .entry))) (now (roll .entry)) (linesOf (length (now (roll .entry)))) first (now (out .entry)) (now (out .exit)) (worldOf r (now (pool .exit)) (now (table .exit))) ⌝ }
+    ensures { λ r. ⌜ Played (now (image .entry)) (worldOf machine (now (pool .entry)) (now (table .entry))) (now (roll .entry))
+        (linesOf (length (now (roll .entry)))) first (now (out .entry)) (now (out .exit)) (worldOf r (now (pool .exit)) (now (table .exit))) ⌝ }
 {
     play_lines(
         machine,
@@ -63,7 +64,8 @@ fn play_lines(
     n: usize,
 ) -> Machine
     requires { ⌜ (n * 19 ≤ length (now out)) × (first + n ≤ 1000000) ⌝ }
-    ensures { λ r. ⌜ Played (now (image .entry)) (worldOf machine (now (pool .entry)) (now (table .entry))) (now (roll .entry)) n first (now (out .entry)) (now (out .exit)) (worldOf r (now (pool .exit)) (now (table .exit))) ⌝ }
+    ensures { λ r. ⌜ Played (now (image .entry)) (worldOf machine (now (pool .entry)) (now (table .entry))) (now (roll .entry)) n first (now (out .entry))
+        (now (out .exit)) (worldOf r (now (pool .exit)) (now (table .exit))) ⌝ }
 {
     let mut state = machine;
     let mut reader = new(roll);
@@ -87,7 +89,8 @@ fn reply<'a, 'b>(
     out: &'a mut [u8],
 ) -> Machine
     requires { ⌜ (k * 19 + 19 ≤ length (now out)) × (first + k ≤ 999999) ⌝ }
-    ensures { λ r. ⌜ Replied (now (image .entry)) (worldOf machine (now (pool .entry)) (now (table .entry))) line (first + k) (k * 19) (now (out .entry)) (now (out .exit)) (worldOf r (now (pool .exit)) (now (table .exit))) ⌝ }
+    ensures { λ r. ⌜ Replied (now (image .entry)) (worldOf machine (now (pool .entry)) (now (table .entry))) line (first + k) (k * 19) (now (out .entry))
+        (now (out .exit)) (worldOf r (now (pool .exit)) (now (table .exit))) ⌝ }
 {
     let r = turn(machine, pool, table, image, line);
     let at = k * Line::REPLY;
@@ -99,7 +102,8 @@ fn reply<'a, 'b>(
 
 // One line: its request is called; a malformed one is refused.
 fn turn(machine: Machine, pool: &mut [u8], table: &mut [u16], image: &[u8], line: Line) -> Reply
-    ensures { λ r. ⌜ Turned (now (image .entry)) (worldOf machine (now (pool .entry)) (now (table .entry))) line (outcomeOf r (now (pool .exit)) (now (table .exit))) ⌝ }
+    ensures { λ r. ⌜ Turned (now (image .entry)) (worldOf machine (now (pool .entry)) (now (table .entry))) line
+        (outcomeOf r (now (pool .exit)) (now (table .exit))) ⌝ }
     ensures { λ r. ⌜ valueOf (r .answer) ≤ 65535 ⌝ }
 {
     match line {
