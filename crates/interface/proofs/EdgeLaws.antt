@@ -9,5 +9,6 @@ use Rattle.interface.specs.Refusals.{allMapped, refusal}
 use Rattle.interface.specs.Edges.{numbered, edgesHold}
 
 pub edges-hold : edgesHold ≡ true
-unfolding edgesHold numbered count every lowest inside over follows joins areas mappedPages uncommittedPages lowestGap chargeOf within firstOf slotsAfter copyAfter allMapped refusal
+unfolding edgesHold numbered count every lowest inside over follows joins areas mappedPages uncommittedPages lowestGap chargeOf
+    within firstOf slotsAfter copyAfter allMapped refusal
 edges-hold = refl

@@ -1,5 +1,5 @@
 -- Rows 13 and 14 over the view of a sound state: which calls they can meet.
-use Prim.Native.Nat.{ℕ, _-_, _≤_}
+use Prim.Native.Nat.{ℕ, _≤_}
 use mathlib.Core.Path.{_≡_, sym}
 use mathlib.Core.Bool.{true, false, false≢true}
 use mathlib.Core.Option.{Option, some, none}
@@ -29,7 +29,8 @@ module _ (v : View) (S : Settled v) (q : Request) where
   unfolding slotsAfter copyAfter
   row-13 (isMap e) o m n t = absurd (false≢true (sym (rw e at m)))
   row-13 (isUnmap e) o m n t =
-      let less : chargeOf (over (q .p1) (q .p2) (λ i. Unmapped) (v .slots)) (v .copy) ≤ v .share = omega (arith, S .charged, unmap-charge (v .slots) (v .copy) (q .p1) (q .p2)) in
+      let less : chargeOf (over (q .p1) (q .p2) (λ i. Unmapped) (v .slots)) (v .copy) ≤ v .share =
+      omega (arith, S .charged, unmap-charge (v .slots) (v .copy) (q .p1) (q .p2)) in
       rw e (le-ltb _ _ less)
   row-13 (isProtect e) o m n t =
       let less : chargeOf (over (q .p1) (q .p2) (λ i. withRights (q .p3) (v .slots i)) (v .slots)) (v .copy) ≤ v .share =
