@@ -11,9 +11,11 @@ use Rattle.plain.specs.Cases.{cases, casesOver, noImage, allGiven}
 use Rattle.plain.specs.TurnedBack.{turnedBackCases}
 
 pub starred-cases : allGiven (casesOver noImage cases) ≡ true
-unfolding allGiven count sum every lowest inside over follows joins areas mappedPages uncommittedPages lowestGap chargeOf within firstOf slotsAfter copyAfter allMapped refusal bytesAfter frontAfter backAfter copiedBackAfter held coreValue answer after answers
+unfolding allGiven count sum every lowest inside over follows joins areas mappedPages uncommittedPages lowestGap chargeOf
+    within firstOf slotsAfter copyAfter allMapped refusal bytesAfter frontAfter backAfter copiedBackAfter held coreValue answer after answers
 starred-cases = refl
 
 pub turned-back : allGiven turnedBackCases ≡ true
-unfolding allGiven count sum every lowest inside over follows joins areas mappedPages uncommittedPages lowestGap chargeOf within firstOf slotsAfter copyAfter allMapped refusal bytesAfter frontAfter backAfter copiedBackAfter held coreValue answer after answers
+unfolding allGiven count sum every lowest inside over follows joins areas mappedPages uncommittedPages lowestGap chargeOf
+    within firstOf slotsAfter copyAfter allMapped refusal bytesAfter frontAfter backAfter copiedBackAfter held coreValue answer after answers
 turned-back = refl

@@ -1,7 +1,7 @@
 -- What holds of every sandbox after every list: the charge and share limits, at most 8 areas, marks where they belong.
 use Prim.Native.Nat.{ℕ, _+_, _≤_, _<_}
 use mathlib.Core.Path.{_≡_, refl, sym, ap}
-use mathlib.Core.Bool.{true, false, false≢true}
+use mathlib.Core.Bool.{true, false≢true}
 use mathlib.Core.Option.{Option, some, none, Option·some-ne-none}
 use native.Mathlib.Omega.{arith}
 use lib.Dec.{eqb}

@@ -11,7 +11,7 @@ use borrow.Author.Tests.{eqb-true, eq-eqb}
 use Rattle.basics.proofs.TestLaws.{by-cases}
 use Rattle.interface.specs.declared.request.Request.{Request}
 use Rattle.interface.specs.Answers.{Answered}
-use Rattle.interface.specs.Requests.{_is_, Snapshot, Rewind}
+use Rattle.interface.specs.Requests.{Snapshot, Rewind}
 use Rattle.plain.specs.Machine.{Given, Pages, Core, Kept, Plain, fresh, shares, coreAfter, numberAt, answer, after, answers, afterAll}
 use Rattle.plain.specs.Lists.{upTo, Then, naming, toldTo, toldLater}
 use Rattle.plain.specs.Claims.{TwoLists}
