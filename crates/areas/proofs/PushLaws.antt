@@ -88,7 +88,10 @@ continues-last s page t h = goes-on (last s) page t (and-right (ltb 0 (s .count)
 -- what holds after a page that is not mapped, that makes the last area longer, that starts one, or that finds no place
 pub push-cases : (P : Packed → Type 0) (b : Packed) (page : ℕ) (s : Slot) → (s ≡ Unmapped → P b)
     → ((t : Attributes) → s ≡ Mapped t → continues (b .areas) page t ≡ true → P (record { areas = extended (b .areas); fits = b .fits }))
-    → ((t : Attributes) → s ≡ Mapped t → continues (b .areas) page t ≡ false → b .areas .count < 8 → P (record { areas = added (b .areas) page t; fits = b .fits }))
+    → ((t : Attributes) → s ≡ Mapped t → continues (b .areas) page t ≡ false → b .areas .count < 8 → P (record {
+      areas = added (b .areas) page t;
+      fits = b .fits;
+    }))
     → ((t : Attributes) → s ≡ Mapped t → continues (b .areas) page t ≡ false → ltb (b .areas .count) 8 ≡ false → P (record { areas = b .areas; fits = false }))
     → P (push b page s)
 unfolding push
