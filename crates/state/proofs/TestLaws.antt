@@ -183,7 +183,8 @@ module _ (images : ℕ) (st : Store) (s : ℕ) (b : Sandbox) where
       let C : WellFormed images (b .snapshot) = formed images (b .snapshot) (h₂ .0) in
       let page = pages-true (h₃ .0) in
       let R = record-true (b .opened) (b .share) (b .taken) (b .present .count) (b .snapshot .count) (h₄ .1) in
-      let below : (i : ℕ) → isCommitted (slots (b .present) i) ≡ true → i < 64 = λ i c. slots-inside images (b .present) P i (committed-mapped (slots (b .present) i) c) in
+      let below : (i : ℕ) → isCommitted (slots (b .present) i) ≡ true → i < 64 =
+      λ i c. slots-inside images (b .present) P i (committed-mapped (slots (b .present) i) c) in
       let none : b .taken ≡ false → b .snapshot ≡ empty = λ t. formed-empty images (b .snapshot) C (R .untaken t) in
       record {
         present = P;
@@ -267,5 +268,6 @@ sound-of image w S =
       whole = S .whole;
       images = S .images;
     }))
-    (and-of (named-marksb (framesOf w) (w .store .marks) (w .store .table) (S .filed .few) (S .filed .entries) (S .filed .low) (S .filed .high) (S .filed .names))
+    (and-of
+    (named-marksb (framesOf w) (w .store .marks) (w .store .table) (S .filed .few) (S .filed .entries) (S .filed .low) (S .filed .high) (S .filed .names))
     (and-of (sandboxes-of (pagesIn (length image)) w (S .each)) (le-leb _ _ (S .pooled))))
