@@ -1,6 +1,6 @@
 // A program: the roll of document 01, twelve requests without an image, over the machine with 8 frames.
-// It shows the machine at work from its start on. It promises to be safe and to end, and that it begins at the started state; its `stdout` is the text of document 01.
-// It stands on `soundness` for the start, on `machine` for each call, on `lines` for the printed replies, and on the kit's `io`.
+// It shows the machine at work from its start on. It promises to be safe and to end, and that it begins at the started state; its `stdout` is the text of
+// document 01. It stands on `soundness` for the start, on `machine` for each call, on `lines` for the printed replies, and on the kit's `io`.
 ghost use mathlib.Core.Path.{_≡_};
 ghost use mathlib.Core.List.{[]};
 ghost use Rattle.state.specs.World.{worldOf};
