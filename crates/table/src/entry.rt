@@ -48,7 +48,8 @@ fn move_front(table: &mut [u16], sandbox: u8, page: PageNo)
     requires { ⌜ page .0 < 64 ⌝ }
     requires { ⌜ length (now table) ≡ 512 ⌝ }
     ensures { λ r. ⌜
-        ((h : Words) (pool : List ℕ) → kept h pool (now (table .exit)) ≡ move (frontOf sandbox (page .0)) (backOf sandbox (page .0)) (kept h pool (now (table .entry)))) ⌝ }
+        ((h : Words) (pool : List ℕ) → kept h pool (now (table .exit))
+        ≡ move (frontOf sandbox (page .0)) (backOf sandbox (page .0)) (kept h pool (now (table .entry)))) ⌝ }
 {
     let from = front_index(sandbox, page);
     let to = from + PageNo::COUNT;

@@ -6,7 +6,8 @@ ghost use Rattle.basics.specs.Choice.{_when_else_};
 ghost use Rattle.frames.specs.declared.Held.{Held as Words};
 ghost use Rattle.pages.specs.Parts.{zeros, setFrame};
 ghost use Rattle.marks.specs.Named.{usedBelow};
-ghost use Rattle.table.specs.Store.{kept, entry, frontOf, backOf, pageIn, contents, pageFrom, underFront, Ranged, Filed, free, take, storeByte, rewindPage, freeTo, cleared, Touched};
+ghost use Rattle.table.specs.Store.{kept, entry, frontOf, backOf, pageIn, contents, pageFrom, underFront, Ranged, Filed};
+ghost use Rattle.table.specs.Store.{free, take, storeByte, rewindPage, freeTo, cleared, Touched};
 ghost use Rattle.table.specs.Source.{sourceBytes, sourceEnd};
 use crate::entry::back;
 use crate::entry::frame_of;
@@ -44,7 +45,9 @@ pub fn read_byte(
     requires { ⌜ Ranged 256 (now pool) (now table) ⌝ }
     requires { ⌜ sourceEnd source * 256 ≤ length (now image) ⌝ }
     ensures { λ r. ⌜
-        ((h : Words) → r ≡ getD (pageFrom (underFront committed (sourceBytes (now (image .entry)) source) (contents 256 (kept h (now (pool .entry)) (now (table .entry))) (backOf sandbox (page .0)))) (contents 256 (kept h (now (pool .entry)) (now (table .entry))) (frontOf sandbox (page .0)))) offset 0) ⌝ }
+        ((h : Words) → r ≡ getD (pageFrom (underFront committed (sourceBytes (now (image .entry)) source)
+        (contents 256 (kept h (now (pool .entry)) (now (table .entry))) (backOf sandbox (page .0))))
+        (contents 256 (kept h (now (pool .entry)) (now (table .entry))) (frontOf sandbox (page .0)))) offset 0) ⌝ }
 {
     let front = front(table, sandbox, page);
     if front != 0 {
@@ -63,7 +66,8 @@ pub fn store_byte(pool: &mut [u8], table: &[u16], sandbox: u8, page: PageNo, off
     requires { ⌜ page .0 < 64 ⌝ }
     requires { ⌜ Ranged 256 (now pool) (now table) ⌝ }
     ensures { λ r. ⌜
-        ((h : Words) → kept h (now (pool .exit)) (now (table .entry)) ≡ storeByte 256 (frontOf sandbox (page .0)) offset byte (kept h (now (pool .entry)) (now (table .entry)))) ⌝ }
+        ((h : Words) → kept h (now (pool .exit)) (now (table .entry))
+        ≡ storeByte 256 (frontOf sandbox (page .0)) offset byte (kept h (now (pool .entry)) (now (table .entry)))) ⌝ }
 {
     let front = front(table, sandbox, page);
     if front == 0 {
@@ -91,7 +95,9 @@ pub fn touch(
     requires { ⌜ getD (now table) (frontOf sandbox (page .0)) 0 ≡ 0 ⌝ }
     requires { ⌜ usedBelow (entry (kept held (now pool) (now table))) 512 < frames ⌝ }
     ensures { λ r. ⌜ Touched 256 frames (frontOf sandbox (page .0))
-        (underFront committed (sourceBytes (now (image .entry)) source) (contents 256 (kept held (now (pool .entry)) (now (table .entry))) (backOf sandbox (page .0)))) (kept held (now (pool .entry)) (now (table .entry))) (kept r (now (pool .exit)) (now (table .exit))) ⌝ }
+        (underFront committed (sourceBytes (now (image .entry)) source)
+        (contents 256 (kept held (now (pool .entry)) (now (table .entry))) (backOf sandbox (page .0))))
+        (kept held (now (pool .entry)) (now (table .entry))) (kept r (now (pool .exit)) (now (table .exit))) ⌝ }
 {
     let found = held.greatest_free(frames);
     match found {
@@ -200,7 +206,9 @@ fn take(
     requires { ⌜ f .0 < 128 ⌝ }
     requires { ⌜ f .0 * 256 + 256 ≤ length (now pool) ⌝ }
     ensures { λ r. ⌜ kept r (now (pool .exit)) (now (table .exit)) ≡ take 256 (frontOf sandbox (page .0)) (f .0)
-        (underFront committed (sourceBytes (now (image .entry)) source) (contents 256 (kept held (now (pool .entry)) (now (table .entry))) (backOf sandbox (page .0)))) (kept held (now (pool .entry)) (now (table .entry))) ⌝ }
+        (underFront committed (sourceBytes (now (image .entry)) source)
+        (contents 256 (kept held (now (pool .entry)) (now (table .entry))) (backOf sandbox (page .0))))
+        (kept held (now (pool .entry)) (now (table .entry))) ⌝ }
 {
     let under = back_if(table, sandbox, page, committed);
     fill_frame(pool, f, under, image, source);
