@@ -140,7 +140,8 @@ module _ (v : View) (q : Request) where
       let o = l .past in
       rw (o .past .call, o .past .row, o .past .opened, o .closed, l .limits, t .past .untaken, t .taken, m .mapped, p .past .free, p .gap, e)
 
-  pub share-exceeded : PastRight v q → (q is Open && ltb (v .frames) (v .shares + q .p1) || ltb (shareAfter q (v .share)) (chargeThen v q)) ≡ true → 13 ≡ refusal v q
+  pub share-exceeded : PastRight v q → (q is Open && ltb (v .frames) (v .shares + q .p1) || ltb (shareAfter q (v .share)) (chargeThen v q)) ≡ true
+      → 13 ≡ refusal v q
   unfolding refusal
   share-exceeded p e =
       let g = p .past in
@@ -154,12 +155,13 @@ module _ (v : View) (q : Request) where
   pub last-row : PastShare v q → (14 when ltb 8 (areas (slotsThen v q)) else 0) ≡ refusal v q
   unfolding refusal
   last-row p =
-      let g = p .past .past in
+      let r = p .past in
+      let g = r .past in
       let m = g .past .past in
       let t = m .past in
       let l = t .past .past in
       let o = l .past in
-      rw (o .past .call, o .past .row, o .past .opened, o .closed, l .limits, t .past .untaken, t .taken, m .mapped, g .past .free, g .gap, p .past .right, p .share)
+      rw (o .past .call, o .past .row, o .past .opened, o .closed, l .limits, t .past .untaken, t .taken, m .mapped, g .past .free, g .gap, r .right, p .share)
 
   pub too-many : PastShare v q → leb (areas (slotsThen v q)) 8 ≡ false → 14 ≡ refusal v q
   too-many p e = let h = lt-ltb 8 (areas (slotsThen v q)) (leb-false (areas (slotsThen v q)) 8 e) in rw h at (last-row p)

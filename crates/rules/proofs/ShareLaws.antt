@@ -48,8 +48,10 @@ module _ (frames images shares : ℕ) (b : Sandbox) (q : Request) where
       let n : (q is Snapshot) ≡ false = rw e in
       rw (m, n)
       (map-charge (slots (b .present)) (copyOf b) (newPage q) first (q .p2) refl (p .fits e)
-      (λ i l. not-true (isMapped (slots (b .present) i))
-      (every-at (λ j. same false (isMapped (slots (b .present) j))) first (q .p2) (p .free e) i (inside-first first (q .p2) i l) (inside-end first (q .p2) i l))))
+      (λ i l.
+      let from = inside-first first (q .p2) i l in
+      let below = inside-end first (q .p2) i l in
+      not-true (isMapped (slots (b .present) i)) (every-at (λ j. same false (isMapped (slots (b .present) j))) first (q .p2) (p .free e) i from below)))
 
   snapshot-then : q .code ≡ Snapshot → chargeThen view q ≡ 2 * mappedPages (slots (b .present))
   unfolding slotsAfter copyAfter
@@ -60,7 +62,8 @@ module _ (frames images shares : ℕ) (b : Sandbox) (q : Request) where
       let o : (q is Open) ≡ true = rw e in
       by-cases (ltb frames (shares + q .p1)) (λ x. rw (open-charge r p e, o, x)) (λ x. rw (open-charge r p e, o, x))
 
-  pub exceeds-map : Passed view q → q .code ≡ Map → (charge : ℕ) → charge ≡ chargeOf (slots (b .present)) (copyOf b) → ltb (b .share) (charge + q .p2) ≡ exceeded
+  pub exceeds-map : Passed view q → q .code ≡ Map → (charge : ℕ) → charge ≡ chargeOf (slots (b .present)) (copyOf b)
+      → ltb (b .share) (charge + q .p2) ≡ exceeded
   exceeds-map p e charge h =
       let o : (q is Open) ≡ false = rw e in
       rw (map-then p e, o, h)
