@@ -48,9 +48,15 @@ module _ (g : Given) (L : Lent g) (qs : List Request) (v : World) (A : Agrees (U
       let back : upTo g qs s .core .copy ≡ some (upTo g qs s .core .pages) = claim-rewound g s qs r in
       record {
         mappings = a .present ∙ rw back;
-        bytes = λ i d m. page-read g L (v .store) s (sandboxAt v s) (upTo g qs s) h (A .reads s) a i d (sym (ap (λ (f : Slots). isMapped (f i)) (a .present)) ∙ m) ∙ rw back;
-        fronts = λ i f d e. let z = frame-is (v .store) (frontOf s i) (upTo g qs s .traces .front i) _ (a .fronts i d) f e in (rw back (h .frontMapped i (z .0)), z .1 ∙ rw back);
-        backs = λ i f d e. let z = frame-is (v .store) (backOf s i) (upTo g qs s .traces .back i) _ (a .backs i d) f e in (h .backIn i (z .0), z .1);
+        bytes = λ i d m.
+            let mapped = sym (ap (λ (f : Slots). isMapped (f i)) (a .present)) ∙ m in
+            page-read g L (v .store) s (sandboxAt v s) (upTo g qs s) h (A .reads s) a i d mapped ∙ rw back;
+        fronts = λ i f d e.
+            let z = frame-is (v .store) (frontOf s i) (upTo g qs s .traces .front i) _ (a .fronts i d) f e in
+            (rw back (h .frontMapped i (z .0)), z .1 ∙ rw back);
+        backs = λ i f d e.
+            let z = frame-is (v .store) (backOf s i) (upTo g qs s .traces .back i) _ (a .backs i d) f e in
+            (h .backIn i (z .0), z .1);
       }
 
   sound : Sound (g .image) v
@@ -99,7 +105,8 @@ unfolding answers
 took-then g s call qs q rest as′ e t =
     let z : getD as′ (length qs) (record { number = 1; value = 0 }) ≡ answer g (upTo g qs) q =
     rw (e, answers-append g fresh qs (q ∷ rest))
-    (getD-at (answers g fresh qs) (answer g (upTo g qs) q) (answers g (after g (upTo g qs) q) rest) (record { number = 1; value = 0 }) (length qs) (length-answers g fresh qs)) in
+    (getD-at (answers g fresh qs) (answer g (upTo g qs) q) (answers g (after g (upTo g qs) q) rest)
+    (record { number = 1; value = 0 }) (length qs) (length-answers g fresh qs)) in
     record { called = t .called; names = t .names; taken = sym (answer-number g (upTo g qs) q) ∙ sym (ap (λ (x : Answered). x .number) z) ∙ t .taken }
 
 pub demand-3 : (g : Given) → Lent g → Demand3 g

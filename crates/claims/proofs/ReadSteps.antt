@@ -94,7 +94,8 @@ module _ (g : Given) (L : Lent g) (st : Store) (s : ℕ) (b : Sandbox) (k : Kept
   no-back i m = by-cases (k .traces .back i) (λ f. absurd (false≢true (sym m ∙ h .backIn i f))) (λ f. f)
 
   -- but for its front
-  pub under : (i : ℕ) → i < 64 → isMapped (k .core .pages .slots i) ≡ true → k .traces .front i ≡ false → pageUnder (g .image) st b s i ≡ listed 256 (k .core .pages .bytes i)
+  pub under : (i : ℕ) → i < 64 → isMapped (k .core .pages .slots i) ≡ true → k .traces .front i ≡ false
+      → pageUnder (g .image) st b s i ≡ listed 256 (k .core .pages .bytes i)
   unfolding pageUnder
   under i l m f =
       by-cases (isCommitted (k .core .pages .slots i))

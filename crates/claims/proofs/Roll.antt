@@ -43,5 +43,18 @@ roll : List Line
 roll = getD cases 0 []
 
 roll-played : played (started 8) (requestsOf roll) ≡ getsOf roll
-unfolding chosen played roll count sum every lowest inside over follows joins areas mappedPages uncommittedPages lowestGap chargeOf within firstOf slotsAfter copyAfter allMapped refusal bit putBit held mark countHeld greatest partAt setPart zeros frame setFrame addEntry marksTo marksb contents put free take fill storeByte move rewindPage freeTo moveTo rewindTo fresh slotIn goesOn continues push packTo proper isApart isNone placeOk wellFormed pageOk pagesOk recordOk sandboxOk sandboxesOk soundb pageUnder pageRead packedAfter takenAfter snapshotAfter touched storeAfter heldBy valueAt numberAt step
+unfolding chosen played roll
+    count sum every lowest inside over
+    follows joins areas mappedPages uncommittedPages lowestGap chargeOf
+    within firstOf slotsAfter copyAfter allMapped refusal
+    bit putBit held mark countHeld greatest
+    partAt setPart zeros frame setFrame
+    addEntry marksTo marksb
+    contents put free take fill storeByte move rewindPage freeTo moveTo rewindTo fresh
+    slotIn goesOn continues push packTo
+    proper isApart isNone placeOk wellFormed
+    pageOk pagesOk recordOk sandboxOk sandboxesOk soundb
+    packedAfter takenAfter snapshotAfter
+    pageUnder pageRead touched storeAfter heldBy valueAt
+    numberAt step
 roll-played = refl

@@ -30,7 +30,8 @@ use Rattle.state.specs.World.{World, sandboxAt, closedSandbox, framesOf, shares
 use Rattle.rules.specs.After.{sandboxAfter}
 use Rattle.memory.specs.Memory.{pageRead, storeAfter, heldBy, valueAt}
 use Rattle.machine.specs.Step.{worldAfter, numberAt, step, Outcome, Stepped}
-use Rattle.plain.specs.Machine.{Given, Kept, Plain, held as heldMarks, coreValue, valueAt as plainValue, shares, viewOf, keptAfter, numberAt as plainNumber, answer, after}
+use Rattle.plain.specs.Machine.{Given, Kept, Plain, shares, viewOf, keptAfter, coreValue, answer, after}
+use Rattle.plain.specs.Machine.{held as heldMarks, valueAt as plainValue, numberAt as plainNumber}
 use Rattle.plain.proofs.KeptLaws.{holds-after}
 use Rattle.plain.proofs.ReadLaws.{reads-after}
 use Rattle.plain.proofs.OneSandbox.{after-others}
@@ -95,12 +96,16 @@ used-one st k m h c =
 module _ {C : Type 0} (g : Given) (w : World) (p : Plain) (A : Agrees C g w p) (s : ℕ) where
   pub held-counts : heldBy (w .store) s ≡ usedBelow (from (s * 128) (w .store .table)) 128
   unfolding heldBy
-  held-counts = rw (frames-same g w p A) (count-run (g .frames) (A .tidy .filed .few) (w .store .marks) (entry (w .store)) (A .tidy .filed .names) (s * 128) 128)
+  held-counts =
+      rw (frames-same g w p A)
+      (count-run (g .frames) (A .tidy .filed .few) (w .store .marks) (entry (w .store)) (A .tidy .filed .names) (s * 128) 128)
 
   pub backs-count : s < 4 → usedBelow (from (s * 128 + 64) (w .store .table)) 64 ≡ count (p s .traces .back) 64
   backs-count l =
       used-count (from (s * 128 + 64) (w .store .table)) (p s .traces .back) 64
-      (λ i m. ap (λ (x : ℕ). used (getD (w .store .table) x 0)) (omega arith) ∙ used-one (w .store) (backOf s i) (p s .traces .back i) _ (A .each s l .backs i m))
+      (λ i m.
+      ap (λ (x : ℕ). used (getD (w .store .table) x 0)) (omega arith)
+      ∙ used-one (w .store) (backOf s i) (p s .traces .back i) _ (A .each s l .backs i m))
 
   pub held-same : s < 4 → heldBy (w .store) s ≡ heldMarks (p s .traces)
   unfolding heldMarks
@@ -125,13 +130,15 @@ module _ {C : Type 0} (g : Given) (L : Lent g) (w : World) (p : Plain) (A : Agre
   mine : AgreesAt g (w .store) (q .sandbox) (sandboxAt w (q .sandbox)) (p (q .sandbox))
   mine = A .each (q .sandbox) low
 
-  read-same : q .code ≡ Read → getD (pageRead (g .image) (w .store) (sandboxAt w (q .sandbox)) (q .sandbox) (pageOf q)) (offsetOf q) 0 ≡ p (q .sandbox) .core .pages .bytes (pageOf q) (offsetOf q)
+  read-same : q .code ≡ Read → getD (pageRead (g .image) (w .store) (sandboxAt w (q .sandbox)) (q .sandbox) (pageOf q)) (offsetOf q) 0
+      ≡ p (q .sandbox) .core .pages .bytes (pageOf q) (offsetOf q)
   unfolding within allMapped
   read-same e =
       let limits : (ltb (q .p1) 16384 && usesOne q) ≡ true = rw e at (met .inLimits) in
       let there : isMapped (p (q .sandbox) .core .pages .slots (pageOf q)) ≡ true = rw e at (met .mapped) in
       let page : pageOf q < 64 = omega (arith, ltb-true (q .p1) 16384 (and-left _ _ limits)) in
-      rw (page-read g L (w .store) (q .sandbox) (sandboxAt w (q .sandbox)) (p (q .sandbox)) (A .holds .each (q .sandbox)) (A .reads (q .sandbox)) mine (pageOf q) page there)
+      let h = A .holds .each (q .sandbox) in
+      rw (page-read g L (w .store) (q .sandbox) (sandboxAt w (q .sandbox)) (p (q .sandbox)) h (A .reads (q .sandbox)) mine (pageOf q) page there)
       (listed-at 256 (p (q .sandbox) .core .pages .bytes (pageOf q)) (offsetOf q) (omega arith))
 
   value-same : valueAt (g .image) q (sandboxAt w (q .sandbox)) (w .store) ≡ plainValue g q (p (q .sandbox))
@@ -163,13 +170,17 @@ module _ {C : Type 0} (g : Given) (L : Lent g) (w : World) (p : Plain) (A : Agre
         backs = λ i l. let z : backOf t i ≡ t * 128 + (i + 64) = omega arith in rw z (e (i + 64) (omega arith)) ∙ a .backs i l;
       }
 
-  module _ (f : ℕ) (free : (q is Write) ≡ true → eqb (entry (w .store) (frontOf (q .sandbox) (pageOf q))) 0 ≡ true → (f < g .frames) × (held (w .store .marks) f ≡ 0)) where
+  -- a write that needs a frame takes one that is not held
+  module _ (f : ℕ)
+      (free : (q is Write) ≡ true → eqb (entry (w .store) (frontOf (q .sandbox) (pageOf q))) 0 ≡ true → (f < g .frames) × (held (w .store .marks) f ≡ 0)) where
     store-after : Stored C g (w .store) (storeAfter (g .image) f q (sandboxAt w (q .sandbox)) (w .store)) (q .sandbox) (keptAfter g q (p (q .sandbox)))
     store-after =
-        stored-after g L q (w .store) (A .tidy) (sandboxAt w (q .sandbox)) (p (q .sandbox)) (met .inRow) (A .holds .each (q .sandbox)) (A .reads (q .sandbox)) mine
+        let h = A .holds .each (q .sandbox) in
+        stored-after g L q (w .store) (A .tidy) (sandboxAt w (q .sandbox)) (p (q .sandbox)) (met .inRow) h (A .reads (q .sandbox)) mine
         (shares p) met f (kind q) free
 
-    agrees-own : AgreesAt g (storeAfter (g .image) f q (sandboxAt w (q .sandbox)) (w .store)) (q .sandbox) (sandboxAfter q (sandboxAt w (q .sandbox))) (keptAfter g q (p (q .sandbox)))
+    agrees-own : AgreesAt g (storeAfter (g .image) f q (sandboxAt w (q .sandbox)) (w .store)) (q .sandbox)
+        (sandboxAfter q (sandboxAt w (q .sandbox))) (keptAfter g q (p (q .sandbox)))
     agrees-own =
         let st : Store = w .store in
         let b : Sandbox = sandboxAt w (q .sandbox) in
@@ -192,6 +203,9 @@ module _ {C : Type 0} (g : Given) (L : Lent g) (w : World) (p : Plain) (A : Agre
     here : sandboxAt (worldAfter (g .image) f w q) (q .sandbox) ≡ sandboxAfter q (sandboxAt w (q .sandbox))
     here = getD-set-same (w .sandboxes) (q .sandbox) (sandboxAfter q (sandboxAt w (q .sandbox))) closedSandbox (omega (arith, low, A .row))
 
+    elsewhere : (t : ℕ) → (q .sandbox ≡ t → ⊥) → sandboxAt (worldAfter (g .image) f w q) t ≡ sandboxAt w t
+    elsewhere t apart = getD-set-other (w .sandboxes) (q .sandbox) t (sandboxAfter q (sandboxAt w (q .sandbox))) closedSandbox (λ z. apart (sym z))
+
     there : after g p q (q .sandbox) ≡ keptAfter g q (p (q .sandbox))
     unfolding after
     there = rw (n, eq-eqb (q .sandbox) (q .sandbox) refl)
@@ -203,8 +217,11 @@ module _ {C : Type 0} (g : Given) (L : Lent g) (w : World) (p : Plain) (A : Agre
           row = length-set (w .sandboxes) (q .sandbox) _ ∙ A .row;
           each = λ t l. by-cases (eqb (q .sandbox) t)
               (λ e. rw (← eqb-true (q .sandbox) t e, here, there) agrees-own)
-              (λ e. rw (getD-set-other (w .sandboxes) (q .sandbox) t (sandboxAfter q (sandboxAt w (q .sandbox))) closedSandbox (λ z. eqb-false (q .sandbox) t e (sym z)), after-others g p q t e)
-              (agrees-other (storeAfter (g .image) f q (sandboxAt w (q .sandbox)) (w .store)) t (sandboxAt w t) (p t) (λ x m. store-after .others t x (eqb-false (q .sandbox) t e) m) (A .each t l)));
+              (λ e.
+              let st : Store = storeAfter (g .image) f q (sandboxAt w (q .sandbox)) (w .store) in
+              let apart = eqb-false (q .sandbox) t e in
+              rw (elsewhere t apart, after-others g p q t e)
+              (agrees-other st t (sandboxAt w t) (p t) (λ x m. store-after .others t x apart m) (A .each t l)));
           holds = holds-after g p q (A .holds);
           reads = reads-after g p q (A .holds) (A .reads);
         }
@@ -212,7 +229,8 @@ module _ {C : Type 0} (g : Given) (L : Lent g) (w : World) (p : Plain) (A : Agre
 -- ---- any request
 
 module _ {C : Type 0} (g : Given) (L : Lent g) (w : World) (p : Plain) (A : Agrees C g w p) (q : Request) (o : Outcome) (s : Stepped (g .image) w q o) where
-  free-frame : plainNumber g p q ≡ 0 → (q is Write) ≡ true → eqb (entry (w .store) (frontOf (q .sandbox) (pageOf q))) 0 ≡ true → (s .frame < g .frames) × (held (w .store .marks) (s .frame) ≡ 0)
+  free-frame : plainNumber g p q ≡ 0 → (q is Write) ≡ true → eqb (entry (w .store) (frontOf (q .sandbox) (pageOf q))) 0 ≡ true
+      → (s .frame < g .frames) × (held (w .store .marks) (s .frame) ≡ 0)
   free-frame n = rw (← frames-same g w p A) (frame-free (g .image) w q o s (number-same g L w p A q ∙ n))
 
   pub step-answer : o .answer ≡ answer g p q

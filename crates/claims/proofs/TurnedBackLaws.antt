@@ -134,7 +134,8 @@ all-get-lent (c ∷ cs) e =
     (λ pool table image p t i o s. lent-answer pool table image q o s ∙ rw (p, t, i) (same-answer _ _ (given .0)), all-get-lent cs (given .1))
 
 pub lendings-get : AllGetLent lendings
-unfolding lendingsOk lentAnswer within allMapped firstOf slotsAfter copyAfter refusal coreValue held count sum every lowest inside over follows joins areas mappedPages uncommittedPages lowestGap chargeOf
+unfolding lendingsOk lentAnswer within allMapped firstOf slotsAfter copyAfter refusal coreValue held
+    count sum every lowest inside over follows joins areas mappedPages uncommittedPages lowestGap chargeOf
 lendings-get = all-get-lent lendings refl
 
 stray-number : numberAt [] strayEntry (call₁ Open 1) ≡ 3
