@@ -1,3 +1,4 @@
+-- The program: what it lends has the lengths that are asked for.
 use mathlib.Core.Path.{sym}
 use lib.Seq.{length-take-le}
 use borrow.Author.Needs.{needs}

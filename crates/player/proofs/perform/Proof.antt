@@ -1,11 +1,14 @@
+-- The loop over the lines: after each turn, whatever conversation goes on is one from the start.
 use mathlib.Core.Path.{_≡_, refl, subst, _∙_}
-use mathlib.Core.Bool.{true}
-use Prim.Native.Nat.{_-_, _≤_}
+use mathlib.Core.Bool.{Bool, true}
+use mathlib.Core.List.{List}
+use Prim.Native.Nat.{ℕ, _-_, _≤_}
 use native.Mathlib.Omega.{arith}
 use lib.ListN.{length}
 use borrow.Author.Needs.{needs}
-use Rattle.state.specs.World.{worldOf}
-use Rattle.player.specs.Conversation.{turnOf, Talked}
+use Rattle.state.specs.World.{World, worldOf}
+use Rattle.state.specs.Start.{startedBy}
+use Rattle.player.specs.Conversation.{Turn, turnOf, Talked}
 use Rattle.player.proofs.ConversationLaws.{GoesOnTo, none-so-far, one-turn-more, ended-by, ended-full}
 use Rattle.player.proofs.perform.Statement.{statement}
 use Rattle.player.proofs.perform.Tie as tie
@@ -17,6 +20,52 @@ Inv-loop pool₀ table₀ image machine₀ number₀ pool table machine number =
 
 abbrev μ-loop : tie.MeasureT-loop
 μ-loop pool₀ table₀ image machine₀ number₀ pool table machine number = 65536 - number
+
+-- ---- what is known in the loop
+
+abbrev AtLoop : Type 0
+AtLoop = tie.At-loop Inv-loop μ-loop
+
+abbrev begunOf : AtLoop → tie.After-start Inv-loop μ-loop
+begunOf c = c .before .before .before .before .before .before
+
+abbrev startOf : AtLoop → tie.Start Inv-loop μ-loop
+startOf c = begunOf c .before .before .before .before .before .before
+
+abbrev imageIn : AtLoop → List ℕ
+imageIn c = startOf c .args .image .now
+
+-- the world that the start left
+abbrev worldBegun : AtLoop → World
+worldBegun c = worldOf (begunOf c .start .result .machine) (begunOf c .start .last .0) (begunOf c .start .last .1 .0)
+
+-- is the started one
+from-start : (c : AtLoop) (pool table : List ℕ) (written : Bool) → Talked (imageIn c) (worldBegun c) pool table written
+    → Talked (imageIn c) (startedBy (startOf c .args .pool .now) (startOf c .args .table .now) (imageIn c)) pool table written
+from-start c pool table written = subst (λ x. Talked (imageIn c) x pool table written) (begunOf c .start .ensures .1)
+
+-- the world that a turn meets
+abbrev worldAt : AtLoop → World
+worldAt c = worldOf (c .loop .machine) (c .loop .pool) (c .loop .table)
+
+-- ---- what a turn leaves
+
+abbrev AfterTurn : Type 0
+AfterTurn = tie.After-turn Inv-loop μ-loop
+
+abbrev loopOf : AfterTurn → AtLoop
+loopOf c = c .before .before .before .before .before .before
+
+abbrev poolAfter : AfterTurn → List ℕ
+poolAfter c = c .turn .last .1 .0
+
+abbrev tableAfter : AfterTurn → List ℕ
+tableAfter c = c .turn .last .1 .1 .0
+
+abbrev turnAt : AfterTurn → Turn
+turnAt c = turnOf (c .turn .result) (c .turn .last .1 .1 .1 .1 .1 .0) (c .turn .last .1 .1 .1 .1 .1 .1 .0)
+
+-- ---- the needs
 
 start-requires : tie.Need-start-requires Inv-loop μ-loop
 start-requires c κs = search needs
@@ -41,17 +90,12 @@ same-length-2 c = search needs
 
 returns : tie.Need-returns Inv-loop μ-loop
 returns c =
-    let got = c .before .before .before .before .before .before .before .before .turn in
-    let at = c .before .before .before .before .before .before .before .before .before .before .before .before .before .before .loop in
-    let begun = c .before .before .before .before .before .before .before .before .before .before .before .before .before .before .before .before .before .before .before .before .start in
-    let image = c .before .before .before .before .before .before .before .before .before .before .before .before .before .before .before .before .before .before .before .before .before .before .before .before .before .before .args .image .now in
-    let w = worldOf (begun .result .machine) (begun .last .0) (begun .last .1 .0) in
-    let v = worldOf (at .machine) (at .pool) (at .table) in
-    let pool = got .last .1 .0 in
-    let table = got .last .1 .1 .0 in
-    let t = turnOf (got .result) (got .last .1 .1 .1 .1 .1 .0) (got .last .1 .1 .1 .1 .1 .1 .0) in
-    subst (λ x. Talked image x pool table (got .result .written)) (begun .ensures .1)
-    (ended-by image w (at .number) v (at .inv .3) (got .result .machine) pool table t (got .ensures .0) (got .result .more) (got .ensures .1) (c .if1 .taken))
+    let turning = c .before .before .before .before .before .before .before .before in
+    let got = turning .turn in
+    let at = loopOf turning in
+    from-start at (poolAfter turning) (tableAfter turning) (got .result .written)
+    (ended-by (imageIn at) (worldBegun at) (at .loop .number) (worldAt at) (at .loop .inv .3) (got .result .machine) (poolAfter turning) (tableAfter turning)
+    (turnAt turning) (got .ensures .0) (got .result .more) (got .ensures .1) (c .if1 .taken))
 
 add-number : tie.Need-add-number Inv-loop μ-loop
 add-number c = search needs
@@ -61,19 +105,14 @@ loop-less c = search needs
 
 loop-again : tie.Need-loop-again Inv-loop μ-loop
 loop-again c =
-    let got = c .before .before .before .before .before .before .before .before .before .turn in
-    let at = c .before .before .before .before .before .before .before .before .before .before .before .before .before .before .before .loop in
-    let begun = c .before .before .before .before .before .before .before .before .before .before .before .before .before .before .before .before .before .before .before .before .before .start in
-    let image = c .before .before .before .before .before .before .before .before .before .before .before .before .before .before .before .before .before .before .before .before .before .before .before .before .before .before .before .args .image .now in
-    let w = worldOf (begun .result .machine) (begun .last .0) (begun .last .1 .0) in
-    let v = worldOf (at .machine) (at .pool) (at .table) in
-    let pool = got .last .1 .0 in
-    let table = got .last .1 .1 .0 in
-    let t = turnOf (got .result) (got .last .1 .1 .1 .1 .1 .0) (got .last .1 .1 .1 .1 .1 .1 .0) in (
-      omega (arith, c .before .before .before .before .before .before .before .before .before .before .before .before .before .before .loop-test .taken),
-      got .kept .1 .0 ∙ at .inv .1,
-      got .kept .1 .1 .0 ∙ at .inv .2,
-      one-turn-more image w (at .number) v t (worldOf (got .result .machine) pool table) (at .inv .3)
+    let turning = c .before .before .before .before .before .before .before .before .before in
+    let got = turning .turn in
+    let at = loopOf turning in
+    let v = worldOf (got .result .machine) (poolAfter turning) (tableAfter turning) in (
+      omega (arith, turning .before .before .before .before .before .loop-test .taken),
+      got .kept .1 .0 ∙ at .loop .inv .1,
+      got .kept .1 .1 .0 ∙ at .loop .inv .2,
+      one-turn-more (imageIn at) (worldBegun at) (at .loop .number) (worldAt at) (turnAt turning) v (at .loop .inv .3)
           (got .ensures .0) (got .result .more) (got .ensures .1) (c .before .if1 .left),
     )
 
@@ -85,12 +124,10 @@ same-length-4 c = search needs
 
 returns-2 : tie.Need-returns-2 Inv-loop μ-loop
 returns-2 c =
-    let at = c .before .loop in
-    let begun = c .before .before .before .before .before .before .before .start in
-    let image = c .before .before .before .before .before .before .before .before .before .before .before .before .before .args .image .now in
-    let w = worldOf (begun .result .machine) (begun .last .0) (begun .last .1 .0) in
-    subst (λ x. Talked image x (at .pool) (at .table) true) (begun .ensures .1)
-    (ended-full image w (at .number) (at .machine) (at .pool) (at .table) (at .inv .3) (omega (arith, at .inv .0, c .loop-test .left)))
+    let at = c .before in
+    let full : at .loop .number ≡ 65536 = omega (arith, at .loop .inv .0, c .loop-test .left) in
+    from-start at (at .loop .pool) (at .loop .table) true
+    (ended-full (imageIn at) (worldBegun at) (at .loop .number) (at .loop .machine) (at .loop .pool) (at .loop .table) (at .loop .inv .3) full)
 
 pub perform-spec : {M : Type 1} → statement M
 perform-spec =
