@@ -22,11 +22,13 @@ use Rattle.interface.proofs.SlotLaws.{mapped-rights, committed-rights, mapped-c
 use Rattle.interface.proofs.KindLaws.{Kind, kind, isMap, isUnmap, isProtect, isWrite, isSnapshot, isRewind, isOther}
 use Rattle.interface.proofs.AcceptedLaws.{accepted, map-fits}
 use Rattle.interface.proofs.ChargeLaws.{charge-covers}
-use Rattle.plain.specs.Machine.{Given, Kept, Plain, fresh, closed, copySlots, frontAfter, backAfter, copiedBackAfter, keptAfter, viewOf, shares, put, numberAt, after}
+use Rattle.plain.specs.Machine.{Given, Kept, Plain, fresh, closed, copySlots, viewOf, shares, put, numberAt, after}
+use Rattle.plain.specs.Machine.{frontAfter, backAfter, copiedBackAfter, keptAfter}
 use Rattle.plain.specs.Claims.{Keeps, Holds, Covered, NextWrite, NextRewind}
 
 -- the slots of the copy that an accepted request leaves
-pub copy-slots : (g : Given) (q : Request) (k : Kept) → copySlots (keptAfter g q k .core) ≡ copyAfter q (keptAfter g q k .core .pages .slots) (copySlots (k .core))
+pub copy-slots : (g : Given) (q : Request) (k : Kept)
+    → copySlots (keptAfter g q k .core) ≡ copyAfter q (keptAfter g q k .core .pages .slots) (copySlots (k .core))
 unfolding copyAfter
 copy-slots g q k = by-cases (q is Snapshot) (λ e. rw e) (λ e. rw e)
 
@@ -74,10 +76,15 @@ module _ (g : Given) (q : Request) (k : Kept) (total : ℕ) (a : Accepted (viewO
 
   committed-in : Kind q → (i : ℕ) → isCommitted (keptAfter g q k .core .pages .slots i) ≡ true → isMapped (copied (copySlots (keptAfter g q k .core)) i) ≡ true
   unfolding slotsAfter copyAfter
-  committed-in (isMap e) i = rw e (over-cases (λ x. isCommitted x ≡ true → isMapped (copied (copySlots (k .core)) i) ≡ true) _ _ _ _ i (λ _ f. cc) (h .committedIn i))
-  committed-in (isUnmap e) i = rw e (over-cases (λ x. isCommitted x ≡ true → isMapped (copied (copySlots (k .core)) i) ≡ true) _ _ _ _ i (λ _ f. cc) (h .committedIn i))
+  committed-in (isMap e) i =
+      rw e
+      (over-cases (λ x. isCommitted x ≡ true → isMapped (copied (copySlots (k .core)) i) ≡ true) _ _ _ _ i (λ _ f. cc) (h .committedIn i))
+  committed-in (isUnmap e) i =
+      rw e
+      (over-cases (λ x. isCommitted x ≡ true → isMapped (copied (copySlots (k .core)) i) ≡ true) _ _ _ _ i (λ _ f. cc) (h .committedIn i))
   committed-in (isProtect e) i =
-      rw e (over-cases (λ x. isCommitted x ≡ true → isMapped (copied (copySlots (k .core)) i) ≡ true) _ _ _ _ i (λ _. rw committed-rights (h .committedIn i)) (h .committedIn i))
+      rw e
+      (over-cases (λ x. isCommitted x ≡ true → isMapped (copied (copySlots (k .core)) i) ≡ true) _ _ _ _ i (λ _. rw committed-rights (h .committedIn i)) (h .committedIn i))
   committed-in (isWrite e) i = rw e (h .committedIn i)
   committed-in (isSnapshot e) i = rw e (committed-mapped (withCommitted (k .core .pages .slots i)))
   committed-in (isRewind e) i = rw e (committed-mapped (copied (copySlots (k .core)) i))
@@ -120,7 +127,9 @@ module _ (g : Given) (q : Request) (k : Kept) (total : ℕ) (a : Accepted (viewO
   unfolding within
   open-share =
       by-cases (q is Open)
-      (λ e. rw e (let w = rw (eqb-true (q .code) Open e) at (a .inLimits) in (leb-true 1 (q .p1) (search (and-left, and-right)), leb-true (q .p1) 128 (search (and-left, and-right)))))
+      (λ e.
+      let w = rw (eqb-true (q .code) Open e) at (a .inLimits) in
+      rw e (leb-true 1 (q .p1) (search (and-left, and-right)), leb-true (q .p1) 128 (search (and-left, and-right))))
       (λ e. rw e (h .openShare (a .opened e)))
 
   pub keeps-accepted : Keeps (keptAfter g q k)
@@ -135,7 +144,8 @@ module _ (g : Given) (q : Request) (k : Kept) (total : ℕ) (a : Accepted (viewO
     copyInside = copy-inside;
     copyCharged =
         rw (copy-slots g q k)
-        (copy-charged q _ (copySlots (k .core)) (k .core .share) (a .charged) (λ o. ap (λ (x : Kept). copySlots (x .core)) (h .closedEmpty (a .closed o))) (h .copyCharged));
+        (copy-charged q _ (copySlots (k .core)) (k .core .share) (a .charged)
+        (λ o. ap (λ (x : Kept). copySlots (x .core)) (h .closedEmpty (a .closed o))) (h .copyCharged));
     copyAreas = rw (copy-slots g q k) (copy-areas q _ (copySlots (k .core)) (a .inAreas) (h .copyAreas));
     openShare = λ e. open-share;
     closedEmpty = λ e. absurd (false≢true (sym e));
@@ -176,7 +186,9 @@ holds-accepted g p q h n =
           (λ e. let open-share : shareAfter q (p (q .sandbox) .core .share) ≡ q .p1 = rw e in
           let none-yet : p (q .sandbox) .core .share ≡ 0 = ap (λ (x : Kept). x .core .share) (h .each (q .sandbox) .closedEmpty (a .closed e)) in
           omega (arith, put-shares, open-share, a .pooled e, none-yet))
-          (λ e. let same-share : shareAfter q (p (q .sandbox) .core .share) ≡ p (q .sandbox) .core .share = rw e in omega (arith, put-shares, same-share, h .pooled));
+          (λ e.
+          let same-share : shareAfter q (p (q .sandbox) .core .share) ≡ p (q .sandbox) .core .share = rw e in
+          omega (arith, put-shares, same-share, h .pooled));
     }
 
 pub holds-after : (g : Given) (p : Plain) (q : Request) → Holds g p → Holds g (after g p q)
@@ -191,7 +203,8 @@ frames-suffice k h = omega (arith, h .charged, charge-covers (k .core .pages .sl
 pub next-write : (g : Given) (p : Plain) → Holds g p → NextWrite g p
 unfolding refusal allMapped slotsAfter copyAfter after frontAfter
 next-write g p h q e row o limits there right =
-    let number : numberAt g p q ≡ 0 = rw (limits, e, le-ltb 3 (q .sandbox) row, there, right, le-ltb _ _ (h .each (q .sandbox) .charged), le-ltb 8 _ (h .each (q .sandbox) .inAreas), o) in
+    let own = h .each (q .sandbox) in
+    let number : numberAt g p q ≡ 0 = rw (limits, e, le-ltb 3 (q .sandbox) row, there, right, le-ltb _ _ (own .charged), le-ltb 8 _ (own .inAreas), o) in
     (number, rw (number, eq-eqb (q .sandbox) (q .sandbox) refl, e, eq-eqb (pageOf q) (pageOf q) refl))
 
 -- a sandbox with a snapshot is open, and its rewind is accepted
@@ -203,4 +216,5 @@ taken-open k h t =
 pub next-rewind : (g : Given) (p : Plain) → Holds g p → NextRewind g p
 unfolding refusal allMapped slotsAfter copyAfter
 next-rewind g p h q e row limits taken =
-    rw (limits, e, le-ltb 3 (q .sandbox) row, taken, le-ltb _ _ (h .each (q .sandbox) .copyCharged), le-ltb 8 _ (h .each (q .sandbox) .copyAreas), taken-open (p (q .sandbox)) (h .each (q .sandbox)) taken)
+    let own = h .each (q .sandbox) in
+    rw (limits, e, le-ltb 3 (q .sandbox) row, taken, le-ltb _ _ (own .copyCharged), le-ltb 8 _ (own .copyAreas), taken-open (p (q .sandbox)) own taken)

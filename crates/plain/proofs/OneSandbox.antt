@@ -15,7 +15,8 @@ use Rattle.interface.specs.Outcome.{slotsAfter, copyAfter}
 use Rattle.interface.specs.Refusals.{refusal}
 use Rattle.interface.specs.Accepted.{Accepted}
 use Rattle.interface.proofs.AcceptedLaws.{accepted}
-use Rattle.plain.specs.Machine.{Given, Pages, Core, Kept, Plain, viewOf, shares, bytesAfter, coreAfter, keptAfter, mayTell, numberAt, coreValue, answer, after}
+use Rattle.plain.specs.Machine.{Given, Pages, Core, Kept, Plain, viewOf, shares, bytesAfter, coreAfter, keptAfter}
+use Rattle.plain.specs.Machine.{mayTell, numberAt, coreValue, answer, after}
 use Rattle.plain.specs.Lists.{told}
 
 -- a request of the sandbox itself, the shares of all being this many together
@@ -46,7 +47,9 @@ module _ (g : Given) (p : Plain) (q : Request) where
   unfolding told answer toldThen
   told-own s e =
       rw (← e)
-      (by-cases (eqb (numberAt g p q) 0) (λ h. by-cases (mayTell q) (λ r. rw (h, r)) (λ r. rw (h, r))) (λ h. by-cases (mayTell q) (λ r. rw (h, r)) (λ r. rw (h, r))))
+      (by-cases (eqb (numberAt g p q) 0)
+      (λ h. by-cases (mayTell q) (λ r. rw (h, r)) (λ r. rw (h, r)))
+      (λ h. by-cases (mayTell q) (λ r. rw (h, r)) (λ r. rw (h, r))))
 
 -- the core after the request is that of the core before
 pub core-then : (g : Given) (total : ℕ) (q : Request) (k : Kept) → keptThen g total q k .core ≡ coreThen g total q (k .core)

@@ -15,7 +15,8 @@ use Rattle.interface.specs.Requests.{Snapshot, Rewind}
 use Rattle.plain.specs.Machine.{Given, Pages, Core, Kept, Plain, fresh, shares, coreAfter, numberAt, answer, after, answers, afterAll}
 use Rattle.plain.specs.Lists.{upTo, Then, naming, toldTo, toldLater}
 use Rattle.plain.specs.Claims.{TwoLists}
-use Rattle.plain.proofs.OneSandbox.{coreThen, toldThen, after-own, after-others, told-own, core-then, shares-apart, Since, since-taken, since-then, rewound, stays-open}
+use Rattle.plain.proofs.OneSandbox.{coreThen, toldThen, after-own, after-others, told-own, core-then, shares-apart}
+use Rattle.plain.proofs.OneSandbox.{Since, since-taken, since-then, rewound, stays-open}
 
 -- what they were told after the list before
 abbrev toldAfter : Given → ℕ → List Request → List Request → List Answered
