@@ -6,9 +6,10 @@ use mathlib.Core.List.{List}
 use lib.Dec.{eqb}
 use lib.ListN.{length, set}
 use borrow.Author.Tests.{lt-ltb, eqb-true}
-use Rattle.basics.proofs.TestLaws.{and-left, and-right}
+use Rattle.basics.proofs.TestLaws.{and-left, and-right, and-both}
 use Rattle.interface.specs.declared.answer.Refusal.{Refusal}
-use Rattle.interface.specs.declared.answer.Refusal.the-variants.{Malformed, NoSuchCall, Unsound, NotOpen, AlreadyOpen, OutsideLimits, SnapshotTaken, NoSnapshot, NotMapped, AlreadyMapped, NoGap, NotWritable, ShareExceeded, TooManyAreas}
+use Rattle.interface.specs.declared.answer.Refusal.the-variants.{Malformed, NoSuchCall, Unsound, NotOpen, AlreadyOpen, OutsideLimits, SnapshotTaken}
+use Rattle.interface.specs.declared.answer.Refusal.the-variants.{NoSnapshot, NotMapped, AlreadyMapped, NoGap, NotWritable, ShareExceeded, TooManyAreas}
 use Rattle.interface.specs.declared.request.Request.{Request}
 use Rattle.interface.specs.Answers.{refusalNumber}
 use Rattle.interface.specs.Requests.{Write, isCall, pageOf}
@@ -37,8 +38,9 @@ use Rattle.machine.specs.Parts.{Performed}
 pub sound-of-test : (image : List ℕ) (w : World) → length (w .sandboxes) ≡ 4 → soundb image w ≡ true → Sound image w
 unfolding soundb
 sound-of-test image w four e =
-    let lengths = lengths-true (length (w .store .pool)) (length (w .store .table)) (length image) (and-left (lengthsOk (length (w .store .pool)) (length (w .store .table)) (length image)) _ e) in
-    let marks = and-left (marksb (framesOf w) (w .store .marks) (w .store .table)) _ (and-right (lengthsOk (length (w .store .pool)) (length (w .store .table)) (length image)) _ e) in
+    let tested = and-both (lengthsOk (length (w .store .pool)) (length (w .store .table)) (length image)) _ e in
+    let lengths = lengths-true (length (w .store .pool)) (length (w .store .table)) (length image) (tested .0) in
+    let marks = and-left (marksb (framesOf w) (w .store .marks) (w .store .table)) _ (tested .1) in
     let two = words (framesOf w) (w .store .marks) (w .store .table) (lengths .few) marks in
     sound-true image w (record { row = four; low = two .0; high = two .1 }) e
 

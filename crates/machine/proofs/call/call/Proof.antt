@@ -1,3 +1,4 @@
+-- A call: what each test shows of the number, and from it the step that each answer is.
 use mathlib.Core.Path.{_≡_, refl, sym, ap, _∙_}
 use mathlib.Core.Bool.{true, false}
 use mathlib.Core.List.{List}
@@ -108,7 +109,8 @@ returns : tie.Need-returns
 returns c =
     let start = c .before .before .before .before .before .before in
     rw (c .refuse .ensures)
-    (stepped-refused (imageIn start) (worldIn start) (start .args .q) NoSuchCall (number-two (imageIn start) (worldIn start) (start .args .q) (no-call (c .before))))
+    (stepped-refused (imageIn start) (worldIn start) (start .args .q) NoSuchCall
+    (number-two (imageIn start) (worldIn start) (start .args .q) (no-call (c .before))))
 
 sound-requires : tie.Need-sound-requires
 sound-requires c κs = search needs
