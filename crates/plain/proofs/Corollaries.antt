@@ -11,7 +11,8 @@ use Rattle.interface.specs.Slots.{isCommitted, copied}
 use Rattle.interface.specs.Outcome.{slotsAfter, copyAfter}
 use Rattle.interface.specs.Refusals.{refusal}
 use Rattle.interface.proofs.AcceptedLaws.{accepted}
-use Rattle.plain.specs.Machine.{Given, Kept, Plain, copySlots, copyBytes, bytesAfter, frontAfter, backAfter, copiedBackAfter, keptAfter, put, numberAt, after}
+use Rattle.plain.specs.Machine.{Given, Kept, Plain, copySlots, copyBytes, put, numberAt, after}
+use Rattle.plain.specs.Machine.{bytesAfter, frontAfter, backAfter, copiedBackAfter, keptAfter}
 use Rattle.plain.specs.Lists.{upTo}
 use Rattle.plain.specs.Claims.{Keeps, Reads, RefusedChangesNothing, ReadsChangeNothing, RewindTwice, OnlyOpenMeetsOthers}
 use Rattle.plain.proofs.Claims.{claim-always}
@@ -28,7 +29,9 @@ put-same s p = fun-ext λ t. by-cases (eqb s t) (λ e. rw (e, eqb-true s t e)) (
 idle : (g : Given) (p : Plain) (q : Request) → (numberAt g p q ≡ 0 → keptAfter g q (p (q .sandbox)) ≡ p (q .sandbox)) → after g p q ≡ p
 unfolding after
 idle g p q h =
-    when-cases (λ (x : Plain). x ≡ p) (eqb (numberAt g p q) 0) (λ e. ap (λ (k : Kept). put (q .sandbox) k p) (h (eqb-true _ 0 e)) ∙ put-same (q .sandbox) p) (λ _. refl)
+    when-cases (λ (x : Plain). x ≡ p) (eqb (numberAt g p q) 0)
+    (λ e. ap (λ (k : Kept). put (q .sandbox) k p) (h (eqb-true _ 0 e)) ∙ put-same (q .sandbox) p)
+    (λ _. refl)
 
 opened-already : (g : Given) (p : Plain) (q : Request) → numberAt g p q ≡ 0 → (q is Open) ≡ false → true ≡ p (q .sandbox) .core .opened
 opened-already g p q n o = sym (accepted _ q n .opened o)
@@ -42,7 +45,10 @@ reads-change-nothing g p q e =
     idle g p q (λ n.
     by-cases (q is Read)
     (λ r. let opened = opened-already g p q n (read-or-report q Read (eqb-true _ _ r) refl) in rw (eqb-true (q .code) Read r, opened))
-    (λ r. let report = eqb-true (q .code) Report (rw r at e) in let opened = opened-already g p q n (read-or-report q Report report refl) in rw (report, opened)))
+    (λ r.
+    let report = eqb-true (q .code) Report (rw r at e) in
+    let opened = opened-already g p q n (read-or-report q Report report refl) in
+    rw (report, opened)))
 
 pub only-open-meets-others : (g : Given) → OnlyOpenMeetsOthers g
 unfolding refusal
@@ -55,7 +61,8 @@ accepted-kept g p q n = rw (n, eq-eqb (q .sandbox) (q .sandbox) refl)
 
 -- a front that stays at a rewind stays at the next: its page is committed in the snapshot too
 front-stays : (g : Given) (k : Kept) → Keeps k → Reads g k → (i : ℕ)
-    → (k .traces .front i && isCommitted (k .core .pages .slots i) && isCommitted (copied (copySlots (k .core)) i)) ≡ (k .traces .front i && isCommitted (k .core .pages .slots i))
+    → (k .traces .front i && isCommitted (k .core .pages .slots i) && isCommitted (copied (copySlots (k .core)) i))
+    ≡ (k .traces .front i && isCommitted (k .core .pages .slots i))
 front-stays g k h r i =
     both-ways _ _ (λ e. and-left (k .traces .front i && isCommitted (k .core .pages .slots i)) _ e)
     (λ e. and-of e (r .marked i (h .committedIn i (and-right (k .traces .front i) _ e))))
@@ -66,7 +73,12 @@ rewound-kept g q k h r e =
     rw e
     (ap
     (λ (front : ℕ → Bool). record {
-      core = record { opened = true; share = k .core .share; pages = record { slots = copied (copySlots (k .core)); bytes = copyBytes (k .core .copy) }; copy = k .core .copy };
+      core = record {
+        opened = true;
+        share = k .core .share;
+        pages = record { slots = copied (copySlots (k .core)); bytes = copyBytes (k .core .copy) };
+        copy = k .core .copy;
+      };
       traces = record { front = front; back = k .traces .copiedBack; copiedBack = k .traces .copiedBack };
     })
     (fun-ext (λ i. front-stays g k h r i)))
@@ -75,6 +87,9 @@ pub rewind-twice : (g : Given) → RewindTwice g
 rewind-twice g qs q e =
     let p = upTo g qs in
     let always = claim-always g qs in
+    let h = always .holds .each (q .sandbox) in
+    let r = always .reads (q .sandbox) in
     by-cases (eqb (numberAt g p q) 0)
-    (λ n. idle g (after g p q) q (λ _. rw (accepted-kept g p q (eqb-true _ 0 n)) (rewound-kept g q (p (q .sandbox)) (always .holds .each (q .sandbox)) (always .reads (q .sandbox)) (eqb-true (q .code) Rewind e))))
+    (λ n. idle g (after g p q) q
+    (λ _. rw (accepted-kept g p q (eqb-true _ 0 n)) (rewound-kept g q (p (q .sandbox)) h r (eqb-true (q .code) Rewind e))))
     (λ n. ap (λ (x : Plain). after g x q) (refused-changes-nothing g p q n))

@@ -84,7 +84,8 @@ module _ (g : Given) (q : Request) (k : Kept) (total : ℕ) (a : Accepted (viewO
       (over-cases (λ x. isCommitted x ≡ true → isMapped (copied (copySlots (k .core)) i) ≡ true) _ _ _ _ i (λ _ f. cc) (h .committedIn i))
   committed-in (isProtect e) i =
       rw e
-      (over-cases (λ x. isCommitted x ≡ true → isMapped (copied (copySlots (k .core)) i) ≡ true) _ _ _ _ i (λ _. rw committed-rights (h .committedIn i)) (h .committedIn i))
+      (over-cases (λ x. isCommitted x ≡ true → isMapped (copied (copySlots (k .core)) i) ≡ true) _ _ _ _ i
+      (λ _. rw committed-rights (h .committedIn i)) (h .committedIn i))
   committed-in (isWrite e) i = rw e (h .committedIn i)
   committed-in (isSnapshot e) i = rw e (committed-mapped (withCommitted (k .core .pages .slots i)))
   committed-in (isRewind e) i = rw e (committed-mapped (copied (copySlots (k .core)) i))

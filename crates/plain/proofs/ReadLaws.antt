@@ -12,10 +12,12 @@ use Rattle.interface.specs.Slots.{isMapped, isCommitted, isUncommitted, backing
 use Rattle.interface.specs.Outcome.{slotsAfter, copyAfter}
 use Rattle.interface.specs.Refusals.{isTaken}
 use Rattle.interface.specs.Accepted.{Accepted}
-use Rattle.interface.proofs.SlotLaws.{committed-rights, uncommitted-rights, backing-rights, mapped-commit, committed-commit, uncommitted-commit, backing-commit, uncommitted-mapped, uncommitted-of, one-mark, untaken-copied}
+use Rattle.interface.proofs.SlotLaws.{committed-rights, uncommitted-rights, backing-rights, mapped-commit, committed-commit, uncommitted-commit, backing-commit}
+use Rattle.interface.proofs.SlotLaws.{uncommitted-mapped, uncommitted-of, one-mark, untaken-copied}
 use Rattle.interface.proofs.KindLaws.{Kind, kind, isMap, isUnmap, isProtect, isWrite, isSnapshot, isRewind, isOther}
 use Rattle.interface.proofs.AcceptedLaws.{accepted}
-use Rattle.plain.specs.Machine.{Given, Kept, Plain, fresh, copySlots, copyBytes, stored, backingByte, bytesAfter, frontAfter, backAfter, keptAfter, viewOf, shares, numberAt, after}
+use Rattle.plain.specs.Machine.{Given, Kept, Plain, fresh, copySlots, copyBytes, stored, backingByte, viewOf, shares, numberAt, after}
+use Rattle.plain.specs.Machine.{bytesAfter, frontAfter, backAfter, keptAfter}
 use Rattle.plain.specs.Claims.{Keeps, Holds, Reads}
 
 module _ (g : Given) (q : Request) (k : Kept) (total : ℕ) (a : Accepted (viewOf g total (k .core)) q) (h : Keeps k) (r : Reads g k) where
@@ -32,10 +34,12 @@ module _ (g : Given) (q : Request) (k : Kept) (total : ℕ) (a : Accepted (viewO
   unfolding slotsAfter bytesAfter frontAfter copyAfter
   old′ (isMap e) i =
       rw e
-      (over-both (λ x y. isCommitted x ≡ true → k .traces .front i ≡ false → y ≡ copyBytes (k .core .copy) i) _ _ _ _ _ _ i (λ c. absurd (false≢true c)) (r .old i))
+      (over-both (λ x y. isCommitted x ≡ true → k .traces .front i ≡ false → y ≡ copyBytes (k .core .copy) i) _ _ _ _ _ _ i
+      (λ c. absurd (false≢true c)) (r .old i))
   old′ (isUnmap e) i =
       rw e
-      (over-both (λ x y. isCommitted x ≡ true → y ≡ false → k .core .pages .bytes i ≡ copyBytes (k .core .copy) i) _ _ _ _ _ _ i (λ c. absurd (false≢true c)) (r .old i))
+      (over-both (λ x y. isCommitted x ≡ true → y ≡ false → k .core .pages .bytes i ≡ copyBytes (k .core .copy) i) _ _ _ _ _ _ i
+      (λ c. absurd (false≢true c)) (r .old i))
   old′ (isProtect e) i =
       rw e
       (over-cases (λ x. isCommitted x ≡ true → k .traces .front i ≡ false → k .core .pages .bytes i ≡ copyBytes (k .core .copy) i) _ _ _ _ i
@@ -82,9 +86,13 @@ module _ (g : Given) (q : Request) (k : Kept) (total : ℕ) (a : Accepted (viewO
       → backingAt (keptAfter g q k .core .pages .slots i) ≡ backingAt (copied (copySlots (keptAfter g q k .core)) i)
   unfolding slotsAfter copyAfter
   backing′ (isMap e) i =
-      rw e (over-cases (λ x. isCommitted x ≡ true → backingAt x ≡ backingAt (copied (copySlots (k .core)) i)) _ _ _ _ i (λ _ c. absurd (false≢true c)) (r .backing i))
+      rw e
+      (over-cases (λ x. isCommitted x ≡ true → backingAt x ≡ backingAt (copied (copySlots (k .core)) i)) _ _ _ _ i
+      (λ _ c. absurd (false≢true c)) (r .backing i))
   backing′ (isUnmap e) i =
-      rw e (over-cases (λ x. isCommitted x ≡ true → backingAt x ≡ backingAt (copied (copySlots (k .core)) i)) _ _ _ _ i (λ _ c. absurd (false≢true c)) (r .backing i))
+      rw e
+      (over-cases (λ x. isCommitted x ≡ true → backingAt x ≡ backingAt (copied (copySlots (k .core)) i)) _ _ _ _ i
+      (λ _ c. absurd (false≢true c)) (r .backing i))
   backing′ (isProtect e) i =
       rw e
       (over-cases (λ x. isCommitted x ≡ true → backingAt x ≡ backingAt (copied (copySlots (k .core)) i)) _ _ _ _ i
