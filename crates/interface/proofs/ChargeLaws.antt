@@ -15,7 +15,8 @@ use Rattle.interface.specs.declared.page.Slot.{Slot}
 use Rattle.interface.specs.declared.page.Slot.the-variants.{Unmapped}
 use Rattle.interface.specs.Slots.{Slots, isMapped, isCommitted, isUncommitted, withRights, withCommitted, mappedPages, uncommittedPages, chargeOf, copied}
 use Rattle.interface.specs.Outcome.{pageOn}
-use Rattle.interface.proofs.SlotLaws.{mapped-rights, uncommitted-rights, mapped-commit, uncommitted-commit, uncommitted-not, one-mark, uncommitted-mapped, mark-split}
+use Rattle.interface.proofs.SlotLaws.{mapped-rights, uncommitted-rights, mapped-commit, uncommitted-commit}
+use Rattle.interface.proofs.SlotLaws.{uncommitted-not, one-mark, uncommitted-mapped, mark-split}
 
 -- at most 64 pages are counted
 pub mapped-small : (f : Slots) → mappedPages f ≤ 64
@@ -49,7 +50,8 @@ count-over t f g a n h e =
     ∙ ap (λ (x : ℕ). count (λ i. t (f i)) 64 + x) (count-inside a n 64 h)
 
 -- a map of n unmapped pages charges n more
-pub map-charge : (f : Slots) (c : Option Slots) (t : Attributes) (a n : ℕ) → t .committed ≡ false → a + n ≤ 64 → ((i : ℕ) → inside a n i ≡ true → isMapped (f i) ≡ false)
+pub map-charge : (f : Slots) (c : Option Slots) (t : Attributes) (a n : ℕ) → t .committed ≡ false → a + n ≤ 64
+    → ((i : ℕ) → inside a n i ≡ true → isMapped (f i) ≡ false)
     → chargeOf (over a n (λ i. pageOn t (i - a)) f) c ≡ chargeOf f c + n
 unfolding chargeOf mappedPages uncommittedPages
 map-charge f none t a n m h e = count-over isMapped f (λ i. pageOn t (i - a)) a n h (λ i l. (e i l, refl))
@@ -84,7 +86,8 @@ pub protect-charge : (f : Slots) (c : Option Slots) (a n r : ℕ) → chargeOf (
 protect-charge f c a n r =
     charge-le f (over a n (λ i. withRights r (f i)) f) c
     (λ i. over-cases (λ x. isMapped x ≡ true → isMapped (f i) ≡ true) a n (λ j. withRights r (f j)) f i (λ _. rw mapped-rights (λ e. e)) (λ e. e))
-    (λ i. over-cases (λ x. isUncommitted x ≡ true → isUncommitted (f i) ≡ true) a n (λ j. withRights r (f j)) f i (λ _. rw uncommitted-rights (λ e. e)) (λ e. e))
+    (λ i. over-cases (λ x. isUncommitted x ≡ true → isUncommitted (f i) ≡ true) a n (λ j. withRights r (f j)) f i
+    (λ _. rw uncommitted-rights (λ e. e)) (λ e. e))
 
 -- the snapshot itself charges no more than the present
 pub rewind-charge : (f d : Slots) → ((i : ℕ) → isMapped (d i) ≡ true → isCommitted (d i) ≡ true) → chargeOf d (some d) ≤ chargeOf f (some d)

@@ -1,3 +1,4 @@
+-- The limits of each call's parameters: the row of the table by the tests so far.
 use borrow.Author.Tests.{ne-eqb}
 use Rattle.interface.specs.Limits.{within}
 use borrow.Author.Needs.{needs}
@@ -69,8 +70,19 @@ uses-none-requires c κs = search needs
 
 returns-7 : tie.Need-returns-7
 unfolding within
-returns-7 c = let b1 = c .before in let b2 = b1 .before in let b3 = b2 .before in let b4 = b3 .before in let b5 = b4 .before in
-    rw (c .uses-none .ensures, ne-eqb _ _ (b5 .before .if1 .left), ne-eqb _ _ (b5 .if2 .left), ne-eqb _ _ (b4 .if3 .left), ne-eqb _ _ (b3 .if4 .left), ne-eqb _ _ (b2 .if5 .left), ne-eqb _ _ (b1 .if6 .left))
+returns-7 c =
+    let sixth = c .before in
+    let fifth = sixth .before in
+    let fourth = fifth .before in
+    let third = fourth .before in
+    let second = third .before in
+    let not-one = ne-eqb _ _ (second .before .if1 .left) in
+    let not-two = ne-eqb _ _ (second .if2 .left) in
+    let not-three = ne-eqb _ _ (third .if3 .left) in
+    let not-four = ne-eqb _ _ (fourth .if4 .left) in
+    let not-five = ne-eqb _ _ (fifth .if5 .left) in
+    let not-six = ne-eqb _ _ (sixth .if6 .left) in
+    rw (c .uses-none .ensures, not-one, not-two, not-three, not-four, not-five, not-six)
 
 pub within-limits-spec : {M : Type 1} → statement M
 within-limits-spec =
