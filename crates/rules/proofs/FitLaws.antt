@@ -51,7 +51,8 @@ fit images q few w =
           let h : (between 1 128 (q .p1) && usesOne q) ≡ true = rw e at w in
           leb-true _ 128 (and-right (leb 1 (q .p1)) _ (and-left (between 1 128 (q .p1)) _ h));
       place = λ e.
-          (place-small (q .p1) (q .p2) (place e) .0, place-small (q .p1) (q .p2) (place e) .1, rights-small (q .p5) (and-right (backingOk images q) _ (rest e)));
+          let small = place-small (q .p1) (q .p2) (place e) in
+          (small .0, small .1, rights-small (q .p5) (and-right (backingOk images q) _ (rest e)));
       named = λ e d. place-named (q .p1) (q .p2) (place e) d;
       image = λ e d. image-small images q few (and-left (backingOk images q) _ (rest e)) d;
       unmapped = λ e.
@@ -59,7 +60,8 @@ fit images q few w =
           pages-end (q .p1) (q .p2) (and-left (pagesOk (q .p1) (q .p2)) _ h);
       protected = λ e.
           let h : (pagesOk (q .p1) (q .p2) && (rightsOk (q .p3) && usesThree q)) ≡ true = rw e at w in
-          (pages-end (q .p1) (q .p2) (and-left (pagesOk (q .p1) (q .p2)) _ h), rights-small (q .p3) (and-left (rightsOk (q .p3)) _ (and-right (pagesOk (q .p1) (q .p2)) _ h)));
+          let rights = and-left (rightsOk (q .p3)) _ (and-right (pagesOk (q .p1) (q .p2)) _ h) in
+          (pages-end (q .p1) (q .p2) (and-left (pagesOk (q .p1) (q .p2)) _ h), rights-small (q .p3) rights);
       read = λ e.
           let h : (ltb (q .p1) 16384 && usesOne q) ≡ true = rw e at w in
           ltb-true (q .p1) 16384 (and-left (ltb (q .p1) 16384) _ h);
