@@ -55,7 +55,8 @@ copyBytesOf image st s b i = orBytes (backingByte image (backingAt (slots (b .sn
 
 abbrev bytesOf : List ℕ → Store → ℕ → Sandbox → ℕ → ℕ → ℕ
 bytesOf image st s b i =
-    orBytes (copyBytesOf image st s b i when isCommitted (slots (b .present) i) else backingByte image (backingAt (slots (b .present) i))) (contents 256 st (frontOf s i))
+    orBytes (copyBytesOf image st s b i when isCommitted (slots (b .present) i) else backingByte image (backingAt (slots (b .present) i)))
+    (contents 256 st (frontOf s i))
 
 abbrev copyPages : List ℕ → Store → ℕ → Sandbox → Option Pages
 copyPages image st s b = some (record { slots = slots (b .snapshot); bytes = copyBytesOf image st s b }) when b .taken else none
@@ -63,7 +64,12 @@ copyPages image st s b = some (record { slots = slots (b .snapshot); bytes = cop
 -- of an open sandbox
 abbrev keptOf : List ℕ → Store → ℕ → Sandbox → Kept
 keptOf image st s b = record {
-  core = record { opened = b .opened; share = b .share; pages = record { slots = slots (b .present); bytes = bytesOf image st s b }; copy = copyPages image st s b };
+  core = record {
+    opened = b .opened;
+    share = b .share;
+    pages = record { slots = slots (b .present); bytes = bytesOf image st s b };
+    copy = copyPages image st s b;
+  };
   traces = record { front = λ i. markedAt st (frontOf s i) i; back = λ i. markedAt st (backOf s i) i; copiedBack = λ i. markedAt st (backOf s i) i };
 }
 
@@ -82,7 +88,8 @@ module _ (image : List ℕ) (n : ℕ) (st : Store) (F : Filed 256 n st) (s : ℕ
 
   copy-bytes : (i : ℕ) → isMapped (slots (b .snapshot) i) ≡ true → copyBytes (k .core .copy) i ≡ copyBytesOf image st s b i
   copy-bytes i m =
-      by-cases (b .taken) (λ t. rw t) (λ t. never (isMapped (slots (b .snapshot) i)) m (ap (λ (f : Slots). isMapped (f i)) (ap slots (S .untaken t) ∙ none-slots)))
+      by-cases (b .taken) (λ t. rw t)
+      (λ t. never (isMapped (slots (b .snapshot) i)) m (ap (λ (f : Slots). isMapped (f i)) (ap slots (S .untaken t) ∙ none-slots)))
 
   -- a mark is an entry
   no-mark : (e i : ℕ) → i < 64 → markedAt st e i ≡ false → contents 256 st e ≡ none
@@ -137,7 +144,8 @@ module _ (image : List ℕ) (n : ℕ) (st : Store) (F : Filed 256 n st) (s : ℕ
             rw (no-mark (frontOf s i) i l f, c) (sym (copy-bytes i (S .committed i c)));
         new = λ i c f.
             let l = slots-inside _ (b .present) (S .present) i (uncommitted-mapped (slots (b .present) i) c) in
-            let u : isCommitted (slots (b .present) i) ≡ false = by-cases (isCommitted (slots (b .present) i)) (λ d. one-mark (slots (b .present) i) c d) (λ d. d) in
+            let u : isCommitted (slots (b .present) i) ≡ false =
+            by-cases (isCommitted (slots (b .present) i)) (λ d. one-mark (slots (b .present) i) c d) (λ d. d) in
             rw (no-mark (frontOf s i) i l f, u, e);
         unbacked = λ i m f.
             let y = rw (copy-slot i) at m in
@@ -196,7 +204,10 @@ module _ (g : Given) (st : Store) (F : Filed 256 (g .frames) st) (s : ℕ) (b : 
   kept-reads = when-cases (Reads g) (b .opened) (λ _. reads (g .image) (g .frames) st F s b S g refl) (λ _. reads-fresh g s)
 
   pub kept-agrees : AgreesAt g st s b (keptFor (g .image) st s b)
-  kept-agrees = when-cases (AgreesAt g st s b) (b .opened) (λ _. agrees-at (g .image) (g .frames) st F s b S g refl) (agrees-closed (g .image) (g .frames) st F s b S g)
+  kept-agrees =
+      when-cases (AgreesAt g st s b) (b .opened)
+      (λ _. agrees-at (g .image) (g .frames) st F s b S g refl)
+      (agrees-closed (g .image) (g .frames) st F s b S g)
 
 -- ---- the world
 

@@ -44,7 +44,8 @@ image-at images s w i = order-image images (slots s i) (slots-order images s w i
 pub copy-same : (b : Sandbox) (c : Core) → b .taken ≡ isTaken (c .copy) → slots (b .snapshot) ≡ copied (copySlots c) → copyOf b ≡ copySlots c
 copy-same b c t e = go (c .copy) t e
   where
-    go : (d : Option Pages) → b .taken ≡ isTaken d → slots (b .snapshot) ≡ copied (Option·map (λ (x : Pages). x .slots) d) → copyOf b ≡ Option·map (λ (x : Pages). x .slots) d
+    go : (d : Option Pages) → b .taken ≡ isTaken d → slots (b .snapshot) ≡ copied (Option·map (λ (x : Pages). x .slots) d)
+        → copyOf b ≡ Option·map (λ (x : Pages). x .slots) d
     go none f h = rw f
     go (some d) f h = rw f (ap some h)
 
@@ -72,7 +73,8 @@ module _ (v : View) (q : Request) (a : Accepted v q) (o : AllInOrder (v .imagePa
   order-after (isUnmap e) c = rw (unmap-slots q (v .slots) (v .copy) e) (changed-order (v .imagePages) (v .slots) (q .p1) (q .p2) UnmapPages tt o)
   order-after (isProtect e) c =
       let limits : (pagesOk (q .p1) (q .p2) && (rightsOk (q .p3) && usesThree q)) ≡ true = rw e at (a .inLimits) in
-      rw (protect-slots q (v .slots) (v .copy) e) (changed-order (v .imagePages) (v .slots) (q .p1) (q .p2) (ProtectPages (q .p3)) (search (and-left, and-right)) o)
+      rw (protect-slots q (v .slots) (v .copy) e)
+      (changed-order (v .imagePages) (v .slots) (q .p1) (q .p2) (ProtectPages (q .p3)) (search (and-left, and-right)) o)
   order-after (isSnapshot e) c = rw (snapshot-slots q (v .slots) (v .copy) e b) (changed-order (v .imagePages) (v .slots) 0 64 Commit tt o)
   order-after (isWrite e) c = absurd (false≢true (rw e at c))
   order-after (isRewind e) c = absurd (false≢true (rw e at c))

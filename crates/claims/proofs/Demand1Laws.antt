@@ -1,6 +1,6 @@
 -- Demand 1: the number of each refusal; a refused call changes nothing; an accepted one touches only what it names; a sound state stays sound.
 use mathlib.Core.Path.{_≡_, sym, _∙_}
-use mathlib.Core.Bool.{true, false}
+use mathlib.Core.Bool.{true}
 use mathlib.Core.List.{List}
 use Prim.Native.Nat.{ℕ, _*_, _+_, _<_}
 use lib.Dec.{eqb, leb}

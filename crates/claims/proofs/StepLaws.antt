@@ -59,6 +59,7 @@ module _ (image : List ℕ) (w : World) (q : Request) (o : Outcome) (s : Stepped
     unfolding step
     accepted-leaves = rw (s .equals, n)
 
-    pub frame-free : (q is Write) ≡ true → eqb (entry (w .store) (frontOf (q .sandbox) (pageOf q))) 0 ≡ true → (s .frame < framesOf w) × (held (w .store .marks) (s .frame) ≡ 0)
+    pub frame-free : (q is Write) ≡ true → eqb (entry (w .store) (frontOf (q .sandbox) (pageOf q))) 0 ≡ true
+        → (s .frame < framesOf w) × (held (w .store .marks) (s .frame) ≡ 0)
     unfolding takes
     frame-free e z = let f = s .free (rw (n, e, z)) in (f .ofPool, f .unheld)

@@ -86,7 +86,8 @@ module _ {C : Type 0} (g : Given) (L : Lent g) (q : Request) (st : Store) (T : T
     stored-map : q .code ≡ Map → Stored C g st (storeAfter (g .image) f q b st) (q .sandbox) (keptAfter g q k)
     unfolding storeAfter frontAfter backAfter bytesAfter copyAfter
     stored-map e =
-        let free : (i : ℕ) → inside (firstOf (k .core .pages .slots) q) (q .p2) i ≡ true → isMapped (k .core .pages .slots i) ≡ false = map-free (viewOf g total (k .core)) q a e in
+        let free : (i : ℕ) → inside (firstOf (k .core .pages .slots) q) (q .p2) i ≡ true → isMapped (k .core .pages .slots i) ≡ false =
+        map-free (viewOf g total (k .core)) q a e in
         let free′ = rw e at free in
         record {
           tidy = rw e T;
@@ -107,7 +108,8 @@ module _ {C : Type 0} (g : Given) (L : Lent g) (q : Request) (st : Store) (T : T
           tidy = rw e (freeTo-tidy 256 (g .frames) first st T (q .p2));
           fronts = λ i l. by-cases (inside (q .p1) (q .p2) i)
               (λ m. rw (e, m)
-              (freeTo-in 256 (g .frames) first st T (q .p2) (frontOf (q .sandbox) i) (omega (arith, inside-first (q .p1) (q .p2) i m)) (omega (arith, inside-end (q .p1) (q .p2) i m))))
+              (freeTo-in 256 (g .frames) first st T (q .p2) (frontOf (q .sandbox) i)
+              (omega (arith, inside-first (q .p1) (q .p2) i m)) (omega (arith, inside-end (q .p1) (q .p2) i m))))
               (λ m. rw (e, m)
               (freeTo-out 256 (g .frames) first st T (q .p2) (frontOf (q .sandbox) i)
               (⊎-elim (λ n. inl (omega arith)) (λ n. inr (omega arith)) (inside-out (q .p1) (q .p2) i m)) ∙ A .fronts i l));
@@ -123,7 +125,8 @@ module _ {C : Type 0} (g : Given) (L : Lent g) (q : Request) (st : Store) (T : T
         let none-back : (i : ℕ) → k .traces .back i ≡ false =
         λ i. by-cases (k .traces .back i) (λ m. absurd (untaken-copied (copySlots (k .core)) i (a .untaken (rw e)) (h .backIn i m))) (λ m. m) in
         let empty : (i : ℕ) → i < 64 → contents 256 st (backOf (q .sandbox) i) ≡ none = λ i l. A .backs i l ∙ rw (none-back i) in
-        let m : Moved C 256 (g .frames) (q .sandbox * 128) st 64 (moveTo (q .sandbox * 128) st 64) = moved 256 (g .frames) (q .sandbox * 128) st T (omega arith) empty 64 (omega arith) in
+        let m : Moved C 256 (g .frames) (q .sandbox * 128) st 64 (moveTo (q .sandbox * 128) st 64) =
+        moved 256 (g .frames) (q .sandbox * 128) st T (omega arith) empty 64 (omega arith) in
         record {
           tidy = rw e (m .tidy);
           fronts = λ i l. rw e (m .fronts i l);
@@ -193,10 +196,12 @@ module _ {C : Type 0} (g : Given) (L : Lent g) (q : Request) (st : Store) (T : T
           (λ d z. let n = frame-is st place (k .traces .front (pageOf q)) _ (A .fronts (pageOf q) low) d z .0 in
           rw (ne-eqb (entry st place) 0 (omega (arith, z))) (record { tidy = T; same = A .fronts (pageOf q) low ∙ rw n; other = λ j m. refl }))
 
-      own : contents 256 (storeByte 256 (frontOf (q .sandbox) (pageOf q)) (offsetOf q) (q .p2) (touched (g .image) f b (q .sandbox) (pageOf q) st)) (frontOf (q .sandbox) (pageOf q))
+      own : contents 256 (storeByte 256 (frontOf (q .sandbox) (pageOf q)) (offsetOf q) (q .p2) (touched (g .image) f b (q .sandbox) (pageOf q) st))
+          (frontOf (q .sandbox) (pageOf q))
           ≡ some (listed 256 (stored q (k .core .pages .bytes) (pageOf q)))
       own =
-          storeByte-same 256 (g .frames) (touched (g .image) f b (q .sandbox) (pageOf q) st) (front .tidy) (frontOf (q .sandbox) (pageOf q)) (offsetOf q) (q .p2)
+          let s : Store = touched (g .image) f b (q .sandbox) (pageOf q) st in
+          storeByte-same 256 (g .frames) s (front .tidy) (frontOf (q .sandbox) (pageOf q)) (offsetOf q) (q .p2)
           ∙ ap (overPage (λ xs. set xs (offsetOf q) (q .p2))) (front .same)
           ∙ ap some (listed-set 256 (k .core .pages .bytes (pageOf q)) (offsetOf q) (q .p2) (omega arith))
           ∙ ap (λ (x : ℕ → ℕ). some (listed 256 x)) (fun-ext (λ j. rw (eq-eqb (pageOf q) (pageOf q) refl)))
@@ -206,7 +211,8 @@ module _ {C : Type 0} (g : Given) (L : Lent g) (q : Request) (st : Store) (T : T
       stored-write =
           let s : Store = touched (g .image) f b (q .sandbox) (pageOf q) st in
           let n : ℕ = g .frames in
-          let other : (j : ℕ) → (j ≡ frontOf (q .sandbox) (pageOf q) → ⊥) → contents 256 (storeByte 256 (frontOf (q .sandbox) (pageOf q)) (offsetOf q) (q .p2) s) j ≡ contents 256 st j =
+          let r : Store = storeByte 256 (frontOf (q .sandbox) (pageOf q)) (offsetOf q) (q .p2) s in
+          let other : (j : ℕ) → (j ≡ frontOf (q .sandbox) (pageOf q) → ⊥) → contents 256 r j ≡ contents 256 st j =
           λ j m. storeByte-other 256 n s (front .tidy) (frontOf (q .sandbox) (pageOf q)) (offsetOf q) (q .p2) j m ∙ front .other j m in
           record {
             tidy = rw e (storeByte-tidy 256 n s (front .tidy) (frontOf (q .sandbox) (pageOf q)) (offsetOf q) (q .p2));
