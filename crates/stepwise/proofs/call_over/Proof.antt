@@ -1,3 +1,4 @@
+-- A call over the bytes of a state: what each test shows, and the answer behind it.
 use mathlib.Core.Path.{sym, _∙_}
 use native.Mathlib.Omega.{arith}
 use borrow.Author.Tests.{not-true, not-false}
@@ -32,7 +33,8 @@ returns c =
     let tested = branch .before .is-state in
     let first = branch .before .before .before .before .before .before .before in
     let no-state = sym (tested .ensures) ∙ not-true (tested .result) (branch .if1 .taken) in
-    rw (c .by .ensures) (call-two (first .args .image .now) (hands first) (first .args .q) no-state (sym (code .ensures) ∙ not-true (code .result) (c .before .if2 .taken)))
+    let no-call = sym (code .ensures) ∙ not-true (code .result) (c .before .if2 .taken) in
+    rw (c .by .ensures) (call-two (first .args .image .now) (hands first) (first .args .q) no-state no-call)
 
 by-requires-2 : tie.Need-by-requires-2
 by-requires-2 c κs = search needs
@@ -47,7 +49,8 @@ returns-2 c =
     let tested = branch .before .is-state in
     let first = branch .before .before .before .before .before .before .before in
     let no-state = sym (tested .ensures) ∙ not-true (tested .result) (branch .if1 .taken) in
-    rw (c .by2 .ensures) (call-three (first .args .image .now) (hands first) (first .args .q) no-state (sym (code .ensures) ∙ not-false (code .result) (c .before .if2 .left)))
+    let a-call = sym (code .ensures) ∙ not-false (code .result) (c .before .if2 .left) in
+    rw (c .by2 .ensures) (call-three (first .args .image .now) (hands first) (first .args .q) no-state a-call)
 
 decode-requires : tie.Need-decode-requires
 decode-requires c κs =
