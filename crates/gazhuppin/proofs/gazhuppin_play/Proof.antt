@@ -1,19 +1,36 @@
+-- The library's call: without room for every reply nothing is played; else the roll is played from a start.
+use Prim.Native.Nat.{_*_, _≤_}
 use native.Mathlib.Omega.{arith}
 use lib.ListN.{length}
+use Rattle.lines.specs.Lines.{linesOf}
 use borrow.Author.Needs.{needs}
 use Rattle.gazhuppin.proofs.RoomLaws.{few-lines, no-room, room-for-all}
 use Rattle.gazhuppin.proofs.gazhuppin_play.Statement.{statement}
 use Rattle.gazhuppin.proofs.gazhuppin_play.Tie as tie
 
+-- ---- what is counted
+
+abbrev startOf : tie.After-lines-of → tie.Start
+startOf c = c .before .before .before .before .before .before
+
+few : (c : tie.After-lines-of) → linesOf (length (startOf c .args .roll .now)) ≤ 65535
+few c = few-lines (length (startOf c .args .roll .now))
+
+-- behind the test there is room for every reply
+has-room : (c : tie.Else1) → let a = startOf (c .before) .args in linesOf (length (a .roll .now)) * 19 ≤ length (a .out .now)
+has-room c = rw (← (c .before .lines-of .ensures)) (omega (arith, c .if1 .left))
+
+-- ---- the needs
+
 lines-of-requires : tie.Need-lines-of-requires
 lines-of-requires c κs = search needs
 
 mul-if1 : tie.Need-mul-if1
-mul-if1 c = record { fits = omega (arith, few-lines (length (c .before .before .before .before .before .before .args .roll .now)), c .lines-of .ensures) }
+mul-if1 c = record { fits = omega (arith, few c, c .lines-of .ensures) }
 
 returns : tie.Need-returns
 returns c =
-    let a = c .before .before .before .before .before .before .before .args in
+    let a = startOf (c .before) .args in
     no-room (a .image .now) (a .roll .now) (a .pool .now) (a .table .now) (a .out .now) (rw (← (c .before .lines-of .ensures)) (omega (arith, c .if1 .taken)))
 
 start-requires : tie.Need-start-requires
@@ -21,10 +38,9 @@ start-requires c κs = search needs
 
 play-requires : tie.Need-play-requires
 play-requires c κs =
-    let n = c .before .before .before .before .before .before .before .before .before .before .before .before .lines-of in
-    let few = few-lines (length (c .before .before .before .before .before .before .before .before .before .before .before .before .before .before .before .before .before .before .args .roll .now)) in
-    let room = c .before .before .before .before .before .before .before .before .before .before .before .if1 .left in
-    (rw (← (n .ensures)) (omega (arith, room)), omega (arith, few))
+    let roomy = c .before .before .before .before .before .before .before .before .before .before .before in
+    let lines = few (roomy .before) in
+    (has-room roomy, omega (arith, lines))
 
 same-length : tie.Need-same-length
 same-length c = search needs
@@ -37,11 +53,13 @@ same-length-3 c = search needs
 
 returns-2 : tie.Need-returns-2
 returns-2 c =
-    let a = c .before .before .before .before .before .before .before .before .before .before .before .before .before .before .before .before .before .before .before .before .before .before .before .before .before .args in
-    let n = c .before .before .before .before .before .before .before .before .before .before .before .before .before .before .before .before .before .before .before .lines-of in
-    let got = c .before .before .before .before .before .before .before .before .before .before .before .before .before .before .before .start in
-    let shown = c .before .before .before .before .before .before .play in
-    room-for-all (a .image .now) (a .roll .now) (a .pool .now) (a .table .now) (a .out .now) _ _ _ (n .result) _ _ (rw (← (n .ensures)) (omega (arith, c .before .before .before .before .before .before .before .before .before .before .before .before .before .before .before .before .before .before .if1 .left))) (n .ensures) (got .ensures .1) (shown .ensures)
+    let playing = c .before .before .before .before .before .before in
+    let starting = playing .before .before .before .before .before .before .before .before .before in
+    let roomy = starting .before .before .before in
+    let n = roomy .before .lines-of in
+    let a = startOf (roomy .before) .args in
+    room-for-all (a .image .now) (a .roll .now) (a .pool .now) (a .table .now) (a .out .now) _ _ _ (n .result) _ _
+    (has-room roomy) (n .ensures) (starting .start .ensures .1) (playing .play .ensures)
 
 pub gazhuppin-play-spec : {M : Type 1} → statement M
 gazhuppin-play-spec =
