@@ -1,27 +1,63 @@
+-- An accepted call: each part is asked in a sound state, and what they leave together is the step.
 use mathlib.Core.Path.{_≡_, ap, _∙_}
 use native.Mathlib.Omega.{arith}
 use lib.ListN.{length, getD, set}
 use Rattle.basics.proofs.TestLaws.{length-mapped}
 use Rattle.basics.proofs.ListLaws.{getD-any}
-use Rattle.table.specs.Store.{kept}
+use Rattle.table.specs.Store.{Store, kept}
 use Rattle.table.proofs.FiledLaws.{filed-ranged}
-use Rattle.state.specs.World.{worldOf, closedSandbox}
+use Rattle.areas.specs.declared.area.Areas.{Areas}
+use Rattle.state.specs.declared.sandbox.Sandbox.{Sandbox}
+use Rattle.state.specs.World.{World, worldOf, sandboxAt, closedSandbox}
 use Rattle.state.proofs.SharesLaws.{zeroSandbox}
+use Rattle.rules.specs.After.{sandboxWith, sandboxAfter}
 use Rattle.memory.specs.Parts.{Asked}
 use Rattle.machine.proofs.CallLaws.{performed}
 use borrow.Author.Needs.{needs}
 use Rattle.machine.proofs.call.perform.Statement.{statement}
 use Rattle.machine.proofs.call.perform.Tie as tie
 
+-- ---- what is handed in
+
+abbrev worldIn : tie.Start → World
+worldIn c = worldOf (c .args .machine) (c .args .pool .now) (c .args .table .now)
+
+abbrev storeIn : tie.Start → Store
+storeIn c = kept (c .args .machine .held) (c .args .pool .now) (c .args .table .now)
+
+-- the sandbox as the code reads it
+abbrev sandboxIn : tie.Start → Sandbox
+sandboxIn c = getD (c .args .machine .sandboxes) (c .args .q .sandbox) zeroSandbox
+
 four : (c : tie.Start) → length (c .args .machine .sandboxes) ≡ 4
 four c = search length-mapped
 
--- the sandbox that the array holds is that of the world
-same-sandbox : (c : tie.Start) → getD (c .args .machine .sandboxes) (c .args .q .sandbox) zeroSandbox ≡ getD (c .args .machine .sandboxes) (c .args .q .sandbox) closedSandbox
+-- is that of the world
+same-sandbox : (c : tie.Start) → sandboxIn c ≡ getD (c .args .machine .sandboxes) (c .args .q .sandbox) closedSandbox
 same-sandbox c = let l = four c in getD-any (c .args .machine .sandboxes) (c .args .q .sandbox) zeroSandbox closedSandbox (omega (arith, c .pre .0 .row))
 
-asked-here : (c : tie.Start) → Asked (c .args .image .now) (c .args .frames) (c .args .images) (c .args .q) (getD (c .args .machine .sandboxes) (c .args .q .sandbox) zeroSandbox) (kept (c .args .machine .held) (c .args .pool .now) (c .args .table .now))
+asked-here : (c : tie.Start) → Asked (c .args .image .now) (c .args .frames) (c .args .images) (c .args .q) (sandboxIn c) (storeIn c)
 asked-here c = rw (same-sandbox c) (c .pre .0)
+
+-- so with the areas that were decided it is the one that the request leaves
+own-after : (c : tie.Start) → let b = sandboxAt (worldIn c) (c .args .q .sandbox) in
+    sandboxWith (c .args .q) (c .args .present) (sandboxIn c) ≡ sandboxAfter (c .args .q) b
+own-after c =
+    ap (λ (b : Sandbox). sandboxWith (c .args .q) (c .args .present) b) (same-sandbox c)
+    ∙ ap (λ (present : Areas). sandboxWith (c .args .q) present (sandboxAt (worldIn c) (c .args .q .sandbox))) (c .pre .1 .1)
+
+-- ---- the parts in turn
+
+abbrev startOf : tie.After-value-of → tie.Start
+startOf c = c .before .before .before .before .before .before .before .before
+
+abbrev valuedOf : tie.After-store-after → tie.After-value-of
+valuedOf c = c .before .before .before .before
+
+abbrev storedOf : tie.After-sandbox-after → tie.After-store-after
+storedOf c = c .before .before .before .before .before
+
+-- ---- the needs
 
 cast-k : tie.Need-cast-k
 cast-k c = search needs
@@ -33,19 +69,27 @@ element-copy-out-b : tie.Need-element-copy-out-b
 element-copy-out-b c = search needs
 
 value-of-requires : tie.Need-value-of-requires
-value-of-requires c κs = let a = asked-here (c .before .before .before .before .before .before .before) in (a .row, (a .fit, (a .ready, (a .whole, (filed-ranged 256 (c .before .before .before .before .before .before .before .args .frames) (kept (c .before .before .before .before .before .before .before .args .machine .held) (c .before .before .before .before .before .before .before .args .pool .now) (c .before .before .before .before .before .before .before .args .table .now)) (a .filed), (a .filed .few, c .before .before .before .before .before .before .before .pre .1 .0))))))
+value-of-requires c κs =
+    let start = c .before .before .before .before .before .before .before in
+    let a = asked-here start in
+    let ranged = filed-ranged 256 (start .args .frames) (storeIn start) (a .filed) in
+    (a .row, (a .fit, (a .ready, (a .whole, (ranged, (a .filed .few, start .pre .1 .0))))))
 
 store-after-requires : tie.Need-store-after-requires
-store-after-requires c κs = asked-here (c .before .before .before .before .before .before .before .before .before .before .before)
+store-after-requires c κs = asked-here (startOf (c .before .before .before))
 
 sandbox-after-requires : tie.Need-sandbox-after-requires
-sandbox-after-requires c κs = asked-here (c .before .before .before .before .before .before .before .before .before .before .before .before .before .before .before .before) .fit
+sandbox-after-requires c κs = asked-here (startOf (valuedOf (c .before .before .before .before))) .fit
 
 mul-after : tie.Need-mul-after
 mul-after c = search needs
 
 element-set-from-after : tie.Need-element-set-from-after
-element-set-from-after c = let a = asked-here (c .before .before .before .before .before .before .before .before .before .before .before .before .before .before .before .before .before) in let l = four (c .before .before .before .before .before .before .before .before .before .before .before .before .before .before .before .before .before) in search needs
+element-set-from-after c =
+    let start = startOf (valuedOf (storedOf c)) in
+    let a = asked-here start in
+    let l = four start in
+    search needs
 
 same-length : tie.Need-same-length
 same-length c = search needs
@@ -55,11 +99,15 @@ same-length-2 c = search needs
 
 returns : tie.Need-returns
 returns c =
-    let start = c .before .before .before .before .before .before .before .before .before .before .before .before .before .before .before .before .before in
+    let stored = storedOf c in
+    let valued = valuedOf stored in
+    let start = startOf valued in
+    let q = start .args .q in
     let e = same-sandbox start in
-    performed (start .args .image .now) (worldOf (c .before .before .before .before .before .before .before .before .before .before .before .before .before .before .before .before .before .args .machine) (c .before .before .before .before .before .before .before .before .before .before .before .before .before .before .before .before .before .args .pool .now) (c .before .before .before .before .before .before .before .before .before .before .before .before .before .before .before .before .before .args .table .now)) (start .args .q) (start .args .frames) (c .before .before .before .before .before .before .before .before .before .value-of .result) _ _ (start .pre .1 .0)
-    (rw (← e) (c .before .before .before .before .before .store-after .ensures)) (rw (← e) (c .before .before .before .before .before .before .before .before .before .value-of .ensures (start .args .machine .held)))
-    (ap (set (start .args .machine .sandboxes) (start .args .q .sandbox)) (c .sandbox-after .ensures ∙ rw (e, start .pre .1 .1)))
+    performed (start .args .image .now) (worldIn start) q (start .args .frames) (valued .value-of .result) _ _ (start .pre .1 .0)
+    (rw (← e) (stored .store-after .ensures))
+    (rw (← e) (valued .value-of .ensures (start .args .machine .held)))
+    (ap (set (start .args .machine .sandboxes) (q .sandbox)) (c .sandbox-after .ensures ∙ own-after start))
 
 pub perform-spec : {M : Type 1} → statement M
 perform-spec =
