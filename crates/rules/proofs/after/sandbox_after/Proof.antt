@@ -1,3 +1,4 @@
+-- The sandbox that a request leaves, field by field.
 use borrow.Author.Needs.{needs}
 use Rattle.rules.proofs.after.sandbox_after.Statement.{statement}
 use Rattle.rules.proofs.after.sandbox_after.Tie as tie
@@ -27,7 +28,16 @@ with-opened-requires : tie.Need-with-opened-requires
 with-opened-requires c κs = search needs
 
 returns : tie.Need-returns
-returns c = rw (c .with-opened .ensures, c .before .with-share .ensures, c .before .before .with-present .ensures, c .before .before .before .with-taken .ensures, c .before .before .before .before .with-snapshot .ensures, c .before .before .before .before .before .share-after .ensures, c .before .before .before .before .before .before .taken-after .ensures, c .before .before .before .before .before .before .before .snapshot-after .ensures)
+returns c =
+    let shared = c .before in
+    let placed = shared .before in
+    let marked = placed .before in
+    let copied = marked .before in
+    let share = copied .before .share-after in
+    let taken = copied .before .before .taken-after in
+    let snapshot = copied .before .before .before .snapshot-after in
+    rw (c .with-opened .ensures, shared .with-share .ensures, placed .with-present .ensures, marked .with-taken .ensures, copied .with-snapshot .ensures)
+    (rw (share .ensures, taken .ensures, snapshot .ensures))
 
 pub sandbox-after-spec : {M : Type 1} → statement M
 sandbox-after-spec =

@@ -1,3 +1,4 @@
+-- Row 9: the pages that a call names are looked at where the limits place them.
 use native.Mathlib.Omega.{arith}
 use Rattle.interface.specs.Refusals.{allMapped}
 use Rattle.rules.proofs.FitLaws.{named-pages, named-address, page-small}
@@ -9,10 +10,14 @@ cast-t7 : tie.Need-cast-t7
 cast-t7 c = omega (arith, named-pages (c .before .before .args .q) (c .before .before .pre .1) (c .before .if1 .taken))
 
 cast-all-are : tie.Need-cast-all-are
-cast-all-are c = omega (arith, named-pages (c .before .before .before .args .q) (c .before .before .before .pre .1) (c .before .before .if1 .taken))
+cast-all-are c =
+    let start = c .before .before .before in
+    omega (arith, named-pages (start .args .q) (start .pre .1) (c .before .before .if1 .taken))
 
 all-are-requires : tie.Need-all-are-requires
-all-are-requires c κs = (c .before .before .before .pre .0, named-pages (c .before .before .before .args .q) (c .before .before .before .pre .1) (c .before .before .if1 .taken))
+all-are-requires c κs =
+    let start = c .before .before .before in
+    (start .pre .0, named-pages (start .args .q) (start .pre .1) (c .before .before .if1 .taken))
 
 returns : tie.Need-returns
 unfolding allMapped
@@ -22,7 +27,9 @@ cast-t12 : tie.Need-cast-t12
 cast-t12 c = search needs
 
 slot-requires : tie.Need-slot-requires
-slot-requires c κs = (c .before .before .before .pre .0, page-small (c .before .before .before .args .q .p1) (named-address (c .before .before .before .args .q) (c .before .before .before .pre .1) (c .before .if2 .taken)))
+slot-requires c κs =
+    let start = c .before .before .before in
+    (start .pre .0, page-small (start .args .q .p1) (named-address (start .args .q) (start .pre .1) (c .before .if2 .taken)))
 
 is-mapped-requires : tie.Need-is-mapped-requires
 is-mapped-requires c κs = search needs

@@ -1,3 +1,4 @@
+-- Row 13, by the law of each call that it can refuse.
 use Rattle.areas.proofs.WalkLaws.{settled}
 use Rattle.rules.proofs.ShareLaws.{exceeds-open, exceeds-map, exceeds-snapshot, exceeds-not}
 use borrow.Author.Needs.{needs}
@@ -11,13 +12,20 @@ add-result : tie.Need-add-result
 add-result c = search needs
 
 returns : tie.Need-returns
-returns c = exceeds-open (c .before .before .args .frames) (c .before .before .args .images) (c .before .before .args .shares) (c .before .before .args .b) (c .before .before .args .q) (c .before .before .pre .0) (c .before .before .pre .1 .1 .0) (c .before .if1 .taken)
+returns c =
+    let start = c .before .before in
+    let a = start .args in
+    exceeds-open (a .frames) (a .images) (a .shares) (a .b) (a .q) (start .pre .0) (start .pre .1 .1 .0) (c .before .if1 .taken)
 
 cast-result-2 : tie.Need-cast-result-2
 cast-result-2 c = search needs
 
 charge-requires : tie.Need-charge-requires
-charge-requires c κs = (settled (c .before .before .before .args .images) (c .before .before .before .args .b .present) (c .before .before .before .pre .0 .present) (c .before .before .before .pre .0 .few), settled (c .before .before .before .args .images) (c .before .before .before .args .b .snapshot) (c .before .before .before .pre .0 .snapshot) (c .before .before .before .pre .0 .few))
+charge-requires c κs =
+    let start = c .before .before .before in
+    let a = start .args in
+    let r = start .pre .0 in
+    (settled (a .images) (a .b .present) (r .present) (r .few), settled (a .images) (a .b .snapshot) (r .snapshot) (r .few))
 
 cast-result-3 : tie.Need-cast-result-3
 cast-result-3 c = search needs
@@ -29,13 +37,20 @@ add-result-2 : tie.Need-add-result-2
 add-result-2 c = search needs
 
 returns-2 : tie.Need-returns-2
-returns-2 c = exceeds-map (c .before .before .before .before .before .args .frames) (c .before .before .before .before .before .args .images) (c .before .before .before .before .before .args .shares) (c .before .before .before .before .before .args .b) (c .before .before .before .before .before .args .q) (c .before .before .before .before .before .pre .1 .1 .0) (c .before .before .before .if2 .taken) (c .before .charge .result) (c .before .charge .ensures)
+returns-2 c =
+    let start = c .before .before .before .before .before in
+    let a = start .args in
+    let charge = c .before .charge in
+    exceeds-map (a .frames) (a .images) (a .shares) (a .b) (a .q) (start .pre .1 .1 .0)
+    (c .before .before .before .if2 .taken) (charge .result) (charge .ensures)
 
 cast-result-5 : tie.Need-cast-result-5
 cast-result-5 c = search needs
 
 mapped-pages-requires : tie.Need-mapped-pages-requires
-mapped-pages-requires c κs = settled (c .before .before .before .before .before .args .images) (c .before .before .before .before .before .args .b .present) (c .before .before .before .before .before .pre .0 .present) (c .before .before .before .before .before .pre .0 .few)
+mapped-pages-requires c κs =
+    let start = c .before .before .before .before .before in
+    settled (start .args .images) (start .args .b .present) (start .pre .0 .present) (start .pre .0 .few)
 
 cast-result-6 : tie.Need-cast-result-6
 cast-result-6 c = search needs
@@ -44,10 +59,18 @@ mul-result : tie.Need-mul-result
 mul-result c = search needs
 
 returns-3 : tie.Need-returns-3
-returns-3 c = exceeds-snapshot (c .before .before .before .before .before .before .args .frames) (c .before .before .before .before .before .before .args .images) (c .before .before .before .before .before .before .args .shares) (c .before .before .before .before .before .before .args .b) (c .before .before .before .before .before .before .args .q) (c .before .before .before .if3 .taken) (c .mapped-pages .result) (c .mapped-pages .ensures)
+returns-3 c =
+    let start = c .before .before .before .before .before .before in
+    let a = start .args in
+    exceeds-snapshot (a .frames) (a .images) (a .shares) (a .b) (a .q)
+    (c .before .before .before .if3 .taken) (c .mapped-pages .result) (c .mapped-pages .ensures)
 
 returns-4 : tie.Need-returns-4
-returns-4 c = exceeds-not (c .before .before .before .args .frames) (c .before .before .before .args .images) (c .before .before .before .args .shares) (c .before .before .before .args .b) (c .before .before .before .args .q) (c .before .before .before .pre .1 .0) (c .before .before .before .pre .1 .1 .0) (c .before .before .if1 .left) (c .before .if2 .left) (c .if3 .left)
+returns-4 c =
+    let start = c .before .before .before in
+    let a = start .args in
+    exceeds-not (a .frames) (a .images) (a .shares) (a .b) (a .q) (start .pre .1 .0) (start .pre .1 .1 .0)
+    (c .before .before .if1 .left) (c .before .if2 .left) (c .if3 .left)
 
 pub exceeds-spec : {M : Type 1} → statement M
 exceeds-spec =
