@@ -1,7 +1,7 @@
 -- THE DEMANDS. Each statement stands under its sentence from the order or from document 01; proofs/Claims proves every one, of every image and pool
 -- that a start accepts, and of every list of requests.
 use mathlib.Core.Path.{_≡_}
-use mathlib.Core.Bool.{true, false}
+use mathlib.Core.Bool.{true}
 use mathlib.Core.List.{List, [], _∷_, _++_}
 use Prim.Native.Nat.{ℕ, suc, _+_, _*_, _≤_, _<_}
 use lib.ListN.{length, getD}

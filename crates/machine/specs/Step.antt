@@ -4,14 +4,12 @@ use mathlib.Core.Bool.{Bool, true, not, _&&_}
 use mathlib.Core.List.{List}
 use Prim.Native.Nat.{ℕ, _<_}
 use lib.Dec.{eqb}
-use lib.ListN.{length}
 use Rattle.basics.specs.Choice.{_when_else_}
 use Rattle.interface.specs.declared.request.Request.{Request}
 use Rattle.interface.specs.Answers.{Answered}
 use Rattle.interface.specs.Requests.{_is_, Write, isCall, pageOf}
 use Rattle.interface.specs.Refusals.{refusal}
 use Rattle.frames.specs.Frames.{held}
-use Rattle.marks.specs.Marks.{from}
 use Rattle.table.specs.Store.{entry, frontOf}
 use Rattle.state.specs.World.{World, sandboxAt, withSandbox, framesOf, viewAt}
 use Rattle.state.specs.Test.{soundb}

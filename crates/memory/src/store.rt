@@ -2,7 +2,7 @@
 ghost use mathlib.Core.Path.{_≡_};
 ghost use Prim.Native.Nat.{_*_, _≤_, _<_};
 ghost use lib.ListN.{length};
-ghost use Rattle.interface.specs.Requests.{Write, Rewind};
+ghost use Rattle.interface.specs.Requests.{Write};
 ghost use Rattle.interface.specs.Slots.{isCommitted, backingAt};
 ghost use Rattle.marks.specs.Named.{usedBelow};
 ghost use Rattle.table.specs.Store.{kept, entry, frontOf, backOf, Ranged, Filed, rewindPage, rewindTo};

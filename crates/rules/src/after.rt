@@ -1,6 +1,5 @@
 // What an accepted request makes of its sandbox.
 ghost use mathlib.Core.Path.{_≡_};
-ghost use Prim.Native.Nat.{_≤_};
 ghost use Rattle.interface.specs.Requests.{Map, backingOf};
 ghost use Rattle.interface.specs.Outcome.{firstOf, newPage, shareAfter};
 ghost use Rattle.areas.specs.Areas.{slots, Near};

@@ -1,6 +1,6 @@
 // The rows of "Turned back" that ask about pages and limits, each a test with the table's own condition.
 ghost use mathlib.Core.Path.{_≡_};
-ghost use mathlib.Core.Bool.{Bool, true, false, not, _&&_, _||_};
+ghost use mathlib.Core.Bool.{true, false, not, _&&_, _||_};
 ghost use Prim.Native.Nat.{_+_, _≤_};
 ghost use lib.Dec.{ltb, eqb};
 ghost use Rattle.interface.specs.Requests.{_is_, Open, Map, Write, pageOf};

@@ -1,8 +1,8 @@
 -- A sound state: "A state is sound if", each condition a field, in the order of document 01.
 use mathlib.Core.Path.{_≡_}
-use mathlib.Core.Bool.{Bool, true, false}
+use mathlib.Core.Bool.{true, false}
 use mathlib.Core.List.{List}
-use Prim.Native.Nat.{ℕ, _+_, _*_, _≤_, _<_}
+use Prim.Native.Nat.{ℕ, _*_, _≤_, _<_}
 use lib.ListN.{length}
 use Rattle.interface.specs.Slots.{isMapped, isCommitted, backingAt, chargeOf}
 use Rattle.table.specs.Store.{Store, entry, frontOf, backOf, Filed}

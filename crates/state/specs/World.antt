@@ -1,9 +1,9 @@
 -- The world of the machine: four sandboxes, and the store made of held marks, lent pool and lent table.
-use mathlib.Core.Bool.{Bool, true, false, _&&_}
+use mathlib.Core.Bool.{Bool, false, _&&_}
 use mathlib.Core.Option.{Option, some, none}
 use mathlib.Core.List.{List}
-use Prim.Native.Nat.{ℕ, _*_, _/_, _%_}
-use lib.Dec.{leb, eqb}
+use Prim.Native.Nat.{ℕ, _/_, _%_}
+use lib.Dec.{eqb}
 use lib.ListN.{length, getD, set, replicate}
 use Rattle.basics.specs.Choice.{_when_else_}
 use Rattle.basics.specs.Ranges.{sum}
