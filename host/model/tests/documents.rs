@@ -1,5 +1,5 @@
-//! docs/MACHINE.md is held to the tree: every name in its brackets stands in the file that is named behind it, and every clause that a function of the
-//! model names is there.
+//! The documents are held to the tree: every name in a bracket of docs/MACHINE.md stands in the file that is named behind it, every clause that a function of
+//! the model names is there, and every must-fail edit that docs/CLAIMS.md names is there.
 
 use std::collections::BTreeSet;
 use std::fs;
@@ -91,7 +91,9 @@ fn clauses() -> BTreeSet<String> {
         .split("**")
         .skip(1)
         .step_by(2)
-        .filter_map(|bold| bold.split_whitespace().next().map(|word| word.trim_end_matches('.').to_string()))
+        .filter_map(|bold| {
+            bold.split_whitespace().next().map(|word| word.trim_end_matches('.').to_string())
+        })
         .filter(|word| word.starts_with(|c: char| c.is_ascii_digit()))
         .collect()
 }
@@ -109,10 +111,31 @@ fn the_model_names_clauses_that_are_there() {
                 let word = word.trim_matches('.');
                 if word.contains('.') {
                     named += 1;
-                    assert!(clauses.contains(word), "{}: there is no clause {word}", path.display());
+                    assert!(
+                        clauses.contains(word),
+                        "{}: there is no clause {word}",
+                        path.display()
+                    );
                 }
             }
         }
     }
     assert!(named > 40, "only {named} clauses are named");
+}
+
+#[test]
+fn claims_names_edits_that_are_there() {
+    let text = fs::read_to_string(root().join("docs/CLAIMS.md")).expect("docs/CLAIMS.md");
+    let mut named = 0;
+    for word in quoted(&text) {
+        let Some((folder, label)) = word.split_once('/') else { continue };
+        let edits = root().join("crates").join(folder).join("must-fail");
+        let is_label =
+            label.chars().all(|c| c.is_ascii_lowercase() || c.is_ascii_digit() || c == '_');
+        if edits.is_dir() && is_label && !["specs", "proofs", "src"].contains(&label) {
+            named += 1;
+            assert!(edits.join(format!("{label}.edit")).is_file(), "there is no edit {word}");
+        }
+    }
+    assert!(named > 100, "only {named} edits are named");
 }
