@@ -1,6 +1,7 @@
 -- A `&κ mut [T]` that is lent again for a lifetime ν of a call, and comes back: `Denote/Lend.antt`'s `lends-again` and `comes-back`, of a slice.
 --     Owned        what is owned of the slice that was passed as x, under a name and at a list; its machine value has the count that x had
---     Lent         what the holder keeps while the slice is lent again under the name δ: the lender's part, and its own borrow, open, with both halves of its ghost variable
+--     Lent         what the holder keeps while the slice is lent again under the name δ: the lender's part, and its own borrow, open, with both halves
+--                  of its ghost variable
 --     lends        Owned under x's own name ∗ [κ]_q gives, by an update, Owned at ν under a new name ∗ Lent
 --     backs        given `Room`, and that zs is as long as ys: [†ν] ∗ Lent ∗ finally zs gives Owned at zs under x's own name ∗ [κ]_q
 -- Assumes `Given`.

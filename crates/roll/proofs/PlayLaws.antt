@@ -38,7 +38,8 @@ requests-append [] ms = refl
 requests-append (Call q ∷ ls) ms = ap (λ l. q ∷ l) (requests-append ls ms)
 requests-append (Malformed ∷ ls) ms = requests-append ls ms
 
-pub replies-append : (ls ms : List Line) (as′ bs : List Answered) → length (requests ls) ≡ length as′ → replies (ls ++ ms) (as′ ++ bs) ≡ replies ls as′ ++ replies ms bs
+pub replies-append : (ls ms : List Line) (as′ bs : List Answered) → length (requests ls) ≡ length as′
+    → replies (ls ++ ms) (as′ ++ bs) ≡ replies ls as′ ++ replies ms bs
 unfolding requests replies
 replies-append [] ms [] bs e = refl
 replies-append [] ms (a ∷ as′) bs e = absurd (omega (arith, e))
@@ -72,7 +73,8 @@ pub printed-length : (first : ℕ) (bs : List Answered) → length (printed firs
 unfolding printed
 printed-length first [] = refl
 printed-length first (b ∷ bs) =
-    length-append (printedReply first (b .number) (b .value)) (printed (first + 1) bs) ∙ omega (arith, length-reply first (b .number) (b .value), printed-length (first + 1) bs)
+    length-append (printedReply first (b .number) (b .value)) (printed (first + 1) bs)
+    ∙ omega (arith, length-reply first (b .number) (b .value), printed-length (first + 1) bs)
 
 pub fits-append : (first : ℕ) (as′ bs : List Answered) → Fits first as′ → Fits (first + length as′) bs → Fits first (as′ ++ bs)
 unfolding Fits
@@ -143,7 +145,9 @@ module _ (image roll out₀ out ys : List ℕ) (w v : World) (k first at e : ℕ
       let l = run-length (p .run) in
       with-line (p .answers) l
       (rw (e, requests-append (linesIn roll k) (Malformed ∷ []), append-nil, s) (p .run))
-      (rw (e, s) (ap (replies (linesIn roll k ++ (Malformed ∷ []))) (sym (append-nil (p .answers))) ∙ replies-append (linesIn roll k) (Malformed ∷ []) (p .answers) [] l))
+      (rw (e, s)
+      (ap (replies (linesIn roll k ++ (Malformed ∷ []))) (sym (append-nil (p .answers)))
+      ∙ replies-append (linesIn roll k) (Malformed ∷ []) (p .answers) [] l))
 
   pub played-more : Turned image v (lineAt roll k) o → Played image w roll (k + 1) first out₀ now′ (o .world)
   played-more t = by-line (lineAt roll k) refl t
@@ -152,8 +156,9 @@ module _ (image roll out₀ out ys : List ℕ) (w v : World) (k first at e : ℕ
 pub played-on : (image roll out₀ out out′ : List ℕ) (w v u : World) (k first : ℕ) → Played image w roll k first out₀ out v
     → Replied image v (lineAt roll k) (first + k) (k * 19) out out′ u → Played image w roll (k + 1) first out₀ out′ u
 played-on image roll out₀ out out′ w v u k first p r =
-    subst (λ l. Played image w roll (k + 1) first out₀ l u) (part-is out (printedReply (first + k) (r .answer .number) (r .answer .value)) (k * 19) (k * 19 + 19) refl ∙ sym (r .prints))
-    (played-more image roll out₀ out (printedReply (first + k) (r .answer .number) (r .answer .value)) w v k first (k * 19) (k * 19 + 19) (record { answer = r .answer; world = u }) p refl refl refl (r .fits) (r .turned))
+    let ys : List ℕ = printedReply (first + k) (r .answer .number) (r .answer .value) in
+    subst (λ l. Played image w roll (k + 1) first out₀ l u) (part-is out ys (k * 19) (k * 19 + 19) refl ∙ sym (r .prints))
+    (played-more image roll out₀ out ys w v k first (k * 19) (k * 19 + 19) (record { answer = r .answer; world = u }) p refl refl refl (r .fits) (r .turned))
 
 -- every line has a reply
 pub a-reply-each : (image : List ℕ) (w : World) (roll : List ℕ) (n first : ℕ) (out₀ out : List ℕ) (v : World) (p : Played image w roll n first out₀ out v)

@@ -62,7 +62,8 @@ module _ (o : ℕ) (low : o < 256) where
   read-byte image st b s i t u =
       in-byte (st .pool) (entry st (frontOf s i)) _ u
       (when-cases (At o) (isCommitted (slots (b .present) i))
-      (λ e. in-byte (st .pool) (entry st (backOf s i)) (backingPage image (backingAt (slots (b .present) i))) u (backing-byte image (backingAt (slots (b .present) i)) t))
+      (λ e. in-byte (st .pool) (entry st (backOf s i)) (backingPage image (backingAt (slots (b .present) i))) u
+      (backing-byte image (backingAt (slots (b .present) i)) t))
       (λ e. backing-byte image (backingAt (slots (b .present) i)) t))
 
 count-low : (h : Held) → countHeld h ≤ 128
@@ -90,13 +91,16 @@ module _ (image : List ℕ) (w : World) (q : Request) (t : Bytes image) (u : Byt
   value-low n =
       let b = sandboxAt w (q .sandbox) in
       when-cases (λ x. x ≤ 65535) (q is Map) (λ e. let r = first-low image w q n (eqb-true (q .code) Map e) in omega (arith, r))
-      (λ _. when-cases (λ x. x ≤ 65535) (q is Read) (λ e. let r = read-byte (offsetOf q) (omega arith) image (w .store) b (q .sandbox) (pageOf q) t u in omega (arith, r))
+      (λ _. when-cases (λ x. x ≤ 65535) (q is Read)
+      (λ e. let r = read-byte (offsetOf q) (omega arith) image (w .store) b (q .sandbox) (pageOf q) t u in omega (arith, r))
       (λ _. when-cases (λ x. x ≤ 65535) (q is Snapshot) (λ e. let r = mapped-small (slots (b .present)) in omega (arith, r))
       (λ _. when-cases (λ x. x ≤ 65535) (q is Report) (λ e. let r = held-low (w .store) (q .sandbox) in omega (arith, r)) (λ _. omega arith))))
 
   pub value-small : (o : Outcome) → Stepped image w q o → o .answer .value ≤ 65535
   unfolding step
-  value-small o s = rw (s .equals) (when-cases (λ x. x ≤ 65535) (eqb (numberAt image w q) 0) (λ e. value-low (eqb-true (numberAt image w q) 0 e)) (λ _. omega arith))
+  value-small o s =
+      rw (s .equals)
+      (when-cases (λ x. x ≤ 65535) (eqb (numberAt image w q) 0) (λ e. value-low (eqb-true (numberAt image w q) 0 e)) (λ _. omega arith))
 
 -- "Turned back" has 14 rows
 refusal-small : (r : Refusal) → refusalNumber r ≤ 14

@@ -18,7 +18,9 @@ same-length-3 : tie.Need-same-length-3
 same-length-3 c = search needs
 
 returns : tie.Need-returns
-returns c = rw (← (c .before .before .before .before .before .before .before .lines-of .ensures)) (c .before .before .before .before .before .before .play-lines .ensures)
+returns c =
+    let played = c .before .before .before .before .before .before in
+    rw (← (played .before .lines-of .ensures)) (played .play-lines .ensures)
 
 pub play-spec : {M : Type 1} → statement M
 play-spec = tie.close (tie.spec lines-of-requires play-lines-requires same-length same-length-2 same-length-3 returns)

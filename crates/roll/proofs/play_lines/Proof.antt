@@ -1,5 +1,7 @@
--- `roll::play_lines` meets its contract: a walk of its MIR, by hand, since it has a local that holds a reference. One reader goes over the roll: it is made once, and moves on by a line in each turn.
--- `Proof/Held.antt` has what is held before a line, `Proof/Replied.antt` the call that answers it, and `Proof/Loop.antt` the loop. Of each callee the proof knows only that it meets its contract.
+-- `roll::play_lines` meets its contract: a walk of its MIR, by hand, since it has a local that holds a reference. One reader goes over the roll: it is made
+-- once, and moves on by a line in each turn.
+-- `Proof/Held.antt` has what is held before a line, `Proof/Replied.antt` the call that answers it, and `Proof/Loop.antt` the loop. Of each callee the proof
+-- knows only that it meets its contract.
 -- Assumes nothing.
 mod Held
 mod Replied
