@@ -1,7 +1,9 @@
 -- A call over the bytes of a state: what each test shows, and the answer behind it.
-use mathlib.Core.Path.{sym, _∙_}
+use mathlib.Core.Path.{_≡_, sym, _∙_}
+use mathlib.Core.Bool.{true, false}
 use native.Mathlib.Omega.{arith}
 use borrow.Author.Tests.{not-true, not-false}
+use Rattle.encoding.specs.Layout.{isState}
 use Rattle.encoding.proofs.LayoutLaws.{state-long}
 use Rattle.stepwise.specs.Calls.{Handed, handed}
 use Rattle.stepwise.proofs.CallLaws.{call-two, call-three, call-stepped}
@@ -13,6 +15,22 @@ use Rattle.stepwise.proofs.call_over.Tie as tie
 
 abbrev hands : tie.Start → Handed
 hands c = handed (c .args .state .now) (c .args .pool .now) (c .args .table .now)
+
+-- what the test of the bytes shows
+
+abbrev behindNo : tie.Then1 → tie.Start
+behindNo c = c .before .before .before .before .before .before .before
+
+no-state : (c : tie.Then1) → isState (behindNo c .args .state .now) ≡ false
+no-state c = let tested = c .before .is-state in sym (tested .ensures) ∙ not-true (tested .result) (c .if1 .taken)
+
+abbrev behindYes : tie.Else1 → tie.Start
+behindYes c = c .before .before .before .before .before .before .before
+
+a-state : (c : tie.Else1) → isState (behindYes c .args .state .now) ≡ true
+a-state c = let tested = c .before .is-state in sym (tested .ensures) ∙ not-false (tested .result) (c .if1 .left)
+
+-- the answers
 
 is-state-requires : tie.Need-is-state-requires
 is-state-requires c κs = search needs
@@ -30,11 +48,9 @@ returns : tie.Need-returns
 returns c =
     let code = c .before .before .is-call in
     let branch = c .before .before .before in
-    let tested = branch .before .is-state in
-    let first = branch .before .before .before .before .before .before .before in
-    let no-state = sym (tested .ensures) ∙ not-true (tested .result) (branch .if1 .taken) in
+    let first = behindNo branch in
     let no-call = sym (code .ensures) ∙ not-true (code .result) (c .before .if2 .taken) in
-    rw (c .by .ensures) (call-two (first .args .image .now) (hands first) (first .args .q) no-state no-call)
+    rw (c .by .ensures) (call-two (first .args .image .now) (hands first) (first .args .q) (no-state branch) no-call)
 
 by-requires-2 : tie.Need-by-requires-2
 by-requires-2 c κs = search needs
@@ -46,18 +62,12 @@ returns-2 : tie.Need-returns-2
 returns-2 c =
     let code = c .before .before .is-call in
     let branch = c .before .before .before in
-    let tested = branch .before .is-state in
-    let first = branch .before .before .before .before .before .before .before in
-    let no-state = sym (tested .ensures) ∙ not-true (tested .result) (branch .if1 .taken) in
+    let first = behindNo branch in
     let a-call = sym (code .ensures) ∙ not-false (code .result) (c .before .if2 .left) in
-    rw (c .by2 .ensures) (call-three (first .args .image .now) (hands first) (first .args .q) no-state a-call)
+    rw (c .by2 .ensures) (call-three (first .args .image .now) (hands first) (first .args .q) (no-state branch) a-call)
 
 decode-requires : tie.Need-decode-requires
-decode-requires c κs =
-    let testing = c .before .before in
-    let tested = testing .is-state in
-    let first = testing .before .before .before .before .before .before in
-    state-long (first .args .state .now) (sym (tested .ensures) ∙ not-false (tested .result) (c .before .if1 .left))
+decode-requires c κs = state-long (behindYes (c .before) .args .state .now) (a-state (c .before))
 
 call-requires : tie.Need-call-requires
 call-requires c κs = search needs
@@ -65,9 +75,7 @@ call-requires c κs = search needs
 encode-requires : tie.Need-encode-requires
 encode-requires c κs =
     let branch = c .before .before .before .before .before .before .before .before .before .before .before in
-    let tested = branch .before .is-state in
-    let first = branch .before .before .before .before .before .before .before in
-    state-long (first .args .state .now) (sym (tested .ensures) ∙ not-false (tested .result) (branch .if1 .left))
+    state-long (behindYes branch .args .state .now) (a-state branch)
 
 by-requires-3 : tie.Need-by-requires-3
 by-requires-3 c κs = search needs
@@ -87,12 +95,10 @@ returns-3 c =
     let calling = c .before .before .before .before .before .before .before .before .before .before in
     let decoding = calling .before .before .before in
     let branch = decoding .before .before in
-    let tested = branch .before .is-state in
     let known = branch .before .before .before .before .before .before in
-    let first = known .before in
+    let first = behindYes branch in
     let reply = calling .call in
-    let passed = sym (tested .ensures) ∙ not-false (tested .result) (branch .if1 .left) in
-    call-stepped (first .args .image .now) (hands first) (first .args .q) (record { at = λ i. omega (arith, known .slice-known .given i) }) passed
+    call-stepped (first .args .image .now) (hands first) (first .args .q) (record { at = λ i. omega (arith, known .slice-known .given i) }) (a-state branch)
     (decoding .decode .result) (reply .result) (c .by3 .result) (written .last .1 .0) (reply .last .1 .0) (reply .last .1 .1 .0)
     (decoding .decode .ensures) (reply .ensures) (written .ensures) (c .by3 .ensures)
 

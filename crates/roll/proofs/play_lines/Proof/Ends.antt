@@ -15,7 +15,8 @@ use prog.Wp.{Heap, Calls}
 use ghost.Atoms.{Atoms, sem}
 use contract.Monad.{Fun, fact}
 use sound.WpLaws.{FmC}
-use types.Kit.{Given, Item, ‵, raw, _⊛_, given, ⋆, mean, some, later, _$_, _∵_, !, qed, by, move, keep, drop, use1, use2, split, join, pick, rewrite, check, fsplit, fjoin, suffices, frame, await, updating, now as at-once, done}
+use types.Kit.{Given, Item, ‵, raw, _⊛_, given, ⋆, mean, some, later, _$_, _∵_, !, qed, by, move, keep, drop, use1, use2, split, join, pick, rewrite, check}
+use types.Kit.{fsplit, fjoin, suffices, frame, await, updating, now as at-once, done}
 use denote.Exit.{yes}
 use denote.RattleType.{owns}
 use denote.Laws.{Is, shows}
@@ -40,7 +41,8 @@ use Rattle.reader.proofs.new.Symbol.{name as #reader·new}
 use Rattle.roll.specs.Play.{Played}
 use Rattle.roll.proofs.PlayLaws.{played-none}
 use Rattle.roll.proofs.play_lines as play-lines
-use Rattle.roll.proofs.play_lines.Proof.Held.{Passed, Turn, Fits, Held, Slices, Token, Roll-token, Roll, B, reader, mach, spelled, slice, called, pool₀, table₀, image, roll, first, out₀, n, κi, κr}
+use Rattle.roll.proofs.play_lines.Proof.Held.{Passed, Turn, Fits, Held, Slices, Token, Roll-token, Roll, B, reader, mach, spelled, slice, called}
+use Rattle.roll.proofs.play_lines.Proof.Held.{pool₀, table₀, image, roll, first, out₀, n, κi, κr}
 
 abbrev pub stayed : Stays (play-lines.ended .signature .params) (play-lines.ended .kept)
 stayed = (

@@ -20,7 +20,8 @@ use ghost.Atoms.{Atoms, sem}
 use contract.Lifetimes.{Lfts, Shares}
 use contract.Monad.{Fun, fact}
 use sound.WpLaws.{FmC}
-use types.Kit.{Given, Item, ‵, raw, _⊛_, given, ⋆, mean, some, later, _$_, _∵_, !, qed, by, move, drop, use1, use2, split, join, pick, rewrite, check, fjoin, frame, await, updating, now as at-once, done}
+use types.Kit.{Given, Item, ‵, raw, _⊛_, given, ⋆, mean, some, later, _$_, _∵_, !, qed, by, move, drop, use1, use2, split, join, pick, rewrite, check, fjoin}
+use types.Kit.{frame, await, updating, now as at-once, done}
 use denote.RattleType.{RattleType}
 use denote.Laws.{Is, shows}
 use denote.Builtin.{u8, u16}

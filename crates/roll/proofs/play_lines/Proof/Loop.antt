@@ -1,4 +1,5 @@
--- The loop of `play_lines`, by `Types/Run.antt`'s `loops`: its invariant (`At`) is what is held before a line (`Held.antt`) beside the locals, and each turn leaves the loop or is nearer to its end.
+-- The loop of `play_lines`, by `Types/Run.antt`'s `loops`: its invariant (`At`) is what is held before a line (`Held.antt`) beside the locals, and each turn
+-- leaves the loop or is nearer to its end.
 -- Assumes `Given` and a `Tables`.
 use mathlib.Core.Path.{_≡_, refl, sym, subst}
 use Prim.Native.Nat.{ℕ, _+_, _-_, _<_, _^_}
@@ -23,7 +24,8 @@ use contract.Monad.{Fun}
 use sound.WpLaws.{FmC, fmOf}
 use types.Kit.{Given, Item, ‵, raw, mean, ⋆, later, Sq, runs, anyQ, atRet, _$_, !, by, move, use1, rewrite, pick, learn, await}
 use types.Part.{whole, sub, look-in, agg}
-use types.Run.{look, store, init, forget, stop, hop, fld, from, load, addr, of-opd, bin, and-then, no-more, assigns, land, land-last, calls, calls-last, first as into, blocks, stays, leaves-loop, loops, again, Below, returns, free1, free0, exec}
+use types.Run.{look, store, init, forget, stop, hop, fld, from, load, addr, of-opd, bin, and-then, no-more, assigns, land, land-last, calls, calls-last}
+use types.Run.{first as into, blocks, stays, leaves-loop, loops, again, Below, returns, free1, free0, exec}
 use denote.Laws.{Is}
 use denote.Builtin.{u8}
 use denote.Ref.{RefT}
@@ -42,7 +44,8 @@ use Rattle.reader.proofs.next.Symbol.{name as #reader·next}
 use Rattle.reader.proofs.skip.Symbol.{name as #reader·skip}
 use Rattle.roll.proofs.reply.Symbol.{name as #roll·reply}
 use Rattle.roll.proofs.play_lines.Code.Mir as body
-use Rattle.roll.proofs.play_lines.Proof.Held.{Passed, Next, Skip, Reply, Fits, Turn, Held, Read, nexted, Moved, skipped, Replied as RepliedAt, mach, slice, pool₀, table₀, image, roll, first, out₀, n, κi, κr}
+use Rattle.roll.proofs.play_lines.Proof.Held.{Passed, Next, Skip, Reply, Fits, Turn, Held, Read, nexted, Moved, skipped, Replied as RepliedAt, mach}
+use Rattle.roll.proofs.play_lines.Proof.Held.{slice, pool₀, table₀, image, roll, first, out₀, n, κi, κr}
 use Rattle.roll.proofs.play_lines.Proof.Replied.{replied}
 use Rattle.roll.proofs.play_lines.Proof.Replied as call
 use Rattle.roll.proofs.play_lines.Proof.Ends.{vals, start, Post, exits}

@@ -18,7 +18,8 @@ use ghost.Atoms.{Atoms}
 use contract.Lifetimes.{Lfts}
 use contract.Monad.{Fun, fact}
 use sound.WpLaws.{FmC}
-use types.Kit.{Given, Item, ‵, raw, _⊛_, ⋆, ⊢++, mean, some, later, _$_, _∵_, !, qed, by, move, keep, drop, use1, split, join, pick, check, fsplit, fjoin, feqL, frame, await, updating, now as at-once, show, done}
+use types.Kit.{Given, Item, ‵, raw, _⊛_, ⋆, ⊢++, mean, some, later, _$_, _∵_, !, qed, by, move, keep, drop, use1, split, join, pick, check, fsplit, fjoin}
+use types.Kit.{feqL, frame, await, updating, now as at-once, show, done}
 use types.Tokens.{lft-new, lft-end}
 use denote.Laws.{Is, shows}
 use denote.Plain.{uint-makes}
@@ -44,7 +45,8 @@ use Rattle.roll.proofs.PlayLaws.{played-on}
 use Rattle.roll.proofs.reply as reply
 use Rattle.roll.proofs.reply.Symbol.{name as #roll·reply}
 use Rattle.roll.specs.Play.{Replied as ReplySaid}
-use Rattle.roll.proofs.play_lines.Proof.Held.{Passed, Fits, Turn, Held, Image, Token, Own, Roll, Roll-token, Reply, Replied, called, slice, pool₀, table₀, image, roll, first, out₀, n, κi}
+use Rattle.roll.proofs.play_lines.Proof.Held.{Passed, Fits, Turn, Held, Image, Token, Own, Roll, Roll-token, Reply, Replied, called, slice, pool₀}
+use Rattle.roll.proofs.play_lines.Proof.Held.{table₀, image, roll, first, out₀, n, κi}
 
 module _ (P : Passed) (ok : Fits P) {M₁ : Type 1} (𝓤 : URA M₁) (H : Heap 𝓤) (A : Atoms 𝓤) (W : Given 𝓤 H A) (mem : Memory → SProp 𝓤) (run : Routine
     → Fun 𝓤) (C : Calls 𝓤 H) (fm : FmC 𝓤 H (W .laws) C)
