@@ -1,7 +1,7 @@
 -- Numbers tested, counted and added in turn, each in the direction in which a loop goes.
 use Prim.Native.Nat.{ℕ, zero, suc, _+_, _-_}
 use mathlib.Core.Bool.{Bool, true, false, _&&_}
-use lib.Dec.{leb, ltb}
+use lib.Dec.{leb, ltb, eqb}
 use Rattle.basics.specs.Choice.{_when_else_}
 
 -- 1 for true, 0 for false
@@ -36,3 +36,7 @@ inside a n i = leb a i && ltb (i - a) n
 -- f, but g at the n numbers from a on
 unfoldable pub over {ℓ} : {A : Type ℓ} → ℕ → ℕ → (ℕ → A) → (ℕ → A) → ℕ → A
 over a n g f i = g i when inside a n i else f i
+
+-- f and g give the same numbers at 0 to n - 1
+unfoldable pub alike : (ℕ → ℕ) → (ℕ → ℕ) → ℕ → Bool
+alike f g n = every (λ i. eqb (f i) (g i)) 0 n

@@ -22,7 +22,7 @@ use Rattle.areas.specs.Areas.{slots}
 use Rattle.areas.specs.Formed.{ImagesExist}
 use Rattle.state.specs.declared.sandbox.Sandbox.{Sandbox}
 use Rattle.state.specs.World.{pagesIn}
-use Rattle.memory.specs.Memory.{backingPage, pageUnder, pageRead, copyPage}
+use Rattle.content.specs.Content.{backingPage, pageUnder, pageRead, copyPage}
 use Rattle.plain.specs.Machine.{Given, Kept, copySlots, backingByte}
 use Rattle.plain.specs.Claims.{Keeps, Reads}
 use Rattle.claims.specs.Demands.{Lent}

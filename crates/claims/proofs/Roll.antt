@@ -23,7 +23,8 @@ use Rattle.areas.specs.Formed.{proper, isApart, isNone, placeOk, wellFormed}
 use Rattle.state.specs.World.{World, framesOf, started}
 use Rattle.state.specs.Test.{pageOk, pagesOk, recordOk, sandboxOk, sandboxesOk, soundb}
 use Rattle.rules.specs.After.{packedAfter, takenAfter, snapshotAfter}
-use Rattle.memory.specs.Memory.{pageUnder, pageRead, touched, storeAfter, heldBy, valueAt}
+use Rattle.content.specs.Content.{pageUnder, pageRead}
+use Rattle.memory.specs.Memory.{touched, storeAfter, heldBy, valueAt}
 use Rattle.machine.specs.Step.{numberAt, step}
 use Rattle.interface.specs.Examples.{Line, requestsOf, getsOf}
 use Rattle.plain.specs.Cases.{cases}

@@ -28,7 +28,8 @@ use Rattle.table.specs.Store.{Store, entry, frontOf, backOf, contents}
 use Rattle.state.specs.declared.sandbox.Sandbox.{Sandbox}
 use Rattle.state.specs.World.{World, sandboxAt, closedSandbox, framesOf, sharesOf, viewAt}
 use Rattle.rules.specs.After.{sandboxAfter}
-use Rattle.memory.specs.Memory.{pageRead, storeAfter, heldBy, valueAt}
+use Rattle.content.specs.Content.{pageRead}
+use Rattle.memory.specs.Memory.{storeAfter, heldBy, valueAt}
 use Rattle.machine.specs.Step.{worldAfter, numberAt, step, Outcome, Stepped}
 use Rattle.plain.specs.Machine.{Given, Kept, Plain, shares, viewOf, keptAfter, coreValue, answer, after}
 use Rattle.plain.specs.Machine.{held as heldMarks, valueAt as plainValue, numberAt as plainNumber}

@@ -34,7 +34,8 @@ use Rattle.table.proofs.FreeLaws.{freeTo-tidy, freeTo-in, freeTo-out}
 use Rattle.table.proofs.MoveLaws.{Moved, moved}
 use Rattle.table.proofs.RewindLaws.{rewindTo-tidy, rewindTo-in, rewindTo-out}
 use Rattle.state.specs.declared.sandbox.Sandbox.{Sandbox}
-use Rattle.memory.specs.Memory.{touched, keepsFront, copyPage, storeAfter}
+use Rattle.content.specs.Content.{copyPage}
+use Rattle.memory.specs.Memory.{touched, keepsFront, storeAfter}
 use Rattle.plain.specs.Machine.{Given, Kept, copySlots, copyBytes, stored, bytesAfter, frontAfter, backAfter, keptAfter, viewOf}
 use Rattle.plain.specs.Claims.{Keeps, Reads}
 use Rattle.claims.specs.Demands.{Lent}

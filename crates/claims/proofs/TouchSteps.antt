@@ -28,7 +28,8 @@ use Rattle.areas.specs.Areas.{slots}
 use Rattle.areas.specs.Formed.{WellFormed}
 use Rattle.state.specs.declared.sandbox.Sandbox.{Sandbox}
 use Rattle.state.specs.World.{pagesIn}
-use Rattle.memory.specs.Memory.{backingPage, pageUnder, pageRead, touched, keepsFront, copyPage, storeAfter}
+use Rattle.content.specs.Content.{backingPage, pageUnder, pageRead, copyPage}
+use Rattle.memory.specs.Memory.{touched, keepsFront, storeAfter}
 use Rattle.claims.specs.Touches.{namesFront, namesBack, namesNone}
 use Rattle.claims.proofs.AreaSteps.{image-at}
 use Rattle.claims.proofs.ReadSteps.{backing-whole}

@@ -19,7 +19,8 @@ use Rattle.table.proofs.LeftLaws.{Left}
 use Rattle.state.specs.declared.sandbox.Sandbox.{Sandbox}
 use Rattle.state.specs.World.{World, sandboxAt, closedSandbox, framesOf, pagesIn}
 use Rattle.rules.specs.After.{changes, packedAfter, takenAfter, snapshotAfter, sandboxAfter}
-use Rattle.memory.specs.Memory.{pageRead, storeAfter}
+use Rattle.content.specs.Content.{pageRead}
+use Rattle.memory.specs.Memory.{storeAfter}
 use Rattle.machine.specs.Step.{takes, Outcome, Stepped}
 use Rattle.claims.specs.Touches.{namesFront, namesBack, leavesSandboxes, Untouched, Touches}
 use Rattle.claims.proofs.StepLaws.{taking, frame-free}

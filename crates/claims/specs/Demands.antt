@@ -20,7 +20,8 @@ use Rattle.areas.specs.Areas.{slots}
 use Rattle.state.specs.World.{World, sandboxAt, sharesOf, pagesIn, started, lengthsOk, viewAt}
 use Rattle.state.specs.Start.{startedBy}
 use Rattle.state.specs.Sound.{Sound}
-use Rattle.memory.specs.Memory.{pageRead, heldBy}
+use Rattle.content.specs.Content.{pageRead}
+use Rattle.memory.specs.Memory.{heldBy}
 use Rattle.machine.specs.Step.{takes, Free, Outcome, Stepped}
 use Rattle.plain.specs.Machine.{Given, fresh, copySlots, copyBytes, answers}
 use Rattle.plain.specs.Lists.{upTo, naming, toldLater, Rewound}

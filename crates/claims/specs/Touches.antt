@@ -14,7 +14,7 @@ use Rattle.frames.specs.Frames.{held, mark}
 use Rattle.pages.specs.Parts.{frame, setFrame}
 use Rattle.table.specs.Store.{kept, entry, frontOf, backOf}
 use Rattle.state.specs.World.{World, sandboxAt}
-use Rattle.memory.specs.Memory.{pageRead}
+use Rattle.content.specs.Content.{pageRead}
 use Rattle.machine.specs.Step.{takes, Free, Outcome}
 
 -- ---- the memory that a request names

@@ -8,7 +8,7 @@ use Rattle.basics.specs.Choice.{_when_else_}
 use Rattle.basics.specs.Ranges.{over}
 use Rattle.interface.specs.declared.page.Slot.the-variants.{Unmapped}
 use Rattle.interface.specs.declared.request.Request.{Request}
-use Rattle.interface.specs.Requests.{Open, Map, Unmap, Protect, Read, Write, Snapshot, Rewind, Report}
+use Rattle.interface.specs.Requests.{Open, Map, Unmap, Protect, Read, Write, Snapshot, Rewind, Report, Compare}
 use Rattle.interface.specs.Slots.{Slots}
 use Rattle.interface.specs.Outcome.{newPage, pageOn}
 use Rattle.interface.specs.Refusals.{View, refusal}
@@ -35,8 +35,8 @@ pagesEdges pages =
 -- of a closed sandbox, over a pool of 128 frames
 abbrev pub closedEdges : List Line
 closedEdges =
-    -- "call code not 1 to 9"; report, the call of code 9, meets row 4
-    call 0 gives refused 2 ∷ call 10 gives refused 2 ∷ call 65535 gives refused 2 ∷ call₁ Open 8 gives ok 0 ∷ call Report gives refused 4 ∷
+    -- "call code not 1 to 9", now 1 to 10; compare, the call of code 10, meets row 4
+    call 0 gives refused 2 ∷ call 11 gives refused 2 ∷ call 65535 gives refused 2 ∷ call₁ Open 8 gives ok 0 ∷ call 10 gives refused 4 ∷
     -- "sandbox above 3"
     inSandbox 3 (call₁ Open 8) gives ok 0 ∷ inSandbox 4 (call₁ Open 8) gives refused 4 ∷ inSandbox 65535 (call₁ Open 8) gives refused 4 ∷
     -- "open: p1 share, 1 to 128"
@@ -62,9 +62,10 @@ bareEdges =
     rightsEdges (λ r. call₅ Map 0 1 0 0 r) ++
     -- within their limits these meet rows 8 and 9, or none
     (call₂ Unmap 0 1 gives refused 9 ∷ call₃ Protect 0 1 3 gives refused 9 ∷ call₁ Read 16383 gives refused 9 ∷ call₂ Write 0 1 gives refused 9 ∷
-    call Rewind gives refused 8 ∷ call Snapshot gives ok 0 ∷ call Report gives ok 0 ∷ []) ++
-    -- snapshot, rewind and report use none
-    unused (1 ∷ 2 ∷ 3 ∷ 4 ∷ 5 ∷ []) (call Snapshot) ++ unused (1 ∷ 2 ∷ 3 ∷ 4 ∷ 5 ∷ []) (call Rewind) ++ unused (1 ∷ 2 ∷ 3 ∷ 4 ∷ 5 ∷ []) (call Report)
+    call Rewind gives refused 8 ∷ call Compare gives refused 8 ∷ call Snapshot gives ok 0 ∷ call Report gives ok 0 ∷ []) ++
+    -- snapshot, rewind, report and compare use none
+    unused (1 ∷ 2 ∷ 3 ∷ 4 ∷ 5 ∷ []) (call Snapshot) ++ unused (1 ∷ 2 ∷ 3 ∷ 4 ∷ 5 ∷ []) (call Rewind) ++
+    unused (1 ∷ 2 ∷ 3 ∷ 4 ∷ 5 ∷ []) (call Report) ++ unused (1 ∷ 2 ∷ 3 ∷ 4 ∷ 5 ∷ []) (call Compare)
 
 -- of a sandbox whose 64 pages are mapped, with rights 3
 abbrev pub fullEdges : List Line

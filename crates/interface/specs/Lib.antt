@@ -2,6 +2,7 @@
 pub mod Answers
 pub mod Requests
 pub mod Slots
+pub mod Compare
 pub mod Limits
 pub mod Outcome
 pub mod Refusals

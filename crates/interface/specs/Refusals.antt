@@ -43,7 +43,7 @@ chargeThen v q = chargeOf (slotsThen v q) (copyAfter q (slotsThen v q) (v .copy)
 -- "When several apply, the lowest number is answered": the first row that applies, or 0
 unfoldable pub refusal : View → Request → ℕ
 refusal v q =
-    -- "call code not 1 to 9"
+    -- "call code not 1 to 9", now 1 to 10
     2 when not (isCall q) else
     -- "sandbox above 3; or, but for open, not open"
     4 when ltb 3 (q .sandbox) || not (q is Open) && not (v .opened) else
@@ -53,7 +53,7 @@ refusal v q =
     6 when not (within (v .imagePages) q) else
     -- "snapshot already taken"
     7 when q is Snapshot && isTaken (v .copy) else
-    -- "rewind without a snapshot"
+    -- "rewind without a snapshot"; call 10: "Without a snapshot it is refusal 8."
     8 when needsSnapshot q && not (isTaken (v .copy)) else
     -- "unmap, protect, read or write meets an unmapped page"
     9 when not (allMapped (v .slots) q) else

@@ -1,6 +1,6 @@
 -- The calls by their codes, and what a request names.
 use Prim.Native.Nat.{ℕ, _/_, _%_}
-use mathlib.Core.Bool.{Bool, _&&_}
+use mathlib.Core.Bool.{Bool, _&&_, _||_}
 use lib.Dec.{leb, eqb}
 use Rattle.basics.specs.Choice.{_when_else_}
 use Rattle.interface.specs.declared.page.Backing.{Backing}
@@ -35,14 +35,18 @@ Rewind = 8
 abbrev pub Report : ℕ
 Report = 9
 
+-- request A1, "Still clean?": "Call 10"
+abbrev pub Compare : ℕ
+Compare = 10
+
 -- the request is this call
 infix 50 _is_
 abbrev pub _is_ : Request → ℕ → Bool
 q is c = eqb (q .code) c
 
--- "call code not 1 to 9"
+-- "call code not 1 to 9", and A1: "A call number added here or later is no longer refusal 2."
 abbrev pub isCall : Request → Bool
-isCall q = leb 1 (q .code) && leb (q .code) 9
+isCall q = leb 1 (q .code) && leb (q .code) 10
 
 -- the page and the place in it of an address: "a page has 256 bytes"
 abbrev pub pageOf : Request → ℕ
@@ -55,6 +59,6 @@ offsetOf q = q .p1 % 256
 abbrev pub backingOf : Request → Backing
 backingOf q = Anonymous when eqb (q .p3) 0 else Image (record { 0 = q .p4 })
 
--- the calls that are refused without a snapshot
+-- the calls that are refused without a snapshot: "rewind without a snapshot", and of call 10: "Without a snapshot it is refusal 8."
 abbrev pub needsSnapshot : Request → Bool
-needsSnapshot q = q is Rewind
+needsSnapshot q = q is Rewind || q is Compare

@@ -24,17 +24,9 @@ use Rattle.areas.specs.Areas.{slots}
 use Rattle.areas.specs.Formed.{WellFormed, ImagesExist}
 use Rattle.state.specs.declared.sandbox.Sandbox.{Sandbox}
 use Rattle.state.proofs.NearLaws.{image-exists}
-use Rattle.memory.specs.Memory.{sourceOf, pageUnder, touched, keepsFront, copyPage, storeAfter}
+use Rattle.content.specs.Content.{sourceOf, pageUnder, copyPage}
+use Rattle.memory.specs.Memory.{touched, keepsFront, storeAfter}
 use Rattle.memory.specs.Parts.{StoreStepped, TouchStepped}
-
--- the image page of a page's backing is there
-pub source-there : (image : List ℕ) (images : ℕ) (a : Areas) → WellFormed images a → length image ≡ images * 256 → (i : ℕ)
-    → sourceEnd (sourceOf (backingAt (slots a i))) * 256 ≤ length image
-source-there image images a f w i = go (backingAt (slots a i)) (image-exists images a f i)
-  where
-    go : (b : Backing) → ImagesExist images b 1 → sourceEnd (sourceOf b) * 256 ≤ length image
-    go Anonymous e = omega arith
-    go (Image p) e = omega arith
 
 -- what is rewound does not depend on the bytes of pages that give up their fronts
 pub rewind-alike : (size first : ℕ) (keep : ℕ → Bool) (xs ys : ℕ → List ℕ) (st : Store) → ((i : ℕ) → keep i ≡ true → xs i ≡ ys i) → (n : ℕ)

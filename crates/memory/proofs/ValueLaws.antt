@@ -16,15 +16,10 @@ use Rattle.table.specs.Store.{Store, frontOf, backOf, contents, pageFrom, under
 use Rattle.table.specs.Source.{sourceBytes}
 use Rattle.areas.specs.Areas.{slots}
 use Rattle.state.specs.declared.sandbox.Sandbox.{Sandbox}
-use Rattle.memory.specs.Memory.{sourceOf, pageUnder, pageRead, heldBy, valueAt}
+use Rattle.content.specs.Content.{sourceOf, pageUnder, pageRead}
+use Rattle.memory.specs.Memory.{heldBy, valueAt}
 
 module _ (image : List ℕ) (q : Request) (b : Sandbox) (st : Store) where
-  pub read-is : (committed : Bool) (source : Source) (value : ℕ) → committed ≡ isCommitted (slots (b .present) (pageOf q)) → source ≡ sourceOf (backingAt (slots (b .present) (pageOf q)))
-      → value ≡ getD (pageFrom (underFront committed (sourceBytes image source) (contents 256 st (backOf (q .sandbox) (pageOf q)))) (contents 256 st (frontOf (q .sandbox) (pageOf q)))) (offsetOf q) 0
-      → value ≡ getD (pageRead image st b (q .sandbox) (pageOf q)) (offsetOf q) 0
-  unfolding pageRead pageUnder
-  read-is committed source value c s v = v ∙ rw (c, s)
-
   pub map-value : (value : ℕ) → q .code ≡ Map → value ≡ firstOf (slots (b .present)) q → value ≡ valueAt image q b st
   unfolding valueAt
   map-value value e v = v ∙ rw e

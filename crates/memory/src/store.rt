@@ -9,13 +9,14 @@ ghost use Rattle.table.specs.Store.{kept, entry, frontOf, backOf, Ranged, Filed
 ghost use Rattle.table.specs.Source.{sourceBytes, sourceEnd};
 ghost use Rattle.areas.specs.Areas.{slots, Near};
 ghost use Rattle.rules.specs.Ready.{Ready};
-ghost use Rattle.memory.specs.Memory.{sourceOf, keepsFront, copyPage};
+ghost use Rattle.content.specs.Content.{sourceOf, copyPage};
+ghost use Rattle.memory.specs.Memory.{keepsFront};
 ghost use Rattle.memory.specs.Parts.{Asked, StoreStepped, TouchStepped};
 use areas::area::Areas;
 use areas::slot::backing_at;
 use areas::slot::is_committed;
+use content::read::source_of;
 use frames::Held;
-use interface::page::Backing;
 use interface::page::PageNo;
 use interface::request::Request;
 use state::sandbox::Sandbox;
@@ -169,14 +170,4 @@ fn rewind_page(
     let keep = is_committed(slot);
     let source = source_of(backing_at(slot));
     table::store::restore_page(held, pool, table, image, s, page, keep, source)
-}
-
-// "zero bytes or its image page"
-pub fn source_of(backing: Backing) -> Source
-    ensures { λ r. ⌜ r ≡ sourceOf backing ⌝ }
-{
-    match backing {
-        Backing::Anonymous => Source::Zero,
-        Backing::Image(page) => Source::Image(page),
-    }
 }

@@ -1,7 +1,9 @@
 -- A part of a list, and a list with a part replaced; a frame is the part that its number and the size of a page say.
 use Prim.Native.Nat.{ℕ, zero, suc, _+_, _*_}
+use mathlib.Core.Bool.{Bool}
 use mathlib.Core.List.{List, [], _∷_, _++_}
-use lib.ListN.{length, take, drop, replicate}
+use lib.ListN.{length, getD, take, drop, replicate}
+use Rattle.basics.specs.Ranges.{alike}
 
 -- the n elements from at on
 unfoldable pub partAt : List ℕ → ℕ → ℕ → List ℕ
@@ -29,3 +31,7 @@ frame size xs f = partAt xs (f * size) size
 unfoldable pub setFrame : ℕ → List ℕ → ℕ → List ℕ → List ℕ
 unfolding setPart
 setFrame size xs f ys = setPart xs (f * size) ys
+
+-- the first size bytes of two pages are the same
+unfoldable pub sameBytes : ℕ → List ℕ → List ℕ → Bool
+sameBytes size xs ys = alike (λ o. getD xs o 0) (λ o. getD ys o 0) size

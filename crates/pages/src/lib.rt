@@ -4,7 +4,7 @@
 ghost use mathlib.Core.Path.{_≡_};
 ghost use Prim.Native.Nat.{_<_};
 ghost use lib.ListN.{length, getD, set};
-ghost use Rattle.pages.specs.Parts.{zeros};
+ghost use Rattle.pages.specs.Parts.{zeros, sameBytes};
 
 // "a page has 256 bytes"
 pub struct Page;
@@ -56,4 +56,16 @@ pub fn read(part: &[u8], offset: usize) -> u8
     ensures { λ r. ⌜ r ≡ getD (now (part .entry)) offset 0 ⌝ }
 {
     part[offset]
+}
+
+// Whether two parts of the same length have the same bytes. All are compared, which takes no branch.
+pub fn is_same(part: &[u8], other: &[u8]) -> bool
+    requires { ⌜ length (now part) ≡ length (now other) ⌝ }
+    ensures { λ r. ⌜ r ≡ sameBytes (length (now (part .entry))) (now (part .entry)) (now (other .entry)) ⌝ }
+{
+    let mut same = true;
+    for i in 0..part.len() {
+        same = same & (part[i] == other[i]);
+    }
+    same
 }

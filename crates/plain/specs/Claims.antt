@@ -8,7 +8,7 @@ use lib.Dec.{eqb}
 use lib.ListN.{length}
 use Rattle.basics.specs.Ranges.{count}
 use Rattle.interface.specs.declared.request.Request.{Request}
-use Rattle.interface.specs.Requests.{_is_, Open, Read, Write, Snapshot, Rewind, Report, pageOf}
+use Rattle.interface.specs.Requests.{_is_, Open, Read, Write, Snapshot, Rewind, Report, Compare, pageOf}
 use Rattle.interface.specs.Slots.{isMapped, isCommitted, isUncommitted, rightsAt, backingAt, areas, mappedPages, chargeOf, copied}
 use Rattle.interface.specs.Limits.{within}
 use Rattle.interface.specs.Refusals.{isTaken}
@@ -107,9 +107,9 @@ pub record Always (g : Given) (p : Plain) : Type 0 where
 abbrev pub RefusedChangesNothing : Given → Type 0
 RefusedChangesNothing g = (p : Plain) (q : Request) → eqb (numberAt g p q) 0 ≡ false → after g p q ≡ p
 
--- reads and reports change nothing
+-- reads, reports and call 10 change nothing
 abbrev pub ReadsChangeNothing : Given → Type 0
-ReadsChangeNothing g = (p : Plain) (q : Request) → (q is Read || q is Report) ≡ true → after g p q ≡ p
+ReadsChangeNothing g = (p : Plain) (q : Request) → (q is Read || (q is Report || q is Compare)) ≡ true → after g p q ≡ p
 
 -- rewinding twice is rewinding once
 abbrev pub RewindTwice : Given → Type 0

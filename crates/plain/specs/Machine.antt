@@ -6,14 +6,15 @@ use mathlib.Core.List.{List, [], _∷_}
 use lib.Dec.{eqb}
 use lib.ListN.{length, getD}
 use Rattle.basics.specs.Choice.{_when_else_}
-use Rattle.basics.specs.Ranges.{count, sum, over}
+use Rattle.basics.specs.Ranges.{count, sum, over, alike}
 use Rattle.interface.specs.declared.page.Backing.{Backing}
 use Rattle.interface.specs.declared.page.Backing.the-variants.{Anonymous, Image}
 use Rattle.interface.specs.declared.page.Slot.the-variants.{Unmapped}
 use Rattle.interface.specs.declared.request.Request.{Request}
 use Rattle.interface.specs.Answers.{Answered}
-use Rattle.interface.specs.Requests.{_is_, Map, Unmap, Read, Write, Snapshot, Rewind, Report, pageOf, offsetOf, backingOf}
-use Rattle.interface.specs.Slots.{Slots, isCommitted, advance, mappedPages}
+use Rattle.interface.specs.Requests.{_is_, Map, Unmap, Read, Write, Snapshot, Rewind, Report, Compare, pageOf, offsetOf, backingOf}
+use Rattle.interface.specs.Slots.{Slots, isCommitted, advance, mappedPages, copied}
+use Rattle.interface.specs.Compare.{lowestDifference}
 use Rattle.interface.specs.Outcome.{firstOf, slotsAfter, copyAfter, shareAfter}
 use Rattle.interface.specs.Refusals.{View, refusal}
 
@@ -136,12 +137,17 @@ keptAfter g q k = record { core = coreAfter g q (k .core); traces = tracesAfter 
 unfoldable pub held : Traces → ℕ
 held t = count (t .front) 64 + count (t .back) 64
 
--- map: "Value: first page"; read: "Value: the byte"; snapshot: "Value: pages committed"; "Value 0 where none is named"
+-- request A1: "the lowest page number at which the sandbox and its snapshot differ in being mapped, in rights or in bytes", all 256 bytes compared
+unfoldable pub differing : Core → ℕ
+differing c = lowestDifference (c .pages .slots) (copied (copySlots c)) (λ i. alike (c .pages .bytes i) (copyBytes (c .copy) i) 256)
+
+-- map: "Value: first page"; read: "Value: the byte"; snapshot: "Value: pages committed"; call 10: the page; "Value 0 where none is named"
 unfoldable pub coreValue : Given → Request → Core → ℕ
 coreValue g q c =
     firstOf (c .pages .slots) q when q is Map else
     c .pages .bytes (pageOf q) (offsetOf q) when q is Read else
     mappedPages (c .pages .slots) when q is Snapshot else
+    differing c when q is Compare else
     0
 
 -- the calls whose value may tell of earlier requests, and that value

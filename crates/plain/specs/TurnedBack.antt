@@ -2,7 +2,7 @@
 -- sides, and "When several apply, the lowest number is answered". (Row 1 is the player's; row 3 stands in state/specs/Lengths.)
 use mathlib.Core.List.{List, [], _∷_, _++_}
 use lib.ListN.{replicate}
-use Rattle.interface.specs.Requests.{Open, Map, Unmap, Protect, Read, Write, Snapshot, Rewind, Report}
+use Rattle.interface.specs.Requests.{Open, Map, Unmap, Protect, Read, Write, Snapshot, Rewind, Report, Compare}
 use Rattle.interface.specs.Examples.{Line, _gives_, ok, refused, call₅, call₃, call₂, call₁, call, mapAt, inSandbox}
 use Rattle.interface.specs.Edges.{readable, closedEdges, bareEdges, fullEdges, eightEdges}
 use Rattle.plain.specs.Machine.{Given}
@@ -10,7 +10,7 @@ use Rattle.plain.specs.Cases.{Case, casesOver, noImage}
 
 abbrev pub turnedBack : List (List Line)
 turnedBack =
-    -- 2 "call code not 1 to 9": "`0 0`"
+    -- 2 "call code not 1 to 9", now 1 to 10: "`0 0`"
     (call 0 gives refused 2 ∷ []) ∷
     -- 4 "sandbox above 3": "`5 4 0`"; "or, but for open, not open"
     (inSandbox 4 (call₁ Read 0) gives refused 4 ∷ call₁ Read 0 gives refused 4 ∷ call₁ Open 8 gives ok 0 ∷ call₁ Read 0 gives refused 9 ∷
@@ -21,8 +21,9 @@ turnedBack =
     (call₁ Open 8 gives ok 0 ∷ call₅ Map 63 2 0 0 3 gives refused 6 ∷ []) ∷
     -- 7 "snapshot already taken": "`7 0` twice"
     (call₁ Open 8 gives ok 0 ∷ call Snapshot gives ok 0 ∷ call Snapshot gives refused 7 ∷ []) ∷
-    -- 8 "rewind without a snapshot": "`8 0` after open"
-    (call₁ Open 8 gives ok 0 ∷ call Rewind gives refused 8 ∷ call Snapshot gives ok 0 ∷ call Rewind gives ok 0 ∷ []) ∷
+    -- 8 "rewind without a snapshot": "`8 0` after open"; and call 10, "Without a snapshot it is refusal 8"
+    (call₁ Open 8 gives ok 0 ∷ call Rewind gives refused 8 ∷ call Compare gives refused 8 ∷ call Snapshot gives ok 0 ∷ call Rewind gives ok 0 ∷
+    call Compare gives ok 64 ∷ []) ∷
     -- 9 "unmap, protect, read or write meets an unmapped page": "`5 0 16383` after open"; and one mapped page of two
     (call₁ Open 8 gives ok 0 ∷ call₁ Read 16383 gives refused 9 ∷ call₂ Unmap 0 1 gives refused 9 ∷ call₃ Protect 0 1 1 gives refused 9 ∷
     call₂ Write 0 1 gives refused 9 ∷ mapAt 1 1 gives ok 1 ∷ call₂ Unmap 0 2 gives refused 9 ∷ call₂ Unmap 1 2 gives refused 9 ∷
@@ -51,10 +52,11 @@ turnedBack =
     call₂ Unmap 7 1 gives ok 0 ∷ call₃ Protect 9 1 1 gives refused 14 ∷ call₂ Unmap 9 1 gives refused 14 ∷ call₃ Protect 8 1 1 gives refused 14 ∷
     call₃ Protect 7 3 1 gives refused 9 ∷ call₂ Unmap 8 1 gives ok 0 ∷ []) ∷
     -- "When several apply": 2 before 4, 4 before 6, 5 before 6
-    (inSandbox 4 (call 0) gives refused 2 ∷ call₁ 10 1 gives refused 2 ∷ inSandbox 4 (call₁ Open 0) gives refused 4 ∷ call₁ Read 16384 gives refused 4 ∷
+    (inSandbox 4 (call 0) gives refused 2 ∷ call₁ 11 1 gives refused 2 ∷ inSandbox 4 (call₁ Open 0) gives refused 4 ∷ call₁ Read 16384 gives refused 4 ∷
     call₁ Open 8 gives ok 0 ∷ call₁ Open 0 gives refused 5 ∷
     -- 6 before 8, 9; then 6 before 7, 10, 12, 13
-    call₁ Rewind 1 gives refused 6 ∷ call₂ Unmap 63 2 gives refused 6 ∷ mapAt 0 65 gives refused 6 ∷ call₅ Map 0 1 0 0 1 gives ok 0 ∷ call Snapshot gives ok 1 ∷
+    call₁ Rewind 1 gives refused 6 ∷ call₁ Compare 1 gives refused 6 ∷ call₂ Unmap 63 2 gives refused 6 ∷ mapAt 0 65 gives refused 6 ∷
+    call₅ Map 0 1 0 0 1 gives ok 0 ∷ call Snapshot gives ok 1 ∷
     call₁ Snapshot 1 gives refused 6 ∷ call₅ Map 0 1 0 0 2 gives refused 6 ∷ call₂ Write 0 256 gives refused 6 ∷
     -- 7 before 13 (seven pages would be committed, a charge of 14), 10 before 13
     mapAt 1 6 gives ok 1 ∷ call Snapshot gives refused 7 ∷ mapAt 0 9 gives refused 10 ∷ []) ∷

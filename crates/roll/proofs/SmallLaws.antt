@@ -35,7 +35,8 @@ use Rattle.areas.specs.Areas.{slots}
 use Rattle.state.specs.declared.sandbox.Sandbox.{Sandbox}
 use Rattle.state.specs.World.{World, sandboxAt, viewAt}
 use Rattle.state.specs.Test.{soundb}
-use Rattle.memory.specs.Memory.{backingPage, pageUnder, pageRead, heldBy, valueAt}
+use Rattle.content.specs.Content.{backingPage, pageUnder, pageRead}
+use Rattle.memory.specs.Memory.{heldBy, valueAt}
 use Rattle.machine.specs.Step.{Outcome, Stepped, step, numberAt}
 
 -- each element is a byte

@@ -4,6 +4,7 @@
 // given up is zero. So nothing above speaks of a frame but for the one that a write takes.
 // It stands on `pool` for the bytes of a frame, on `frames` for the held marks, on `marks` for the frames that entries name, and on
 // `interface` for the number of a page.
+pub mod compare;
 pub mod entry;
 pub mod source;
 pub mod store;

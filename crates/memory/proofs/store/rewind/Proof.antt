@@ -12,8 +12,10 @@ use Rattle.table.proofs.TouchLaws.{source-whole}
 use Rattle.areas.specs.declared.area.Areas.{Areas}
 use Rattle.areas.specs.Areas.{slots}
 use Rattle.areas.proofs.FormedLaws.{near}
-use Rattle.memory.specs.Memory.{backingPage, sourceOf, keepsFront, copyPage}
-use Rattle.memory.proofs.MemoryLaws.{source-there, rewind-alike}
+use Rattle.content.specs.Content.{backingPage, sourceOf, copyPage}
+use Rattle.memory.specs.Memory.{keepsFront}
+use Rattle.content.proofs.ReadingLaws.{source-there}
+use Rattle.memory.proofs.MemoryLaws.{rewind-alike}
 use Rattle.memory.proofs.store.rewind.Statement.{statement}
 use Rattle.memory.proofs.store.rewind.Tie as tie
 

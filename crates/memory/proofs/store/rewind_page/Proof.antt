@@ -1,7 +1,7 @@
 use mathlib.Core.Path.{sym, ap, _∙_}
 use Rattle.interface.specs.Slots.{isCommitted, backingAt}
 use Rattle.table.proofs.RewindLaws.{rewind-none}
-use Rattle.memory.specs.Memory.{sourceOf}
+use Rattle.content.specs.Content.{sourceOf}
 use borrow.Author.Needs.{needs}
 use Rattle.memory.proofs.store.rewind_page.Statement.{statement}
 use Rattle.memory.proofs.store.rewind_page.Tie as tie

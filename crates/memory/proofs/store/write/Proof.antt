@@ -5,8 +5,9 @@ use Rattle.interface.specs.Slots.{isCommitted, backingAt}
 use Rattle.table.specs.Store.{kept}
 use Rattle.areas.proofs.FormedLaws.{near}
 use Rattle.rules.proofs.FitLaws.{page-small}
-use Rattle.memory.specs.Memory.{sourceOf}
-use Rattle.memory.proofs.MemoryLaws.{source-there, touch-ranged, written}
+use Rattle.content.specs.Content.{sourceOf}
+use Rattle.content.proofs.ReadingLaws.{source-there}
+use Rattle.memory.proofs.MemoryLaws.{touch-ranged, written}
 use borrow.Author.Needs.{needs}
 use Rattle.memory.proofs.store.write.Statement.{statement}
 use Rattle.memory.proofs.store.write.Tie as tie

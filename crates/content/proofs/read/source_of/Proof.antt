@@ -1,6 +1,6 @@
 use borrow.Author.Needs.{needs}
-use Rattle.memory.proofs.store.source_of.Statement.{statement}
-use Rattle.memory.proofs.store.source_of.Tie as tie
+use Rattle.content.proofs.read.source_of.Statement.{statement}
+use Rattle.content.proofs.read.source_of.Tie as tie
 
 enum-told : tie.Need-enum-told
 enum-told c = search needs

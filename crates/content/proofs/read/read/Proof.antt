@@ -4,12 +4,11 @@ use Rattle.interface.specs.Slots.{isCommitted, backingAt}
 use Rattle.table.specs.Store.{kept}
 use Rattle.areas.proofs.FormedLaws.{near}
 use Rattle.rules.proofs.FitLaws.{page-small}
-use Rattle.memory.specs.Memory.{sourceOf}
-use Rattle.memory.proofs.MemoryLaws.{source-there}
-use Rattle.memory.proofs.ValueLaws.{read-is}
+use Rattle.content.specs.Content.{sourceOf}
+use Rattle.content.proofs.ReadingLaws.{source-there, read-is}
 use borrow.Author.Needs.{needs}
-use Rattle.memory.proofs.value.read.Statement.{statement}
-use Rattle.memory.proofs.value.read.Tie as tie
+use Rattle.content.proofs.read.read.Statement.{statement}
+use Rattle.content.proofs.read.read.Tie as tie
 
 cast-read-byte : tie.Need-cast-read-byte
 cast-read-byte c = search needs
