@@ -59,14 +59,14 @@ EveryListRuns g = (qs : List Request) → (as′ : List Answered) × ((v : World
 
 -- ---- demand 1
 
--- the code is that of one of the nine calls
+-- the code is that of one of the ten calls
 abbrev pub Coded : Request → Type 0
-Coded q = (1 ≤ q .code) × (q .code ≤ 9)
+Coded q = (1 ≤ q .code) × (q .code ≤ 10)
 
 -- "answers document 01's refusal number and value 0 and changes nothing. Every other call .. touches only the memory named for it."
 -- (That each call ends, with the number and value of `step`, is the contract of `call` itself.)
 pub record Demand1 (image : List ℕ) (w : World) (q : Request) (o : Outcome) : Type 0 where
-  -- "call code not 1 to 9"
+  -- "call code not 1 to 9", now 1 to 10
   pub uncalled : (Coded q → ⊥) → o .answer .number ≡ 2
   -- "lent length wrong, or state unsound". That four sandboxes stand in the row is what the type [Sandbox; 4] says of any state.
   pub unsound : Coded q → length (w .sandboxes) ≡ 4 → (Sound image w → ⊥) → o .answer .number ≡ 3

@@ -1,5 +1,6 @@
--- In reading order: what is claimed, what an accepted call touches, "Turned back" by its examples, and what the proofs carry along a list.
+-- In reading order: what is claimed, what an accepted call touches, "Turned back" by its examples, call 10, and what the proofs carry along a list.
 pub mod Demands
 pub mod Touches
 pub mod TurnedBack
+pub mod StillClean
 pub mod Agrees

@@ -9,7 +9,7 @@ use lib.ListN.{length, set}
 use Rattle.basics.specs.Choice.{_when_else_}
 use Rattle.basics.specs.Ranges.{inside}
 use Rattle.interface.specs.declared.request.Request.{Request}
-use Rattle.interface.specs.Requests.{_is_, Open, Map, Unmap, Protect, Read, Write, Snapshot, Rewind, Report, pageOf, offsetOf}
+use Rattle.interface.specs.Requests.{_is_, Open, Map, Unmap, Protect, Read, Write, Snapshot, Rewind, Report, Compare, pageOf, offsetOf}
 use Rattle.frames.specs.Frames.{held, mark}
 use Rattle.pages.specs.Parts.{frame, setFrame}
 use Rattle.table.specs.Store.{kept, entry, frontOf, backOf}
@@ -34,11 +34,11 @@ namesBack q i = ltb i 64 when q is Snapshot else false
 
 -- the calls that name no entry and no frame
 abbrev pub namesNone : Request → Bool
-namesNone q = q is Open || (q is Map || (q is Protect || (q is Read || q is Report)))
+namesNone q = q is Open || (q is Map || (q is Protect || (q is Read || (q is Report || q is Compare))))
 
 -- the calls that leave all four sandboxes as they are
 abbrev pub leavesSandboxes : Request → Bool
-leavesSandboxes q = q is Read || (q is Write || q is Report)
+leavesSandboxes q = q is Read || (q is Write || (q is Report || q is Compare))
 
 -- frame f is named by none of these front entries, and is not the frame taken
 pub record Untouched (image : List ℕ) (w : World) (q : Request) (taken f : ℕ) : Type 0 where
@@ -49,9 +49,9 @@ pub record Untouched (image : List ℕ) (w : World) (q : Request) (taken f : ℕ
 
 -- from the world w to the world of the outcome o. The frame `taken` is the one that a write takes, where it takes one (`takes`).
 pub record Touches (image : List ℕ) (w : World) (q : Request) (o : Outcome) (taken : ℕ) : Type 0 where
-  -- open, map, protect, read and report leave pool, table and held marks whole
+  -- open, map, protect, read, report and compare leave pool, table and held marks whole
   pub none : namesNone q ≡ true → o .world .store ≡ w .store
-  -- read, write and report leave all four sandboxes as they are; so, with `none`, a read and a report change nothing at all
+  -- read, write, report and compare leave all four sandboxes as they are; so, with `none`, a read, a report and a compare change nothing at all
   pub state : leavesSandboxes q ≡ true → o .world .sandboxes ≡ w .sandboxes
   -- a snapshot moves entries only: no byte of the pool and no mark changes
   pub snapshot : q .code ≡ Snapshot → (o .world .store .pool ≡ w .store .pool) × (o .world .store .marks ≡ w .store .marks)

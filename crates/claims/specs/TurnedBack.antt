@@ -27,7 +27,7 @@ AllGet (c ∷ cs) = Gets c × AllGet cs
 
 -- ---- row 3
 
--- "lent length wrong": every call of every state is refused, "call code not 1 to 9" first, and changes nothing
+-- "lent length wrong": every call of every state is refused, a code that is no call's first, and changes nothing
 abbrev pub WrongLength : Type 0
 WrongLength =
     (image : List ℕ) (w : World) → lengthsOk (length (w .store .pool)) (length (w .store .table)) (length image) ≡ false

@@ -6,13 +6,16 @@ use mathlib.Core.List.{List, [], _∷_, _++_}
 use mathlib.Core.Option.{some}
 use lib.Dec.{eqb}
 use lib.ListN.{length}
+use Rattle.basics.specs.Choice.{_when_else_}
 use Rattle.basics.specs.Ranges.{count}
 use Rattle.interface.specs.declared.request.Request.{Request}
-use Rattle.interface.specs.Requests.{_is_, Open, Read, Write, Snapshot, Rewind, Report, Compare, pageOf}
+use Rattle.interface.specs.Answers.{Answered}
+use Rattle.interface.specs.Requests.{_is_, Open, Read, Write, Snapshot, Rewind, Report, Compare, pageOf, offsetOf}
 use Rattle.interface.specs.Slots.{isMapped, isCommitted, isUncommitted, rightsAt, backingAt, areas, mappedPages, chargeOf, copied}
 use Rattle.interface.specs.Limits.{within}
 use Rattle.interface.specs.Refusals.{isTaken}
-use Rattle.plain.specs.Machine.{Given, Core, Kept, Plain, fresh, closed, copySlots, copyBytes, backingByte, shares, numberAt, answers, after}
+use Rattle.interface.specs.Examples.{ok, refused, call, inSandbox}
+use Rattle.plain.specs.Machine.{Given, Core, Kept, Plain, fresh, closed, copySlots, copyBytes, backingByte, shares, numberAt, answer, answers, after}
 use Rattle.plain.specs.Lists.{upTo, Then, naming, toldLater, Rewound}
 
 -- "two lists .. : up to and with an accepted snapshot of the sandbox they are the same; each goes on with calls of its own up to an accepted rewind of
@@ -119,3 +122,28 @@ RewindTwice g = (qs : List Request) (q : Request) → (q is Rewind) ≡ true →
 abbrev pub OnlyOpenMeetsOthers : Given → Type 0
 OnlyOpenMeetsOthers g =
     (p p′ : Plain) (q : Request) → (q is Open) ≡ false → p (q .sandbox) .core ≡ p′ (q .sandbox) .core → numberAt g p q ≡ numberAt g p′ q
+
+-- ---- request A1, "Still clean?"
+
+-- call 10 of sandbox s
+abbrev pub compareOf : ℕ → Request
+compareOf s = inSandbox s (call Compare)
+
+-- right after an accepted snapshot call 10 answers 64
+abbrev pub CleanAfterSnapshot : Given → Type 0
+CleanAfterSnapshot g =
+    (s : ℕ) (qs : List Request) (q : Request) → Then g s Snapshot qs q → answer g (upTo g (qs ++ q ∷ [])) (compareOf s) ≡ ok 64
+
+-- and right after an accepted rewind: "until a later call changes what the plain machine keeps for it"
+abbrev pub CleanWhileRewound : Given → Type 0
+CleanWhileRewound g = (s : ℕ) (qs : List Request) → Rewound g s qs → answer g (upTo g qs) (compareOf s) ≡ ok 64
+
+-- what a read within its limits would answer of the copy: its byte, or that the page is not mapped there
+abbrev pub copyAnswer : Core → Request → Answered
+copyAnswer c q = ok (copyBytes (c .copy) (pageOf q) (offsetOf q)) when isMapped (copied (copySlots c) (pageOf q)) else refused 9
+
+-- where call 10 answers 64, every read answers what the copy has
+abbrev pub CleanReadsCopy : Given → Type 0
+CleanReadsCopy g =
+    (p : Plain) (s : ℕ) → answer g p (compareOf s) ≡ ok 64
+    → (q : Request) → (q is Read) ≡ true → q .sandbox ≡ s → within (length (g .image) / 256) q ≡ true → answer g p q ≡ copyAnswer (p s .core) q
