@@ -204,7 +204,7 @@ module _ (v : View) (q : Request) where
       record {
         fit = f;
         closed = λ e. and-not-right (q is Open) (v .opened) (t .past .past .past .closed) (eq-eqb _ _ e);
-        taken = λ e. not-false _ (and-not-right (q is Rewind) _ (t .taken) (eq-eqb _ _ e));
+        taken = λ e. not-false _ (and-not-right (needsSnapshot q) _ (t .taken) (rw e));
         fits = map-fits p f;
         free = map-free p;
       }

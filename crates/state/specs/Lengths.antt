@@ -30,7 +30,7 @@ lendings =
     lending 256 512 16384 (call₁ Open 1 gives ok 0) ∷ lending 256 512 16385 (call₁ Open 1 gives refused 3) ∷
     lending 256 512 16640 (call₁ Open 1 gives refused 3) ∷
     -- 2 before 3
-    lending 255 512 0 (call 0 gives refused 2) ∷ lending 256 511 0 (call 10 gives refused 2) ∷ lending 256 512 0 (call 0 gives refused 2) ∷
+    lending 255 512 0 (call 0 gives refused 2) ∷ lending 256 511 0 (call 11 gives refused 2) ∷ lending 256 512 0 (call 0 gives refused 2) ∷
     -- 3 before 4, 6 and 13; where the lengths are right, those
     lending 255 512 0 (inSandbox 9 (call₁ Open 8) gives refused 3) ∷ lending 256 512 0 (inSandbox 9 (call₁ Open 8) gives refused 4) ∷
     lending 255 512 0 (call₁ Read 0 gives refused 3) ∷ lending 256 512 0 (call₁ Read 0 gives refused 4) ∷

@@ -94,10 +94,12 @@ past-untaken : (c : tie.Else4) → Of PastUntaken (behindUntaken c)
 past-untaken c = record { past = past-limits (c .before .before .before); untaken = rw (taken-copy (behindUntaken c .args .b)) (c .if4 .left) }
 
 abbrev behindTaken : tie.Else5 → tie.Start
-behindTaken c = behindUntaken (c .before .before .before)
+behindTaken c = behindUntaken (c .before .before .before .before)
 
 past-taken : (c : tie.Else5) → Of PastTaken (behindTaken c)
-past-taken c = record { past = past-untaken (c .before .before .before); taken = rw (taken-copy (behindTaken c .args .b)) (c .if5 .left) }
+past-taken c =
+    let needs = c .before .before .before .needs-snapshot in
+    record { past = past-untaken (c .before .before .before .before); taken = rw (taken-copy (behindTaken c .args .b), ← needs .ensures) (c .if5 .left) }
 
 abbrev behindMapped : tie.Else6 → tie.Start
 behindMapped c = behindTaken (c .before .before)
@@ -160,10 +162,11 @@ row-7 c =
     let start = behindLimits (c .before .before .before) in
     snapshot-taken _ _ (past-limits (c .before .before .before)) (rw (taken-copy (start .args .b)) (c .if4 .taken))
 
-row-8 : (c : tie.Then5) → Of (Row 8) (behindUntaken (c .before .before .before))
+row-8 : (c : tie.Then5) → Of (Row 8) (behindUntaken (c .before .before .before .before))
 row-8 c =
-    let start = behindUntaken (c .before .before .before) in
-    no-snapshot _ _ (past-untaken (c .before .before .before)) (rw (taken-copy (start .args .b)) (c .if5 .taken))
+    let start = behindUntaken (c .before .before .before .before) in
+    let needs = c .before .before .before .needs-snapshot in
+    no-snapshot _ _ (past-untaken (c .before .before .before .before)) (rw (taken-copy (start .args .b), ← needs .ensures) (c .if5 .taken))
 
 row-9 : (c : tie.Then6) → Of (Row 9) (behindTaken (c .before .before))
 row-9 c =
@@ -217,6 +220,9 @@ refuse-requires-4 c κs = search needs
 
 returns-4 : tie.Need-returns-4
 returns-4 c = refused _ _ _ SnapshotTaken (c .refuse4 .result) (c .refuse4 .ensures) (omega arith) (row-7 (c .before))
+
+needs-snapshot-requires : tie.Need-needs-snapshot-requires
+needs-snapshot-requires c κs = search needs
 
 refuse-requires-5 : tie.Need-refuse-requires-5
 refuse-requires-5 c κs = search needs
@@ -298,6 +304,7 @@ decide-spec =
     returns-3
     refuse-requires-4
     returns-4
+    needs-snapshot-requires
     refuse-requires-5
     returns-5
     all-mapped-requires
