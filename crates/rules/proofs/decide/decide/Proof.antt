@@ -94,12 +94,12 @@ past-untaken : (c : tie.Else4) → Of PastUntaken (behindUntaken c)
 past-untaken c = record { past = past-limits (c .before .before .before); untaken = rw (taken-copy (behindUntaken c .args .b)) (c .if4 .left) }
 
 abbrev behindTaken : tie.Else5 → tie.Start
-behindTaken c = behindUntaken (c .before .before .before .before)
+behindTaken c = behindUntaken (c .before .before .before)
 
 past-taken : (c : tie.Else5) → Of PastTaken (behindTaken c)
 past-taken c =
-    let needs = c .before .before .before .needs-snapshot in
-    record { past = past-untaken (c .before .before .before .before); taken = rw (taken-copy (behindTaken c .args .b), ← needs .ensures) (c .if5 .left) }
+    let needs = c .before .before .needs-snapshot in
+    record { past = past-untaken (c .before .before .before); taken = rw (taken-copy (behindTaken c .args .b), ← needs .ensures) (c .if5 .left) }
 
 abbrev behindMapped : tie.Else6 → tie.Start
 behindMapped c = behindTaken (c .before .before)
@@ -162,11 +162,11 @@ row-7 c =
     let start = behindLimits (c .before .before .before) in
     snapshot-taken _ _ (past-limits (c .before .before .before)) (rw (taken-copy (start .args .b)) (c .if4 .taken))
 
-row-8 : (c : tie.Then5) → Of (Row 8) (behindUntaken (c .before .before .before .before))
+row-8 : (c : tie.Then5) → Of (Row 8) (behindUntaken (c .before .before .before))
 row-8 c =
-    let start = behindUntaken (c .before .before .before .before) in
-    let needs = c .before .before .before .needs-snapshot in
-    no-snapshot _ _ (past-untaken (c .before .before .before .before)) (rw (taken-copy (start .args .b), ← needs .ensures) (c .if5 .taken))
+    let start = behindUntaken (c .before .before .before) in
+    let needs = c .before .before .needs-snapshot in
+    no-snapshot _ _ (past-untaken (c .before .before .before)) (rw (taken-copy (start .args .b), ← needs .ensures) (c .if5 .taken))
 
 row-9 : (c : tie.Then6) → Of (Row 9) (behindTaken (c .before .before))
 row-9 c =

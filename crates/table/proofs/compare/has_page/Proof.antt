@@ -1,0 +1,101 @@
+use mathlib.Core.Path.{ap}
+use native.Mathlib.Omega.{arith}
+use Rattle.pages.proofs.PartLaws.{part-is-frame}
+use Rattle.table.specs.Source.{sourceBytes, sourceEnd}
+use Rattle.table.proofs.PageLaws.{page-there}
+use borrow.Author.Needs.{needs}
+use Rattle.table.proofs.compare.has_page.Statement.{statement}
+use Rattle.table.proofs.compare.has_page.Tie as tie
+
+frame-of-requires : tie.Need-frame-of-requires
+frame-of-requires c κs = search needs
+
+cast-start : tie.Need-cast-start
+cast-start c = search needs
+
+mul-start : tie.Need-mul-start
+mul-start c = search needs
+
+add-end : tie.Need-add-end
+add-end c = search needs
+
+sub-is-same : tie.Need-sub-is-same
+sub-is-same c = search needs
+
+part-is-same-start : tie.Need-part-is-same-start
+part-is-same-start c = search needs
+
+part-is-same-end : tie.Need-part-is-same-end
+part-is-same-end c = search needs
+
+is-same-requires : tie.Need-is-same-requires
+is-same-requires c κs = search needs
+
+returns : tie.Need-returns
+returns c = ?
+
+enum-told : tie.Need-enum-told
+enum-told c = search needs
+
+slice-aggregate-is-same : tie.Need-slice-aggregate-is-same
+slice-aggregate-is-same c = search needs
+
+is-same-requires-2 : tie.Need-is-same-requires-2
+is-same-requires-2 c κs = search needs
+
+enum-known-source : tie.Need-enum-known-source
+enum-known-source c = search needs
+
+cast-start-2 : tie.Need-cast-start-2
+cast-start-2 c = search needs
+
+mul-start-2 : tie.Need-mul-start-2
+mul-start-2 c = search needs
+
+add-end-2 : tie.Need-add-end-2
+add-end-2 c = search needs
+
+sub-is-same-2 : tie.Need-sub-is-same-2
+sub-is-same-2 c = search needs
+
+part-is-same-start-2 : tie.Need-part-is-same-start-2
+part-is-same-start-2 c = search needs
+
+part-is-same-end-2 : tie.Need-part-is-same-end-2
+part-is-same-end-2 c = omega (arith, ap sourceEnd (c .before .before .source .given .1))
+
+is-same-requires-3 : tie.Need-is-same-requires-3
+is-same-requires-3 c κs = search needs
+
+returns-2 : tie.Need-returns-2
+returns-2 c = ?
+
+returns-3 : tie.Need-returns-3
+returns-3 c = ?
+
+pub has-page-spec : {M : Type 1} → statement M
+has-page-spec =
+    tie.close
+    (tie.spec
+    frame-of-requires
+    cast-start
+    mul-start
+    add-end
+    sub-is-same
+    part-is-same-start
+    part-is-same-end
+    is-same-requires
+    returns
+    enum-told
+    slice-aggregate-is-same
+    is-same-requires-2
+    enum-known-source
+    cast-start-2
+    mul-start-2
+    add-end-2
+    sub-is-same-2
+    part-is-same-start-2
+    part-is-same-end-2
+    is-same-requires-3
+    returns-2
+    returns-3)
