@@ -16,31 +16,31 @@ pub fn same_pages(
     entry: u16,
     source: Source,
     other: u16,
-    other_source: Source,
+    twin: Source,
 ) -> bool
     requires { ⌜ entry ≤ 128 ⌝ }
     requires { ⌜ entry * 256 ≤ length (now pool) ⌝ }
     requires { ⌜ sourceEnd source * 256 ≤ length (now image) ⌝ }
     requires { ⌜ other ≤ 128 ⌝ }
     requires { ⌜ other * 256 ≤ length (now pool) ⌝ }
-    requires { ⌜ sourceEnd other_source * 256 ≤ length (now image) ⌝ }
+    requires { ⌜ sourceEnd twin * 256 ≤ length (now image) ⌝ }
     ensures { λ r. ⌜ r ≡ sameBytes 256 (pageFrom (sourceBytes (now (image .entry)) source) (pageIn 256 (now (pool .entry)) entry))
-        (pageFrom (sourceBytes (now (image .entry)) other_source) (pageIn 256 (now (pool .entry)) other)) ⌝ }
+        (pageFrom (sourceBytes (now (image .entry)) twin) (pageIn 256 (now (pool .entry)) other)) ⌝ }
 {
     if entry != 0 {
         let start = frame_of(entry).0 as usize * Page::SIZE;
         let end = start + Page::SIZE;
-        return has_page(&pool[start..end], pool, image, other, other_source);
+        return has_page(&pool[start..end], pool, image, other, twin);
     }
     match source {
         Source::Zero => {
             let zero = [0u8; Page::SIZE];
-            has_page(&zero, pool, image, other, other_source)
+            has_page(&zero, pool, image, other, twin)
         }
         Source::Image(page) => {
             let start = page.0 as usize * Page::SIZE;
             let end = start + Page::SIZE;
-            has_page(&image[start..end], pool, image, other, other_source)
+            has_page(&image[start..end], pool, image, other, twin)
         }
     }
 }

@@ -1,8 +1,9 @@
 use mathlib.Core.Path.{ap}
 use native.Mathlib.Omega.{arith}
 use Rattle.pages.proofs.PartLaws.{part-is-frame}
-use Rattle.table.specs.Source.{sourceBytes, sourceEnd}
-use Rattle.table.proofs.PageLaws.{page-there}
+use Rattle.pages.specs.Parts.{zeros}
+use Rattle.table.specs.Source.{sourceEnd}
+use Rattle.table.proofs.CompareLaws.{lent, at-frame, at-source, has-page}
 use borrow.Author.Needs.{needs}
 use Rattle.table.proofs.compare.has_page.Statement.{statement}
 use Rattle.table.proofs.compare.has_page.Tie as tie
@@ -32,7 +33,11 @@ is-same-requires : tie.Need-is-same-requires
 is-same-requires c κs = search needs
 
 returns : tie.Need-returns
-returns c = ?
+returns c =
+    let s = c .before .before .before .before .before .before .before .before in
+    let f = c .before .before .before .frame-of in
+    let here = at-frame (s .args .pool .now) (s .args .image .now) (s .args .entry) (s .args .source) (f .result .0) (f .ensures) (c .before .before .before .before .if1 .taken) in
+    has-page (s .args .part .now) _ _ (c .is-same .result) (s .pre .0) here (c .is-same .ensures)
 
 enum-told : tie.Need-enum-told
 enum-told c = search needs
@@ -68,10 +73,21 @@ is-same-requires-3 : tie.Need-is-same-requires-3
 is-same-requires-3 c κs = search needs
 
 returns-2 : tie.Need-returns-2
-returns-2 c = ?
+unfolding zeros
+returns-2 c =
+    let s = c .before .before .before .before .before .before .before .before in
+    let none = c .before .before .before .before .if1 .left in
+    let here = at-source (s .args .pool .now) (s .args .image .now) (s .args .entry) (s .args .source) (zeros 256) none (rw (c .before .before .enum-told .given .1)) in
+    has-page (s .args .part .now) _ _ (c .is-same2 .result) (s .pre .0) here (c .is-same2 .ensures)
 
 returns-3 : tie.Need-returns-3
-returns-3 c = ?
+returns-3 c =
+    let s = c .before .before .before .before .before .before .before .before .before .before in
+    let none = c .before .before .before .before .before .before .if1 .left in
+    let known = c .before .before .before .before .source .given in
+    let page = lent (s .args .image .now) (known .0 .0 .0) in
+    let here = at-source (s .args .pool .now) (s .args .image .now) (s .args .entry) (s .args .source) page none (rw (known .1) (part-is-frame 256 (s .args .image .now) (known .0 .0 .0))) in
+    has-page (s .args .part .now) _ _ (c .is-same3 .result) (s .pre .0) here (c .is-same3 .ensures)
 
 pub has-page-spec : {M : Type 1} → statement M
 has-page-spec =
