@@ -7,7 +7,9 @@ use native.Mathlib.Omega.{arith}
 use native.Mathlib.Decide.{ℕ-discrete}
 use native.Mathlib.Nat.{add-zero}
 use native.Mathlib.Numerals.{add-one}
-use Rattle.basics.specs.Ranges.{one, count, every, lowest}
+use lib.Dec.{eqb}
+use borrow.Author.Tests.{eqb-true, eq-eqb}
+use Rattle.basics.specs.Ranges.{one, count, every, lowest, alike}
 use Rattle.basics.proofs.TestLaws.{by-cases, both-ways, and-left, and-right, and-of}
 
 module _ (P : ℕ → Bool) (e i : ℕ) where
@@ -100,6 +102,32 @@ module _ (P : ℕ → Bool) where
   lowest-passes a zero h = absurd (omega arith)
   lowest-passes a (suc n) h =
       by-cases (P a) (λ e. rw (e, lowest) e) (λ e. rw (e, lowest) (lowest-passes (a + 1) n (omega (arith, rw (e, lowest) at h))))
+
+  -- where none passes it is the end
+  pub lowest-none : (a n : ℕ) → ((i : ℕ) → a ≤ i → i < a + n → P i ≡ false) → lowest P a n ≡ a + n
+  unfolding lowest
+  lowest-none a zero h = omega arith
+  lowest-none a (suc n) h =
+      rw (h a (omega arith) (omega arith), lowest)
+      (omega (arith, lowest-none (a + 1) n (λ i l m. h i (omega arith) (omega arith))))
+
+-- two tests that agree on the range have the same lowest
+pub lowest-same : (P Q : ℕ → Bool) (a n : ℕ) → ((i : ℕ) → a ≤ i → i < a + n → P i ≡ Q i) → lowest P a n ≡ lowest Q a n
+unfolding lowest
+lowest-same P Q a zero h = refl
+lowest-same P Q a (suc n) h =
+    let here : P a ≡ Q a = h a (omega arith) (omega arith) in
+    let rest : lowest P (a + 1) n ≡ lowest Q (a + 1) n = lowest-same P Q (a + 1) n (λ i l m. h i (omega arith) (omega arith)) in
+    rw (here, rest)
+
+-- what two alike functions are at each number, and what makes them alike
+pub alike-at : (f g : ℕ → ℕ) (n : ℕ) → alike f g n ≡ true → (i : ℕ) → i < n → f i ≡ g i
+unfolding alike
+alike-at f g n h i l = eqb-true (f i) (g i) (every-at (λ i. eqb (f i) (g i)) 0 n h i (omega arith) (omega arith))
+
+pub alike-of : (f g : ℕ → ℕ) (n : ℕ) → ((i : ℕ) → i < n → f i ≡ g i) → alike f g n ≡ true
+unfolding alike
+alike-of f g n h = every-of (λ i. eqb (f i) (g i)) 0 n (λ i a b. eq-eqb (f i) (g i) (h i (omega arith)))
 
 -- a loop that counts
 pub count-next : (P : ℕ → Bool) (i : ℕ) → count P (i + 1) ≡ count P i + one (P i)
