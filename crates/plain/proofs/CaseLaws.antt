@@ -1,12 +1,13 @@
 -- The starred cases and "Turned back", by computation.
 use mathlib.Core.Path.{_≡_, refl}
 use mathlib.Core.Bool.{true}
-use Rattle.basics.specs.Ranges.{count, sum, every, lowest, inside, over}
+use Rattle.basics.specs.Ranges.{count, sum, every, lowest, inside, over, alike}
 use Rattle.interface.specs.Slots.{follows, joins, areas, mappedPages, uncommittedPages, lowestGap, chargeOf}
+use Rattle.interface.specs.Compare.{agree, lowestDifference}
 use Rattle.interface.specs.Limits.{within}
 use Rattle.interface.specs.Outcome.{firstOf, slotsAfter, copyAfter}
 use Rattle.interface.specs.Refusals.{allMapped, refusal}
-use Rattle.plain.specs.Machine.{bytesAfter, frontAfter, backAfter, copiedBackAfter, held, coreValue, answer, after, answers}
+use Rattle.plain.specs.Machine.{bytesAfter, frontAfter, backAfter, copiedBackAfter, held, differing, coreValue, answer, after, answers}
 use Rattle.plain.specs.Cases.{cases, casesOver, noImage, allGiven}
 use Rattle.plain.specs.TurnedBack.{turnedBackCases}
 
@@ -16,6 +17,6 @@ unfolding allGiven count sum every lowest inside over follows joins areas mapped
 starred-cases = refl
 
 pub turned-back : allGiven turnedBackCases ≡ true
-unfolding allGiven count sum every lowest inside over follows joins areas mappedPages uncommittedPages lowestGap chargeOf
-    within firstOf slotsAfter copyAfter allMapped refusal bytesAfter frontAfter backAfter copiedBackAfter held coreValue answer after answers
+unfolding allGiven count sum every lowest inside over alike follows joins areas mappedPages uncommittedPages lowestGap chargeOf agree lowestDifference
+    within firstOf slotsAfter copyAfter allMapped refusal bytesAfter frontAfter backAfter copiedBackAfter held differing coreValue answer after answers
 turned-back = refl

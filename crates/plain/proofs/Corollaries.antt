@@ -6,7 +6,7 @@ use lib.Dec.{eqb}
 use borrow.Author.Tests.{eqb-true, eq-eqb}
 use Rattle.basics.proofs.TestLaws.{by-cases, when-cases, both-ways, and-left, and-right, and-of}
 use Rattle.interface.specs.declared.request.Request.{Request}
-use Rattle.interface.specs.Requests.{_is_, Open, Read, Rewind, Report}
+use Rattle.interface.specs.Requests.{_is_, Open, Read, Rewind, Report, Compare}
 use Rattle.interface.specs.Slots.{isCommitted, copied}
 use Rattle.interface.specs.Outcome.{slotsAfter, copyAfter}
 use Rattle.interface.specs.Refusals.{refusal}
@@ -33,22 +33,17 @@ idle g p q h =
     (λ e. ap (λ (k : Kept). put (q .sandbox) k p) (h (eqb-true _ 0 e)) ∙ put-same (q .sandbox) p)
     (λ _. refl)
 
-opened-already : (g : Given) (p : Plain) (q : Request) → numberAt g p q ≡ 0 → (q is Open) ≡ false → true ≡ p (q .sandbox) .core .opened
-opened-already g p q n o = sym (accepted _ q n .opened o)
-
-read-or-report : (q : Request) (c : ℕ) → q .code ≡ c → eqb c Open ≡ false → (q is Open) ≡ false
-read-or-report q c e n = rw e n
+-- an accepted request by its code, other than open's: it names an open sandbox
+idle-call : (g : Given) (p : Plain) (q : Request) (c : ℕ) → q .code ≡ c → eqb c Open ≡ false
+    → (true ≡ p (q .sandbox) .core .opened → keptAfter g q (p (q .sandbox)) ≡ p (q .sandbox)) → after g p q ≡ p
+idle-call g p q c e n h = idle g p q (λ t. h (sym (accepted _ q t .opened (rw e n))))
 
 pub reads-change-nothing : (g : Given) → ReadsChangeNothing g
 unfolding slotsAfter bytesAfter copyAfter frontAfter backAfter copiedBackAfter
 reads-change-nothing g p q e =
-    idle g p q (λ n.
-    by-cases (q is Read)
-    (λ r. let opened = opened-already g p q n (read-or-report q Read (eqb-true _ _ r) refl) in rw (eqb-true (q .code) Read r, opened))
-    (λ r.
-    let report = eqb-true (q .code) Report (rw r at e) in
-    let opened = opened-already g p q n (read-or-report q Report report refl) in
-    rw (report, opened)))
+    by-cases (q is Read) (λ r. let c = eqb-true (q .code) Read r in idle-call g p q Read c refl (λ o. rw (c, o)))
+    (λ r. by-cases (q is Report) (λ t. let c = eqb-true (q .code) Report t in idle-call g p q Report c refl (λ o. rw (c, o)))
+    (λ t. let c = eqb-true (q .code) Compare (rw (r, t) at e) in idle-call g p q Compare c refl (λ o. rw (c, o))))
 
 pub only-open-meets-others : (g : Given) → OnlyOpenMeetsOthers g
 unfolding refusal
