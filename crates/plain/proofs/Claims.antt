@@ -2,11 +2,11 @@
 use Prim.Native.Nat.{ℕ}
 use mathlib.Core.Path.{_≡_}
 use mathlib.Core.Bool.{true}
-use mathlib.Core.List.{List, [], _∷_}
+use mathlib.Core.List.{List, [], _∷_, _++_}
 use Rattle.interface.specs.declared.request.Request.{Request}
 use Rattle.plain.specs.Machine.{Given, Plain, fresh, after, afterAll}
 use Rattle.plain.specs.Lists.{upTo}
-use Rattle.plain.specs.Claims.{TwoLists, RewoundIsRestored, Holds, Reads, Always}
+use Rattle.plain.specs.Claims.{TwoLists, RewoundIsRestored, Holds, Reads, Always, CleanAfterSnapshot, CleanWhileRewound, CleanReadsCopy}
 use Rattle.plain.specs.Cases.{cases, casesOver, noImage, allGiven}
 use Rattle.plain.specs.TurnedBack.{turnedBackCases}
 use Rattle.plain.proofs.CaseLaws.{starred-cases, turned-back}
@@ -14,6 +14,7 @@ use Rattle.plain.proofs.TwoListsLaws.{two-lists}
 use Rattle.plain.proofs.RewoundLaws.{rewound-restored}
 use Rattle.plain.proofs.KeptLaws.{holds-fresh, holds-after, frames-suffice, next-write, next-rewind}
 use Rattle.plain.proofs.ReadLaws.{reads-fresh, reads-after}
+use Rattle.plain.proofs.CleanLaws.{clean-after-snapshot, clean-while-rewound, clean-reads-copy}
 
 -- the starred cases get their answers
 pub claim-cases : allGiven (casesOver noImage cases) ≡ true
@@ -48,3 +49,14 @@ always-all g (q ∷ qs) p h r = always-all g qs (after g p q) (holds-after g p q
 -- the limits, what pages read, and the next write and rewind, after every list
 pub claim-always : (g : Given) (qs : List Request) → Always g (upTo g qs)
 claim-always g qs = always-all g qs fresh (holds-fresh g) (reads-fresh g)
+
+-- call 10 answers 64 right after a snapshot, and while a sandbox is rewound
+pub claim-clean-after-snapshot : (g : Given) → CleanAfterSnapshot g
+claim-clean-after-snapshot g s qs q t = clean-after-snapshot g s qs q (claim-always g (qs ++ q ∷ []) .holds .each s) t
+
+pub claim-clean-while-rewound : (g : Given) → CleanWhileRewound g
+claim-clean-while-rewound g s qs r = clean-while-rewound g s qs (claim-always g qs .holds .each s) r
+
+-- where call 10 answers 64, every read answers what the copy has
+pub claim-clean-reads-copy : (g : Given) → CleanReadsCopy g
+claim-clean-reads-copy = clean-reads-copy

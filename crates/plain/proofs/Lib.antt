@@ -4,5 +4,6 @@ pub mod TwoListsLaws
 pub mod RewoundLaws
 pub mod KeptLaws
 pub mod ReadLaws
+pub mod CleanLaws
 pub mod Claims
 pub mod Corollaries
