@@ -1,4 +1,4 @@
--- The starred cases and "Turned back", by computation.
+-- The starred cases, "Turned back" and "Still clean?", by computation.
 use mathlib.Core.Path.{_≡_, refl}
 use mathlib.Core.Bool.{true}
 use Rattle.basics.specs.Ranges.{count, sum, every, lowest, inside, over, alike}
@@ -10,6 +10,7 @@ use Rattle.interface.specs.Refusals.{allMapped, refusal}
 use Rattle.plain.specs.Machine.{bytesAfter, frontAfter, backAfter, copiedBackAfter, held, differing, coreValue, answer, after, answers}
 use Rattle.plain.specs.Cases.{cases, casesOver, noImage, allGiven}
 use Rattle.plain.specs.TurnedBack.{turnedBackCases}
+use Rattle.plain.specs.StillClean.{stillClean}
 
 pub starred-cases : allGiven (casesOver noImage cases) ≡ true
 unfolding allGiven count sum every lowest inside over follows joins areas mappedPages uncommittedPages lowestGap chargeOf
@@ -20,3 +21,8 @@ pub turned-back : allGiven turnedBackCases ≡ true
 unfolding allGiven count sum every lowest inside over alike follows joins areas mappedPages uncommittedPages lowestGap chargeOf agree lowestDifference
     within firstOf slotsAfter copyAfter allMapped refusal bytesAfter frontAfter backAfter copiedBackAfter held differing coreValue answer after answers
 turned-back = refl
+
+pub still-clean : allGiven stillClean ≡ true
+unfolding allGiven count sum every lowest inside over alike follows joins areas mappedPages uncommittedPages lowestGap chargeOf agree lowestDifference
+    within firstOf slotsAfter copyAfter allMapped refusal bytesAfter frontAfter backAfter copiedBackAfter held differing coreValue answer after answers
+still-clean = refl

@@ -9,7 +9,8 @@ use Rattle.plain.specs.Lists.{upTo}
 use Rattle.plain.specs.Claims.{TwoLists, RewoundIsRestored, Holds, Reads, Always, CleanAfterSnapshot, CleanWhileRewound, CleanReadsCopy}
 use Rattle.plain.specs.Cases.{cases, casesOver, noImage, allGiven}
 use Rattle.plain.specs.TurnedBack.{turnedBackCases}
-use Rattle.plain.proofs.CaseLaws.{starred-cases, turned-back}
+use Rattle.plain.specs.StillClean.{stillClean}
+use Rattle.plain.proofs.CaseLaws.{starred-cases, turned-back, still-clean}
 use Rattle.plain.proofs.TwoListsLaws.{two-lists}
 use Rattle.plain.proofs.RewoundLaws.{rewound-restored}
 use Rattle.plain.proofs.KeptLaws.{holds-fresh, holds-after, frames-suffice, next-write, next-rewind}
@@ -23,6 +24,10 @@ claim-cases = starred-cases
 -- every row of "Turned back" gets its answers
 pub claim-turned-back : allGiven turnedBackCases ≡ true
 claim-turned-back = turned-back
+
+-- every roll of "Still clean?" gets its answers
+pub claim-still-clean : allGiven stillClean ≡ true
+claim-still-clean = still-clean
 
 -- two lists tell a rewound sandbox the same
 pub claim-two-lists : (g : Given) → TwoLists g

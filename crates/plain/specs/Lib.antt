@@ -1,6 +1,7 @@
--- In reading order: the machine, lists of requests, what is claimed, the starred cases, the table of refusals.
+-- In reading order: the machine, lists of requests, what is claimed, the starred cases, the table of refusals, the table of call 10.
 pub mod Machine
 pub mod Lists
 pub mod Claims
 pub mod Cases
 pub mod TurnedBack
+pub mod StillClean
