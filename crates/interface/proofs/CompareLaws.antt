@@ -1,11 +1,11 @@
 -- When a page agrees with its snapshot, and what the lowest difference says of all 64 pages.
 use Prim.Native.Nat.{ℕ, _<_}
 use mathlib.Core.Path.{_≡_, refl, ap}
-use mathlib.Core.Bool.{Bool, true, not, _&&_}
+use mathlib.Core.Bool.{Bool, true, not}
 use native.Mathlib.Omega.{arith}
 use lib.Dec.{eqb}
 use borrow.Author.Tests.{eq-eqb, not-false}
-use Rattle.basics.proofs.TestLaws.{and-right, and-of}
+use Rattle.basics.proofs.TestLaws.{and-right}
 use Rattle.basics.proofs.LoopLaws.{lowest-least, lowest-none, lowest-same}
 use Rattle.interface.specs.declared.page.Slot.{Slot}
 use Rattle.interface.specs.declared.page.Slot.the-variants.{Unmapped, Mapped}
@@ -16,7 +16,7 @@ use Rattle.interface.specs.Compare.{agree, lowestDifference}
 pub agree-self : (t : Slot) → agree t t true ≡ true
 unfolding agree
 agree-self Unmapped = refl
-agree-self (Mapped t) = and-of (eq-eqb (t .rights) (t .rights) refl) refl
+agree-self (Mapped t) = rw (eq-eqb (t .rights) (t .rights) refl)
 
 -- the bytes matter only where the page is mapped in both
 pub agree-bytes : (s t : Slot) (x y : Bool) → (isMapped s ≡ true → isMapped t ≡ true → x ≡ y) → agree s t x ≡ agree s t y
@@ -24,7 +24,7 @@ unfolding agree
 agree-bytes Unmapped Unmapped x y h = refl
 agree-bytes Unmapped (Mapped t) x y h = refl
 agree-bytes (Mapped s) Unmapped x y h = refl
-agree-bytes (Mapped s) (Mapped t) x y h = ap (λ (b : Bool). eqb (s .rights) (t .rights) && b) (h refl refl)
+agree-bytes (Mapped s) (Mapped t) x y h = rw (h refl refl)
 
 -- a page that agrees is mapped in both or in neither
 pub agree-mapped : (s t : Slot) (x : Bool) → agree s t x ≡ true → isMapped s ≡ isMapped t

@@ -10,3 +10,4 @@ pub mod Settled
 pub mod Accepted
 pub mod Examples
 pub mod Edges
+pub mod Differences
