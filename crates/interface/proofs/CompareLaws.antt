@@ -5,12 +5,19 @@ use mathlib.Core.Bool.{Bool, true, not}
 use native.Mathlib.Omega.{arith}
 use lib.Dec.{eqb}
 use borrow.Author.Tests.{eq-eqb, not-false}
+use Rattle.basics.specs.Ranges.{lowest, inside, over}
 use Rattle.basics.proofs.TestLaws.{and-right}
 use Rattle.basics.proofs.LoopLaws.{lowest-least, lowest-none, lowest-same}
 use Rattle.interface.specs.declared.page.Slot.{Slot}
 use Rattle.interface.specs.declared.page.Slot.the-variants.{Unmapped, Mapped}
 use Rattle.interface.specs.Slots.{Slots, isMapped}
 use Rattle.interface.specs.Compare.{agree, lowestDifference}
+use Rattle.interface.specs.Differences.{pairsAgree, lowestFound, differencesHold}
+
+-- what call 10 compares, by computation
+pub differences-hold : differencesHold ≡ true
+unfolding differencesHold pairsAgree lowestFound lowest inside over agree lowestDifference
+differences-hold = refl
 
 -- a page with the same bytes agrees with itself
 pub agree-self : (t : Slot) → agree t t true ≡ true

@@ -1,20 +1,14 @@
--- The limits on both sides of each edge, and what call 10 compares, by computation.
+-- The limits on both sides of each edge, by computation.
 use mathlib.Core.Path.{_≡_, refl}
 use mathlib.Core.Bool.{true}
 use Rattle.basics.specs.Ranges.{count, every, lowest, inside, over}
 use Rattle.interface.specs.Slots.{follows, joins, areas, mappedPages, uncommittedPages, lowestGap, chargeOf}
-use Rattle.interface.specs.Compare.{agree, lowestDifference}
 use Rattle.interface.specs.Limits.{within}
 use Rattle.interface.specs.Outcome.{firstOf, slotsAfter, copyAfter}
 use Rattle.interface.specs.Refusals.{allMapped, refusal}
 use Rattle.interface.specs.Edges.{numbered, edgesHold}
-use Rattle.interface.specs.Differences.{pairsAgree, lowestFound, differencesHold}
 
 pub edges-hold : edgesHold ≡ true
 unfolding edgesHold numbered count every lowest inside over follows joins areas mappedPages uncommittedPages lowestGap chargeOf
     within firstOf slotsAfter copyAfter allMapped refusal
 edges-hold = refl
-
-pub differences-hold : differencesHold ≡ true
-unfolding differencesHold pairsAgree lowestFound lowest inside over agree lowestDifference
-differences-hold = refl
