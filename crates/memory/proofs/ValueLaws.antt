@@ -1,22 +1,19 @@
 -- The value of an accepted request, by each of the calls that have one.
 use Prim.Native.Nat.{ℕ, _*_, _/_}
 use mathlib.Core.Path.{_≡_, _∙_}
-use mathlib.Core.Bool.{Bool}
 use mathlib.Core.List.{List}
 use lib.ListN.{length, getD}
 use borrow.Author.Tests.{ne-eqb}
 use Rattle.interface.specs.declared.request.Request.{Request}
-use Rattle.interface.specs.Requests.{_is_, Map, Read, Snapshot, Report, pageOf, offsetOf}
-use Rattle.interface.specs.Slots.{isCommitted, backingAt, mappedPages}
+use Rattle.interface.specs.Requests.{Map, Read, Snapshot, Report, Compare, pageOf, offsetOf}
+use Rattle.interface.specs.Slots.{mappedPages}
 use Rattle.interface.specs.Outcome.{firstOf}
 use Rattle.frames.specs.Frames.{countHeld}
 use Rattle.marks.specs.Marks.{marksTo, from}
-use Rattle.table.specs.declared.source.Source.{Source}
-use Rattle.table.specs.Store.{Store, frontOf, backOf, contents, pageFrom, underFront}
-use Rattle.table.specs.Source.{sourceBytes}
+use Rattle.table.specs.Store.{Store}
 use Rattle.areas.specs.Areas.{slots}
 use Rattle.state.specs.declared.sandbox.Sandbox.{Sandbox}
-use Rattle.content.specs.Content.{sourceOf, pageUnder, pageRead}
+use Rattle.content.specs.Content.{pageRead, differing}
 use Rattle.memory.specs.Memory.{heldBy, valueAt}
 
 module _ (image : List ℕ) (q : Request) (b : Sandbox) (st : Store) where
@@ -37,6 +34,12 @@ module _ (image : List ℕ) (q : Request) (b : Sandbox) (st : Store) where
   unfolding valueAt heldBy
   report-value value frames e f v = v ∙ rw (← f, e)
 
-  pub no-value : (q .code ≡ Map → ⊥) → (q .code ≡ Read → ⊥) → (q .code ≡ Snapshot → ⊥) → (q .code ≡ Report → ⊥) → 0 ≡ valueAt image q b st
+  pub compare-value : (value : ℕ) → q .code ≡ Compare → value ≡ differing image st b (q .sandbox) → value ≡ valueAt image q b st
   unfolding valueAt
-  no-value m r s t = rw (ne-eqb (q .code) Map m, ne-eqb (q .code) Read r, ne-eqb (q .code) Snapshot s, ne-eqb (q .code) Report t)
+  compare-value value e v = v ∙ rw e
+
+  pub no-value : (q .code ≡ Map → ⊥) → (q .code ≡ Read → ⊥) → (q .code ≡ Snapshot → ⊥) → (q .code ≡ Report → ⊥) → (q .code ≡ Compare → ⊥)
+      → 0 ≡ valueAt image q b st
+  unfolding valueAt
+  no-value m r s t d =
+      rw (ne-eqb (q .code) Map m, ne-eqb (q .code) Read r, ne-eqb (q .code) Snapshot s, ne-eqb (q .code) Report t, ne-eqb (q .code) Compare d)
