@@ -1,8 +1,8 @@
 //! The plain machine of "Rewinding sandboxes: pages, frames and the call roll",
 //! and the player of its roll.
 //!
-//! Sentences in quotation marks are the document's; MACHINE and a number is a clause of
-//! docs/MACHINE.md, which states the document whole. The machine knows no frames:
+//! Sentences in quotation marks are the document's, or those of the request that added call
+//! 10; MACHINE and a number is a clause of docs/MACHINE.md, which states both whole. The machine knows no frames:
 //! where a program holds a frame, it keeps a front or a back mark on a page.
 //!
 //! Read in this order:
@@ -23,7 +23,7 @@ mod sandbox;
 
 pub use fault::Fault;
 pub use faulty::Faulty;
-pub use machine::{Answering, Machine, Refusal, Reply, FRAMES, IMAGE_PAGES, SANDBOXES};
+pub use machine::{Answering, Machine, Refusal, Reply, CODES, FRAMES, IMAGE_PAGES, SANDBOXES};
 pub use page::{count_areas, Backing, Page, Pages, PAGES, PAGE_BYTES};
 pub use request::{Place, Request, ADDRESSES};
 pub use roll::{call_line, parse_line, play, play_on, reply_line, Call, LINES, LINE_BYTES};

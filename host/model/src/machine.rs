@@ -13,6 +13,9 @@ pub const FRAMES: RangeInclusive<usize> = 1..=128;
 /// MACHINE 1.2: "The image, read only, is 0 to 64 pages".
 pub const IMAGE_PAGES: RangeInclusive<usize> = 0..=64;
 
+/// MACHINE 4.4: The codes of the calls.
+pub const CODES: RangeInclusive<u16> = 1..=10;
+
 /// MACHINE 6, the table: "Turned back"; the discriminant is the number answered.
 #[derive(Clone, Copy, PartialEq, Eq, Debug)]
 pub enum Refusal {
@@ -115,8 +118,8 @@ impl Machine {
     /// value; or the first refusal that applies: "When several apply, the lowest number
     /// is answered."
     fn outcome(&self, call: &Call) -> Result<(Box<Sandbox>, u32), Refusal> {
-        // 2: "call code not 1 to 9".
-        refuse(!(1..=9).contains(&call.code), Refusal::UnknownCode)?;
+        // 2: "call code not 1 to 9"; call 10, added since, "is no longer refusal 2".
+        refuse(!CODES.contains(&call.code), Refusal::UnknownCode)?;
         // 3: "lent length wrong".
         let image = self.image.as_deref().ok_or(Refusal::WrongLength)?;
         // 4: "sandbox above 3; or, but for open, not open".
@@ -224,6 +227,10 @@ fn carry_out(
             0
         }
         Request::Report => sandbox.held(),
+        Request::Compare => {
+            let copy = sandbox.copy.as_ref().ok_or(Refusal::NoSnapshot)?;
+            sandbox.lowest_difference(copy)
+        }
     };
     Ok(value as u32)
 }

@@ -61,6 +61,14 @@ impl Page {
             && self.committed == next.committed
             && self.backing.further(1) == next.backing
     }
+
+    /// MACHINE 4.20: Whether this page and the snapshot's of the same number do not "differ
+    /// in being mapped, in rights or in bytes; a page unmapped in both agrees".
+    pub fn agrees_with(&self, kept: &Page) -> bool {
+        let both_mapped = self.mapped && kept.mapped;
+        let neither_mapped = !self.mapped && !kept.mapped;
+        neither_mapped || both_mapped && self.rights == kept.rights && self.bytes == kept.bytes
+    }
 }
 
 /// MACHINE 9.2: The 64 pages of a sandbox, or of its snapshot.

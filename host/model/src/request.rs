@@ -1,4 +1,4 @@
-//! The nine calls with their parameters inside their limits. Whatever is outside
+//! The ten calls with their parameters inside their limits. Whatever is outside
 //! them is refusal 6: "a parameter outside its limits, named pages past page 63
 //! (64 in map names none), image pages past the image, an unused one not 0".
 
@@ -29,10 +29,11 @@ pub enum Request {
     Snapshot,
     Rewind,
     Report,
+    Compare,
 }
 
 impl Request {
-    /// MACHINE 4.4 and 4.5: The request of a call whose code is 1 to 9.
+    /// MACHINE 4.4 and 4.5: The request of a call whose code is 1 to 10.
     pub fn within_limits(
         code: u16,
         parameters: [u16; 5],
@@ -85,12 +86,13 @@ impl Request {
                 let byte = u8::try_from(p2).map_err(|_| Refusal::OutsideLimits)?;
                 Ok(Request::Write { page, offset, byte })
             }
-            7..=9 => {
+            7..=10 => {
                 unused(&[p1, p2, p3, p4, p5])?;
                 Ok(match code {
                     7 => Request::Snapshot,
                     8 => Request::Rewind,
-                    _ => Request::Report,
+                    9 => Request::Report,
+                    _ => Request::Compare,
                 })
             }
             _ => Err(Refusal::UnknownCode),

@@ -79,6 +79,13 @@ impl Sandbox {
         (0..=PAGES - count).find(|&first| self.none_mapped(first..first + count))
     }
 
+    /// MACHINE 4.20: "the lowest page number at which the sandbox and its snapshot differ
+    /// [...], and 64 if they nowhere differ".
+    pub fn lowest_difference(&self, copy: &Pages) -> usize {
+        let differs = |&at: &usize| !self.pages[at].agrees_with(&copy[at]);
+        (0..PAGES).find(differs).unwrap_or(PAGES)
+    }
+
     // What the calls do.
 
     /// MACHINE 9.6: "Open makes the sandbox open and stores the share."

@@ -120,7 +120,7 @@ fn replies_are_three_fields_of_the_same_columns() {
 #[test]
 fn a_wrong_image_is_refusal_3_on_each_line_not_refused_1_or_2() {
     let roll = [
-        roll(&["1 0 8", "0 0", "10 9", "9 4", "9 0 1"]),
+        roll(&["1 0 8", "0 0", "11 9", "9 4", "9 0 1"]),
         with_first_field(b"    05"),
         roll(&["9 0"]),
         b"9".to_vec(),

@@ -14,7 +14,7 @@ fn row_1_line_malformed() {
 #[test]
 fn row_2_call_code() {
     let mut machine = after(&["1 0 8"]);
-    for text in ["0 0", "10 0", "65535 0", "0 4", "10 9 9 9 9 9 9"] {
+    for text in ["0 0", "11 0", "65535 0", "0 4", "11 9 9 9 9 9 9"] {
         assert_eq!(refusal(&mut machine, text), 2, "{text}");
     }
 }
@@ -37,7 +37,9 @@ fn row_3_lent_length() {
 #[test]
 fn row_4_sandbox() {
     let mut machine = after(&["1 0 8"]);
-    for text in ["5 4 0", "1 4 8", "1 65535 8", "9 1", "9 1 1", "2 3 64 1 0 0 3", "8 2"] {
+    for text in
+        ["5 4 0", "1 4 8", "1 65535 8", "9 1", "9 1 1", "2 3 64 1 0 0 3", "8 2", "10 2", "10 4"]
+    {
         assert_eq!(refusal(&mut machine, text), 4, "{text}");
     }
 }
@@ -122,6 +124,11 @@ fn row_6_parameters() {
         "9 0 0 0 1",
         "9 0 0 0 0 1",
         "9 0 0 0 0 0 1",
+        "10 0 1",
+        "10 0 0 1",
+        "10 0 0 0 1",
+        "10 0 0 0 0 1",
+        "10 0 0 0 0 0 1",
     ];
     for text in outside {
         assert_eq!(refusal(&mut machine, text), 6, "{text}");
@@ -147,9 +154,11 @@ fn row_7_snapshot_already_taken() {
 }
 
 #[test]
-fn row_8_rewind_without_a_snapshot() {
-    assert_eq!(refusal(&mut after(&["1 0 8"]), "8 0"), 8);
-    assert_eq!(refusal(&mut after(&["1 0 8", "1 1 8", "7 1"]), "8 0"), 8);
+fn row_8_rewind_or_compare_without_a_snapshot() {
+    for text in ["8 0", "10 0"] {
+        assert_eq!(refusal(&mut after(&["1 0 8"]), text), 8, "{text}");
+        assert_eq!(refusal(&mut after(&["1 0 8", "1 1 8", "7 1"]), text), 8, "{text}");
+    }
 }
 
 #[test]
