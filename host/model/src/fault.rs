@@ -70,11 +70,43 @@ pub enum Fault {
     RefusesLastOpen,
     /// A second snapshot takes the place of the first.
     SnapshotsAgain,
+
+    // Slips near MACHINE 4.20 and 4.21, call 10.
+    /// Page 0 is not compared.
+    CompareStartsAtPage1,
+    /// Page 63 is not compared.
+    CompareStopsAtPage62,
+    /// Where nothing differs the value is 0, not 64.
+    CompareAnswersZeroWhenClean,
+    /// The value is how many pages differ, not which is the lowest.
+    CompareCountsPages,
+    /// Refusal 8 is left out: without a snapshot every mapped page differs.
+    CompareWithoutSnapshot,
+    /// A page with another backing differs, though its bytes are the snapshot's.
+    CompareLooksAtBacking,
+    /// A page mapped anew differs, though its bytes are the snapshot's.
+    CompareLooksAtMark,
+    /// A page with a front differs, though it was written back.
+    CompareTakesFrontForDifference,
+    /// The last byte of a page is not compared.
+    CompareForgetsLastByte,
+    /// Changed rights are passed over.
+    CompareForgetsRights,
+    /// Every page without a front is passed over, and not only the committed ones.
+    ComparePassesOverFrontless,
+    /// Only the snapshot's pages are compared, and not those mapped since.
+    CompareForgetsNewPages,
+    /// Only mapped pages are compared, and not those unmapped since.
+    CompareForgetsUnmapped,
+    /// What an unmapped page held before is compared as well.
+    CompareLooksAtUnmappedBytes,
+    /// Compare frees the fronts of pages that agree.
+    CompareFreesAgreeingFronts,
 }
 
 impl Fault {
     /// Every fault, without `None`.
-    pub const ALL: [Fault; 28] = [
+    pub const ALL: [Fault; 43] = [
         Fault::HandsOutRewoundPlace,
         Fault::SearchesPastRewoundPlace,
         Fault::DropsSnapshotFrame,
@@ -103,5 +135,20 @@ impl Fault {
         Fault::RefusesFittingSnapshot,
         Fault::RefusesLastOpen,
         Fault::SnapshotsAgain,
+        Fault::CompareStartsAtPage1,
+        Fault::CompareStopsAtPage62,
+        Fault::CompareAnswersZeroWhenClean,
+        Fault::CompareCountsPages,
+        Fault::CompareWithoutSnapshot,
+        Fault::CompareLooksAtBacking,
+        Fault::CompareLooksAtMark,
+        Fault::CompareTakesFrontForDifference,
+        Fault::CompareForgetsLastByte,
+        Fault::CompareForgetsRights,
+        Fault::ComparePassesOverFrontless,
+        Fault::CompareForgetsNewPages,
+        Fault::CompareForgetsUnmapped,
+        Fault::CompareLooksAtUnmappedBytes,
+        Fault::CompareFreesAgreeingFronts,
     ];
 }

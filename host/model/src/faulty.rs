@@ -4,6 +4,7 @@
 //! spoils the sandbox or the answer.
 
 use crate::fault::Fault;
+use crate::faulty_compare::{free_agreeing_fronts, wrong_difference};
 use crate::machine::{Answering, Machine, Refusal, Reply, SANDBOXES};
 use crate::page::{count_areas, Backing, Page, PAGES, PAGE_BYTES};
 use crate::roll::Call;
@@ -100,6 +101,10 @@ impl Faulty {
             (Fault::SnapshotsAgain, 7) if number == Refusal::SnapshotTaken as u16 => {
                 return (0, sandbox.snapshot() as u32);
             }
+            (Fault::CompareWithoutSnapshot, 10) if number == Refusal::NoSnapshot as u16 => {
+                let nothing = [Page::FRESH; PAGES];
+                return (0, sandbox.lowest_difference(&nothing) as u32);
+            }
             _ => return (number, 0),
         }
         (0, 0)
@@ -161,6 +166,16 @@ impl Faulty {
                     page.bytes = [0; PAGE_BYTES];
                     page.bytes[at % PAGE_BYTES] = call.parameters[1] as u8;
                 }
+            }
+            (Fault::CompareFreesAgreeingFronts, 10) => {
+                if let Some(copy) = sandbox.copy.clone() {
+                    free_agreeing_fronts(sandbox, &copy);
+                }
+            }
+            (fault, 10) => {
+                let copy = sandbox.copy.as_ref();
+                let wrong = copy.map(|copy| wrong_difference(fault, sandbox, copy) as u32);
+                return (0, wrong.unwrap_or(value));
             }
             (_, 8) => {
                 memory.rewinds += 1;

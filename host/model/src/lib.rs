@@ -11,10 +11,12 @@
 //! - `request`: the limits of the parameters (refusal 6);
 //! - `machine`: four sandboxes, and the refusals in their order;
 //! - `roll`: lines of calls, lines of replies, and the player;
-//! - `fault` and `faulty`: wrong machines, which a test must tell from the right one.
+//! - `fault`, `faulty` and `faulty_compare`: wrong machines, which a test must tell from
+//!   the right one.
 
 mod fault;
 mod faulty;
+mod faulty_compare;
 mod machine;
 mod page;
 mod request;

@@ -107,12 +107,31 @@ fn random_image(prng: &mut Prng) -> Vec<u8> {
         1 => prng.within(65..=70) * PAGE_BYTES,
         _ => whole(prng),
     };
-    (0..length).map(|_| prng.byte()).collect()
+    image_of(prng, length)
+}
+
+/// Bytes of any kind, but in some images pages of zeros and pages alike: over these a page reads
+/// the same with another backing.
+fn image_of(prng: &mut Prng, length: usize) -> Vec<u8> {
+    let mut image: Vec<u8> = (0..length).map(|_| prng.byte()).collect();
+    let pages = length / PAGE_BYTES;
+    let plain = if prng.chance(50) { pages } else { 0 };
+    for at in 0..plain {
+        let page = at * PAGE_BYTES..(at + 1) * PAGE_BYTES;
+        let earlier = prng.below(at + 1) * PAGE_BYTES;
+        match prng.below(4) {
+            0 => image[page].fill(0),
+            1 => image.copy_within(earlier..earlier + PAGE_BYTES, page.start),
+            _ => {}
+        }
+    }
+    image
 }
 
 /// An image of a right length.
 pub(crate) fn random_whole_image(prng: &mut Prng) -> Vec<u8> {
-    (0..random_pages(prng) * PAGE_BYTES).map(|_| prng.byte()).collect()
+    let length = random_pages(prng) * PAGE_BYTES;
+    image_of(prng, length)
 }
 
 fn random_pages(prng: &mut Prng) -> usize {

@@ -4,6 +4,7 @@
 //! - `prng`: the numbers, all drawn from a seed;
 //! - `steering`: the next call, chosen with the machine's state in view, so that
 //!   rolls reach deep states;
+//! - `put_back`: calls that undo what was changed since the snapshot;
 //! - `spoil`: calls at and past the limits, and malformed lines;
 //! - `case`: a roll with its image and its number of frames;
 //! - `shrink`: a smaller case that still fails;
@@ -12,6 +13,7 @@
 mod case;
 mod pair;
 mod prng;
+mod put_back;
 mod shrink;
 mod spoil;
 mod steering;

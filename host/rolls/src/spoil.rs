@@ -4,8 +4,8 @@ use crate::prng::Prng;
 use model::{call_line, parse_line, Call, LINE_BYTES};
 
 /// Numbers beside a limit of some field.
-const EDGES: [u16; 26] = [
-    0, 1, 2, 3, 4, 5, 8, 9, 10, 61, 62, 63, 64, 65, 66, 127, 128, 129, 255, 256, 257, 16_383,
+const EDGES: [u16; 27] = [
+    0, 1, 2, 3, 4, 5, 8, 9, 10, 11, 61, 62, 63, 64, 65, 66, 127, 128, 129, 255, 256, 257, 16_383,
     16_384, 32_768, 65_534, 65_535,
 ];
 
@@ -37,7 +37,7 @@ pub fn boundary_call(prng: &mut Prng, call: &Call) -> Call {
 
 /// A call of edges and of any numbers.
 pub fn wild_call(prng: &mut Prng) -> Call {
-    let mut call = Call { code: prng.within(0..=10) as u16, sandbox: 0, parameters: [0; 5] };
+    let mut call = Call { code: prng.within(0..=11) as u16, sandbox: 0, parameters: [0; 5] };
     for field in &mut fields(&mut call)[1..] {
         let (edge, anywhere) = (prng.pick(&EDGES), prng.number() as u16);
         **field = prng.weighted(&[(6, 0), (3, edge), (1, anywhere)]);

@@ -4,10 +4,16 @@
 //! refused by one of the later rows of the table.
 
 use crate::prng::Prng;
+use crate::put_back::{map_alike, put_back};
 use model::{Backing, Call, Machine, Page, Sandbox, PAGES, PAGE_BYTES, SANDBOXES};
 
 /// Offsets met again and again, so that reads meet what was written.
 const OFFSETS: [usize; 4] = [0, 1, 44, 255];
+
+/// The code of the call that asks whether the sandbox is still clean.
+const COMPARE: u16 = 10;
+/// No call's code: whatever brings the sandbox nearer to its snapshot.
+const PUT_BACK: u16 = 0;
 
 /// What a whole roll tends to.
 #[derive(Clone, Debug)]
@@ -30,13 +36,25 @@ pub struct Steering {
     mood: Mood,
     /// After a rewind: the sandbox, and how many calls are still to look at it.
     looking: Option<(usize, usize)>,
+    /// After a snapshot or a rewind: the sandbox, and how many calls are still to change it a
+    /// little, compare it with its snapshot and put it back.
+    comparing: Option<(usize, usize)>,
     /// After an unmap of a committed page: the sandbox and the page.
     gone: Option<(usize, usize)>,
 }
 
-fn new_call(code: u16, sandbox: usize, parameters: [usize; 5]) -> Call {
+pub(crate) fn new_call(code: u16, sandbox: usize, parameters: [usize; 5]) -> Call {
     let parameters = parameters.map(|parameter| parameter as u16);
     Call { code, sandbox: sandbox as u16, parameters }
+}
+
+/// Whether calls are still to be spent on this sandbox; then there is one less.
+fn one_less(spent_on: &mut Option<(usize, usize)>, sandbox: usize) -> bool {
+    let still = matches!(spent_on, Some((at, _)) if *at == sandbox);
+    if still {
+        *spent_on = spent_on.map(|(at, left)| (at, left - 1)).filter(|&(_, left)| left > 0);
+    }
+    still
 }
 
 impl Steering {
@@ -48,12 +66,12 @@ impl Steering {
             lowest_gap: prng.pick(&[20, 50, 80]),
             share: prng.pick(&[3, 8, 16, 32, 64, 128]),
         };
-        Steering { prng, mood, looking: None, gone: None }
+        Steering { prng, mood, looking: None, comparing: None, gone: None }
     }
 
     /// A call for a sandbox of its own choice.
     pub fn next_call(&mut self, machine: &Machine) -> Call {
-        if let Some((sandbox, _)) = self.looking {
+        if let Some((sandbox, _)) = self.looking.or(self.comparing) {
             if self.prng.chance(85) {
                 return self.call_for(machine, sandbox);
             }
@@ -75,28 +93,42 @@ impl Steering {
             return self.open(machine, number);
         }
         if let Some((_, page)) = self.gone.take_if(|(gone_from, _)| *gone_from == number) {
-            if self.prng.chance(40) {
-                return self.map_at(machine, number, page, 1);
+            match (self.prng.below(10), &sandbox.copy) {
+                (0..3, _) => return self.map_at(machine, number, page, 1),
+                (3..6, Some(copy)) => {
+                    return map_alike(&mut self.prng, machine, number, page, &copy[page])
+                }
+                _ => {}
             }
         }
-        let looks = matches!(self.looking, Some((looked_at, _)) if looked_at == number);
-        let code = if looks {
-            self.looking =
-                self.looking.map(|(at, left)| (at, left - 1)).filter(|&(_, left)| left > 0);
-            self.prng.weighted(&[(12, 5), (4, 9), (4, 2), (3, 6), (1, 3), (1, 4)])
+        let puts_back = sandbox.copy.is_some() && self.prng.chance(6);
+        let code = if one_less(&mut self.looking, number) {
+            self.prng.weighted(&[(12, 5), (4, 9), (4, 2), (3, 6), (1, 3), (1, 4), (3, COMPARE)])
+        } else if one_less(&mut self.comparing, number) {
+            let kinds = [(12, COMPARE), (12, PUT_BACK), (5, 6), (2, 4), (4, 3), (1, 2)];
+            self.prng.weighted(&kinds)
+        } else if puts_back {
+            PUT_BACK
         } else {
             self.code(sandbox)
         };
         match code {
+            PUT_BACK => put_back(&mut self.prng, machine, number)
+                .unwrap_or_else(|| new_call(COMPARE, number, [0; 5])),
             1 => self.open(machine, number),
             2 => self.map(machine, number),
             3 => self.unmap(sandbox, number),
             4 => self.protect(sandbox, number),
             5 => new_call(5, number, [self.address(sandbox, 1), 0, 0, 0, 0]),
             6 => self.write(sandbox, number),
-            8 => {
-                self.looking = Some((number, self.prng.within(1..=8)));
-                new_call(8, number, [0; 5])
+            7 | 8 => {
+                let calls = Some((number, self.prng.within(1..=8)));
+                if self.prng.chance(40) {
+                    self.comparing = calls;
+                } else if code == 8 {
+                    self.looking = calls;
+                }
+                new_call(code, number, [0; 5])
             }
             _ => new_call(code, number, [0; 5]),
         }
@@ -106,7 +138,7 @@ impl Steering {
     fn code(&mut self, sandbox: &Sandbox) -> u16 {
         let (taken, mapped) = (sandbox.copy.is_some(), sandbox.mapped_pages());
         if !sandbox.open {
-            return self.prng.within(1..=9) as u16;
+            return self.prng.within(1..=10) as u16;
         }
         if mapped == 0 && self.prng.chance(85) {
             return self.prng.weighted(&[(8, 2), (1, 7), (if taken { 4 } else { 0 }, 8)]);
@@ -116,6 +148,7 @@ impl Steering {
         let unmap = if too_much_for_snapshot { 18 } else { 10 };
         let snapshot = if taken || too_much_for_snapshot { 1 } else { 7 };
         let rewind = if taken { 9 } else { 1 };
+        let compare = if taken { 7 } else { 1 };
         self.prng.weighted(&[
             (1, 1),
             (map, 2),
@@ -126,6 +159,7 @@ impl Steering {
             (snapshot, 7),
             (rewind, 8),
             (7, 9),
+            (compare, COMPARE),
         ])
     }
 
@@ -169,6 +203,9 @@ impl Steering {
         let beside: Vec<usize> = (0..PAGES).filter(unmapped).filter(beside_mapped).collect();
         if !anew.is_empty() && self.prng.chance(55) {
             self.prng.pick(&anew)
+        } else if self.prng.chance(10) {
+            // The last page, which a loop that ends too early forgets.
+            PAGES - 1
         } else if self.mood.scattered && self.prng.chance(70) {
             2 * self.prng.below(12)
         } else if !beside.is_empty() && self.prng.chance(50) {

@@ -96,7 +96,7 @@ fn every_state_is_sound_and_every_refusal_changes_nothing() {
 fn check_accepted(call: &Call, before: &Sandbox, after: &Sandbox) {
     check(after);
     match call.code {
-        5 | 9 => assert!(after == before, "a read or a report changed something"),
+        5 | 9 | 10 => assert!(after == before, "a read, a report or a compare changed something"),
         8 => check_rewound(before, after),
         _ => {}
     }

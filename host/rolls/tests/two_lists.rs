@@ -2,7 +2,7 @@
 //! what happened between its snapshot and the rewind. "Each of these calls has the
 //! same number and value in both, apart from the value of an accepted report."
 
-use model::{Answering, Call, Fault, Faulty, Machine};
+use model::{Answering, Call, Fault, Faulty, Machine, Reply};
 use rolls::{without_report_values, Pair};
 
 const PAIRS: u64 = 2_000;
@@ -39,9 +39,27 @@ fn the_lists_are_such_as_the_document_compares() {
     }
 }
 
+/// The values of the accepted compares.
+fn compare_values(answers: &[(Call, Reply)]) -> Vec<u32> {
+    let accepted = answers.iter().filter(|(call, (number, _))| call.code == 10 && *number == 0);
+    accepted.map(|(_, (_, value))| *value).collect()
+}
+
+#[test]
+fn only_the_value_of_an_accepted_report_is_struck_out() {
+    let answer = |code, reply| (Call { code, sandbox: 0, parameters: [0; 5] }, reply);
+    for code in 0..=11 {
+        for reply in [(0, 0), (0, 64), (8, 0)] {
+            let struck = without_report_values(&[answer(code, reply)]);
+            let expected = if code == 9 { (reply.0, 0) } else { reply };
+            assert_eq!(struck, [answer(code, expected)]);
+        }
+    }
+}
+
 #[test]
 fn answers_after_a_rewind_do_not_tell_what_was_before_it() {
-    let (mut compared, mut accepted) = (0, 0);
+    let (mut compared, mut accepted, mut compares) = (0, 0, [0, 0]);
     let (mut secrets, mut reports_differ) = (0, 0);
     for seed in 0..PAIRS {
         let pair = Pair::random(seed);
@@ -52,14 +70,22 @@ fn answers_after_a_rewind_do_not_tell_what_was_before_it() {
         assert_eq!(without_report_values(&first), without_report_values(&second), "seed {seed}");
         compared += first.len();
         accepted += first.iter().filter(|(_, (number, _))| *number == 0).count();
+        // Compare is told without exception: as it was answered, nothing struck out.
+        let values = [&first, &second].map(|answers| compare_values(answers));
+        assert_eq!(values[0], values[1], "seed {seed}");
+        for value in &values[0] {
+            compares[usize::from(*value == 64)] += 1;
+        }
         reports_differ += usize::from(first != second);
         secrets += usize::from(pair.before_rewind(0) != pair.before_rewind(1));
     }
     println!("{compared} calls compared, {accepted} of them accepted");
+    println!("{compares:?} compares among them found a difference, or none");
     println!("{secrets} pairs differ before the rewind, {reports_differ} in a report after it");
     assert!(2 * accepted > compared, "too few accepted calls");
     assert!(secrets as u64 > PAIRS / 2, "too few secrets");
     assert!(reports_differ > 20, "the exception for reports is hardly met");
+    assert!(compares.iter().all(|&count| count > 1_000), "too few compares: {compares:?}");
 }
 
 /// Machines that let something through a rewind.
@@ -75,6 +101,8 @@ fn pairs_tell_the_machines_that_leak() {
         Fault::RewindsOnlyOnce,
         Fault::RewindLeavesNewAreas,
         Fault::StaleBytesInNewPage,
+        // A front that outlasts the rewind is told by a compare.
+        Fault::CompareTakesFrontForDifference,
     ];
     for fault in leaking {
         let seed = (0..PAIRS).find(|&seed| alike(&Pair::random(seed), fault) == Some(false));
