@@ -14,9 +14,13 @@ It is looked for there, or where the environment's GAZHUPPIN_SO says. Nothing el
     >>> machine.snapshot(0)
     2
     >>> machine.write(0, address(page, 5), 9)
+    >>> machine.compare(0)
+    0
     >>> machine.rewind(0)
     >>> machine.read(0, address(page, 5))
     7
+    >>> machine.compare(0) is None
+    True
 
 What is proved of the machine, and what that supposes, stands in docs/CLAIMS.md.
 """
@@ -199,6 +203,13 @@ class Machine:
     def report(self, sandbox):
         """How many frames the sandbox holds."""
         return self.answer(9, sandbox)
+
+    def compare(self, sandbox):
+        """Still clean? The lowest page at which the sandbox and its snapshot differ in being mapped, in rights or in bytes; None where they nowhere
+        differ. Ask with `is None`, since page 0 is false too."""
+        page = self.answer(10, sandbox)
+        # The machine says 64 there, which is no page.
+        return None if page == PAGES else page
 
     @property
     def state(self):

@@ -31,13 +31,14 @@ class Calls(unittest.TestCase):
 
     def test_each_call_refused(self):
         machine = Machine(image=bytes(range(256)), frames=16)
-        self.refused(Refusal.NO_SUCH_CALL, machine.answer, 10, 0)
+        self.refused(Refusal.NO_SUCH_CALL, machine.answer, 11, 0)
         self.refused(Refusal.NOT_OPEN, machine.report, 0)
         machine.open(0, 12)
         self.refused(Refusal.ALREADY_OPEN, machine.open, 0, 8)
         self.refused(Refusal.OUTSIDE_LIMITS, machine.map, 0, 1, at=64)
         self.refused(Refusal.OUTSIDE_LIMITS, machine.map, 0, 2, image_page=0)
         self.refused(Refusal.NO_SNAPSHOT, machine.rewind, 0)
+        self.refused(Refusal.NO_SNAPSHOT, machine.compare, 0)
         self.refused(Refusal.NOT_MAPPED, machine.read, 0, 0)
         self.assertEqual(machine.map(0, 1, at=2, image_page=0, rights=Rights.READ), 2)
         self.assertEqual(machine.read(0, address(2, 200)), 200)
@@ -52,6 +53,26 @@ class Calls(unittest.TestCase):
         machine.write(0, address(2, 0), 1)
         machine.unmap(0, 2)
         self.refused(Refusal.NOT_MAPPED, machine.unmap, 0, 2)
+
+    def test_still_clean(self):
+        machine = Machine(frames=8)
+        machine.open(0, 8)
+        machine.map(0, 2, at=0)
+        machine.snapshot(0)
+        self.assertIsNone(machine.compare(0))
+        machine.write(0, address(1, 255), 1)
+        self.assertEqual(machine.compare(0), 1)
+        machine.protect(0, 0, 1, Rights.READ)
+        before = (machine.state, machine.pool, machine.table)
+        self.assertEqual(machine.compare(0), 0)
+        self.assertEqual((machine.state, machine.pool, machine.table), before)
+        machine.write(0, address(1, 255), 0)
+        machine.protect(0, 0, 1, Rights.READ_WRITE)
+        self.assertIsNone(machine.compare(0))
+        machine.map(0, 1, at=63)
+        self.assertEqual(machine.compare(0), 63)
+        machine.rewind(0)
+        self.assertIsNone(machine.compare(0))
 
     def test_a_refused_call_changes_nothing(self):
         machine = Machine(frames=4)
@@ -91,7 +112,7 @@ class Rolls(unittest.TestCase):
 
     def test_example_rolls_played(self):
         rolls = sorted(EXAMPLES.glob("*.roll"))
-        self.assertGreaterEqual(len(rolls), 18)
+        self.assertGreaterEqual(len(rolls), 19)
         for roll in rolls:
             with self.subTest(roll.name):
                 played = gazhuppin.play(roll.read_bytes(), self.image_of(roll))

@@ -1,12 +1,12 @@
 //! Which calls were accepted and which refusals were met.
 
 use gazhuppin::REPLY_BYTES;
-use model::{parse_line, LINE_BYTES};
+use model::{parse_line, CODES, LINE_BYTES};
 use rolls::Case;
 use std::collections::BTreeSet;
 use std::fmt;
 
-const NAMES: [&str; 11] = [
+const NAMES: [&str; 12] = [
     "malformed",
     "unknown",
     "1 open",
@@ -18,6 +18,7 @@ const NAMES: [&str; 11] = [
     "7 snapshot",
     "8 rewind",
     "9 report",
+    "10 compare",
 ];
 const MALFORMED: usize = 0;
 const UNKNOWN: usize = 1;
@@ -43,7 +44,7 @@ impl Coverage {
         for (line, reply) in case.roll.chunks(LINE_BYTES).zip(replies.chunks(REPLY_BYTES)) {
             let row = match parse_line(line) {
                 None => MALFORMED,
-                Some(call) if !(1..=9).contains(&call.code) => UNKNOWN,
+                Some(call) if !CODES.contains(&call.code) => UNKNOWN,
                 Some(call) => UNKNOWN + usize::from(call.code),
             };
             self.lines += 1;

@@ -44,7 +44,7 @@ pub enum Difference {
     Answer { program: (u32, u32), model: (u16, u32) },
     /// A byte of the state that differs; `None` where one of the two has none.
     State { at: usize, program: Option<u8>, model: Option<u8> },
-    /// A call that was refused, reads or reports changed state, pool or table.
+    /// A call that was refused, reads, reports or compares changed state, pool or table.
     Changed,
     /// A difference that shows at a line, counted from 1; line 0 is the start.
     AtLine { line: usize, difference: Box<Difference> },
@@ -111,7 +111,7 @@ impl fmt::Display for Difference {
                 write!(to, "byte {at} of the state ({name}) is {program}, the model's {model}")
             }
             Difference::Changed => {
-                write!(to, "a call that was refused, reads or reports changed memory")
+                write!(to, "a call that was refused, reads, reports or compares changed memory")
             }
             Difference::AtLine { line, difference } => {
                 write!(to, "line {line}, a call at a time: {difference}")

@@ -14,6 +14,8 @@ pub struct PairSeen {
     /// The calls after the rewind that were compared, and how many were accepted.
     pub compared: usize,
     pub accepted: usize,
+    /// How many of these were compares, whose value is told without exception.
+    pub compares: usize,
     /// Whether the sandbox differed before the rewind.
     pub secret: bool,
     /// Whether the value of a report differed after it.
@@ -39,6 +41,7 @@ pub fn compare_pair(pair: &Pair) -> Result<PairSeen, String> {
     Ok(PairSeen {
         compared: first.len(),
         accepted: first.iter().filter(|(_, (number, _))| *number == 0).count(),
+        compares: first.iter().filter(|(call, reply)| call.code == 10 && reply.0 == 0).count(),
         secret: before != other_before,
         report_differs: first != second,
     })

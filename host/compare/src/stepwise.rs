@@ -90,8 +90,8 @@ fn step(
     let told = kept.call(image, call);
     let reply = machine.answer(call);
     check_told(told, reply)?;
-    // A call that is refused, reads or reports leaves every byte.
-    if reply.0 != 0 || call.code == 5 || call.code == 9 {
+    // A call that is refused, reads, reports or compares leaves every byte.
+    if reply.0 != 0 || [5, 9, 10].contains(&call.code) {
         require(kept == before, || Difference::Changed)?;
     } else {
         check_kept(kept, machine)?;

@@ -6,7 +6,7 @@
 use compare::layout::State;
 use compare::{check_entries, check_state, machine_of, state_of, unsound_clauses};
 use compare::{Clause, Kept, Lengths};
-use model::{parse_line, Answering, Call, Machine, LINE_BYTES, PAGE_BYTES};
+use model::{parse_line, Answering, Call, Machine, CODES, LINE_BYTES, PAGE_BYTES};
 use rolls::{Case, Prng};
 
 const DAMAGES: usize = 100_000;
@@ -73,7 +73,7 @@ fn check(damaged: &Kept, image: &[u8], call: &Call, seen: &mut Seen) {
     let Kept { state, pool, table } = damaged;
     let broken = unsound_clauses(state, pool, table, image);
     if !broken.is_empty() {
-        let number = if (1..=9).contains(&call.code) { 3 } else { 2 };
+        let number = if CODES.contains(&call.code) { 3 } else { 2 };
         assert_eq!((told.number, told.value), (number, 0), "{broken:?}");
         assert!(after == *damaged, "a refused call changed something: {broken:?}");
         let bytes = broken == [Clause::Bytes];

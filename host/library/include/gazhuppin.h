@@ -45,10 +45,14 @@ enum gazhuppin_code {
     GAZHUPPIN_WRITE = 6,    /* p1 address; p2 byte */
     GAZHUPPIN_SNAPSHOT = 7, /* once for a sandbox. Value: pages of the snapshot */
     GAZHUPPIN_REWIND = 8,   /* mappings, rights and bytes of the snapshot return */
-    GAZHUPPIN_REPORT = 9    /* Value: frames that the sandbox holds */
+    GAZHUPPIN_REPORT = 9,   /* Value: frames that the sandbox holds */
+    GAZHUPPIN_COMPARE = 10  /* still clean? Value: the lowest page at which the sandbox and its
+                               snapshot differ in being mapped, in rights or in bytes, or
+                               GAZHUPPIN_CLEAN where they nowhere differ */
 };
 
 #define GAZHUPPIN_LOWEST_GAP 64 /* map where the lowest gap that is long enough begins */
+#define GAZHUPPIN_CLEAN 64      /* compare's value where no page differs; it names none */
 
 enum gazhuppin_backing { GAZHUPPIN_ANONYMOUS = 0, GAZHUPPIN_IMAGE = 1 };
 enum gazhuppin_rights { GAZHUPPIN_READ_ONLY = 1, GAZHUPPIN_READ_WRITE = 3 };
@@ -56,14 +60,14 @@ enum gazhuppin_rights { GAZHUPPIN_READ_ONLY = 1, GAZHUPPIN_READ_WRITE = 3 };
 /* Why a call is refused. Where several apply, the lowest is answered. */
 enum gazhuppin_refusal {
     GAZHUPPIN_MALFORMED = 1,        /* a line of a roll; never answered to a call */
-    GAZHUPPIN_NO_SUCH_CALL = 2,     /* the code is not 1 to 9 */
+    GAZHUPPIN_NO_SUCH_CALL = 2,     /* the code is not 1 to 10 */
     GAZHUPPIN_UNSOUND = 3,          /* a lent length is wrong, or the state is unsound */
     GAZHUPPIN_NOT_OPEN = 4,         /* the sandbox is above 3, or, but for open, not open */
     GAZHUPPIN_ALREADY_OPEN = 5,     /* open of an open sandbox */
     GAZHUPPIN_OUTSIDE_LIMITS = 6,   /* a parameter outside its limits, pages past page 63, image
                                        pages past the image, an unused parameter not 0 */
     GAZHUPPIN_SNAPSHOT_TAKEN = 7,   /* a second snapshot */
-    GAZHUPPIN_NO_SNAPSHOT = 8,      /* rewind without a snapshot */
+    GAZHUPPIN_NO_SNAPSHOT = 8,      /* rewind or compare without a snapshot */
     GAZHUPPIN_NOT_MAPPED = 9,       /* unmap, protect, read or write meets an unmapped page */
     GAZHUPPIN_ALREADY_MAPPED = 10,  /* map at a named page meets a mapped page */
     GAZHUPPIN_NO_GAP = 11,          /* map at the lowest gap, and none is long enough */
@@ -154,7 +158,7 @@ size_t gazhuppin_lines(size_t roll_bytes);
  *
  * A wrong length of image, pool or table is no error of the call: pool and table are then left
  * as they are, and every line is answered with a refusal: 1 if it is malformed, 2 if its code is
- * not 1 to 9, 3 otherwise.
+ * not 1 to 10, 3 otherwise.
  *
  * Afterwards pool and table are those of the machine after the last line. The front entry of
  * page i of sandbox s is table[128 * s + i], its back entry table[128 * s + 64 + i]. An entry is

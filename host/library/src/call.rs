@@ -146,6 +146,10 @@ impl Call {
         Call::with(9, sandbox, [0; 5])
     }
 
+    pub(crate) fn compare(sandbox: u16) -> Call {
+        Call::with(10, sandbox, [0; 5])
+    }
+
     fn with(code: u16, sandbox: u16, parameters: [u16; 5]) -> Call {
         Call { code, sandbox, parameters }
     }

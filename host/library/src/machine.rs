@@ -1,7 +1,7 @@
 //! A machine that owns its memory.
 
 use crate::{
-    Address, Backing, Call, FRAME_BYTES, MOST_FRAMES, Place, Refusal, Rights, TABLE_ENTRIES,
+    Address, Backing, Call, FRAME_BYTES, MOST_FRAMES, PAGES, Place, Refusal, Rights, TABLE_ENTRIES,
 };
 use crate::{call, start, state_bytes};
 use std::fmt;
@@ -202,6 +202,33 @@ impl Machine {
     /// ```
     pub fn report(&mut self, sandbox: u16) -> Result<u32, Refusal> {
         self.answer(&Call::report(sandbox))
+    }
+
+    /// Whether the sandbox is still clean: the lowest page at which it and its snapshot differ in
+    /// being mapped, in rights or in bytes; `None` where they nowhere differ. Changes nothing.
+    ///
+    /// The machine says 64 where nothing differs, which is no page. Here that is `None`, so that
+    /// it is never taken for a page, and a clean sandbox is asked for by name: `is_none()`.
+    ///
+    /// ```
+    /// # use gazhuppin::{Address, Backing, Machine, Place, Refusal, Rights};
+    /// # let mut machine = Machine::start([], 8)?;
+    /// # machine.open(0, 8)?;
+    /// machine.map(0, Place::At(5), 2, Backing::Anonymous, Rights::ReadWrite)?;
+    /// assert_eq!(machine.compare(0), Err(Refusal::NoSnapshot));
+    /// machine.snapshot(0)?;
+    /// assert_eq!(machine.compare(0)?, None);
+    /// machine.write(0, Address::of(6, 0), 1)?;
+    /// assert_eq!(machine.compare(0)?, Some(6));
+    /// // Written back, it agrees again.
+    /// machine.write(0, Address::of(6, 0), 0)?;
+    /// assert_eq!(machine.compare(0)?, None);
+    /// # Ok::<(), gazhuppin::Refusal>(())
+    /// ```
+    pub fn compare(&mut self, sandbox: u16) -> Result<Option<u8>, Refusal> {
+        // Its value is a page number, 0 to 63, or the number after the last page.
+        let page = self.answer(&Call::compare(sandbox))?;
+        Ok((page < u32::from(PAGES)).then_some(page as u8))
     }
 
     /// The state's bytes.

@@ -17,7 +17,7 @@ use std::fmt;
 pub enum Refusal {
     /// A line of a roll is malformed. A call is never refused so.
     Malformed = 1,
-    /// The call's code is not 1 to 9.
+    /// The call's code is not 1 to 10.
     NoSuchCall = 2,
     /// A lent length is wrong, or the state is unsound.
     Unsound = 3,
@@ -29,7 +29,7 @@ pub enum Refusal {
     OutsideLimits = 6,
     /// The sandbox's snapshot was already taken.
     SnapshotTaken = 7,
-    /// Rewind without a snapshot.
+    /// Rewind or compare without a snapshot.
     NoSnapshot = 8,
     /// Unmap, protect, read or write meets an unmapped page.
     NotMapped = 9,
@@ -98,7 +98,7 @@ impl Refusal {
             Refusal::AlreadyOpen => "the sandbox is already open",
             Refusal::OutsideLimits => "a parameter is outside its limits",
             Refusal::SnapshotTaken => "the snapshot was already taken",
-            Refusal::NoSnapshot => "there is no snapshot to rewind to",
+            Refusal::NoSnapshot => "there is no snapshot",
             Refusal::NotMapped => "a page is not mapped",
             Refusal::AlreadyMapped => "a page is already mapped",
             Refusal::NoGap => "no gap is long enough",

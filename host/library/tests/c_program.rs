@@ -71,6 +71,12 @@ fn the_headers_numbers() {
     assert_eq!(defined("GAZHUPPIN_FRAME_BYTES"), gazhuppin::FRAME_BYTES);
     assert_eq!(defined("GAZHUPPIN_MOST_FRAMES"), gazhuppin::MOST_FRAMES);
     assert_eq!(defined("GAZHUPPIN_LOWEST_GAP"), usize::from(gazhuppin::PAGES));
+    assert_eq!(defined("GAZHUPPIN_CLEAN"), usize::from(gazhuppin::PAGES));
+    let calls = ["OPEN", "MAP", "UNMAP", "PROTECT", "READ", "WRITE", "SNAPSHOT", "REWIND"];
+    for (code, name) in (1..).zip(calls.into_iter().chain(["REPORT", "COMPARE"])) {
+        let line = format!("    GAZHUPPIN_{name} = {code}");
+        assert!(header.contains(&line), "{line}");
+    }
     for refusal in gazhuppin::Refusal::ALL {
         // AlreadyOpen is GAZHUPPIN_ALREADY_OPEN.
         let mut name = String::from("GAZHUPPIN");

@@ -5,7 +5,7 @@ use gazhuppin::{FRAME_BYTES, OutTooShort, REPLY_BYTES, TABLE_ENTRIES, play};
 /// A call, an unknown code, a malformed line, a call for a sandbox that is not there,
 /// and a short last line.
 const ROLL: &[u8] = b"     1     0     8     0     0     0     0
-    10     0     8     0     0     0     0
+    11     0     8     0     0     0     0
     05     0     8     0     0     0     0
      9     4     0     0     0     0     0
      9";

@@ -3,7 +3,7 @@
 use gazhuppin::{Call, Refusal, Told, call, start, state_bytes};
 
 const REPORT: Call = Call { code: 9, sandbox: 0, parameters: [0; 5] };
-const NO_CALL: Call = Call { code: 10, sandbox: 9, parameters: [9; 5] };
+const NO_CALL: Call = Call { code: 11, sandbox: 9, parameters: [9; 5] };
 
 /// Memory filled with something other than zero, so that clearing shows.
 #[derive(Clone, PartialEq, Eq, Debug)]

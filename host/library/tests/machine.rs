@@ -31,6 +31,11 @@ impl Both {
     }
 }
 
+/// The page, or the number after the last one.
+fn page_or_64(told: Result<Option<u8>, Refusal>) -> Result<u8, Refusal> {
+    told.map(|page| page.unwrap_or(64))
+}
+
 /// A method without a value answers value 0.
 fn zero(told: Result<(), Refusal>) -> Result<u32, Refusal> {
     told.map(|()| 0)
@@ -53,14 +58,21 @@ fn each_method_is_its_call() {
         both.same(|m| zero(m.write(2, Address::of(3, 9), 200)), [6, 2, 777, 200, 0, 0, 0]),
         both.same(|m| m.read(2, Address(777)), [5, 2, 777, 0, 0, 0, 0]),
         both.same(|m| m.read(2, Address(0)), [5, 2, 0, 0, 0, 0, 0]),
+        both.same(|m| page_or_64(m.compare(2)), [10, 2, 0, 0, 0, 0, 0]),
         both.same(|m| m.snapshot(2), [7, 2, 0, 0, 0, 0, 0]),
+        both.same(|m| page_or_64(m.compare(2)), [10, 2, 0, 0, 0, 0, 0]),
         both.same(|m| zero(m.protect(2, 0..2, Rights::ReadWrite)), [4, 2, 0, 2, 3, 0, 0]),
         both.same(|m| zero(m.unmap(2, 4..7)), [3, 2, 4, 3, 0, 0, 0]),
+        both.same(|m| page_or_64(m.compare(2)), [10, 2, 0, 0, 0, 0, 0]),
         both.same(|m| m.report(2), [9, 2, 0, 0, 0, 0, 0]),
         both.same(|m| zero(m.rewind(2)), [8, 2, 0, 0, 0, 0, 0]),
+        both.same(|m| page_or_64(m.compare(2)), [10, 2, 0, 0, 0, 0, 0]),
         both.same(|m| m.read(2, Address::of(5, 0)), [5, 2, 1280, 0, 0, 0, 0]),
     ];
-    assert_eq!(told, [0, 3, 0, 0, 200, 9, 6, 0, 0, 1, 0, 0].map(Ok));
+    // Before the snapshot compare is refused; after it, unchanged, page 0's rights, unchanged.
+    let mut expected = [0, 3, 0, 0, 200, 9, 0, 6, 64, 0, 0, 0, 1, 0, 64, 0].map(Ok);
+    expected[6] = Err(Refusal::NoSnapshot);
+    assert_eq!(told, expected);
 }
 
 #[test]
@@ -124,5 +136,5 @@ fn the_example_rolls() {
         }
         rolls += 1;
     }
-    assert!(rolls >= 15 && calls > 100, "only {calls} calls of {rolls} rolls");
+    assert!(rolls >= 16 && calls > 100, "only {calls} calls of {rolls} rolls");
 }

@@ -52,11 +52,12 @@ impl World {
             [7, 1, 0, 0, 0, 0, 0],
             [8, 0, 0, 0, 0, 0, 0],
             [9, 0, 0, 0, 0, 0, 0],
+            [10, 0, 0, 0, 0, 0, 0],
             // Refused by later rows as well: the lowest number is answered.
             [9, 4, 0, 0, 0, 0, 0],
             [1, 0, 999, 9, 9, 9, 9],
         ];
-        let no_calls = [[0, 0, 0, 0, 0, 0, 0], [10, 4, 9, 9, 9, 9, 9], [65_535, 0, 0, 0, 0, 0, 0]];
+        let no_calls = [[0, 0, 0, 0, 0, 0, 0], [11, 4, 9, 9, 9, 9, 9], [65_535, 0, 0, 0, 0, 0, 0]];
         let all = calls.map(|call| (call, 3)).into_iter().chain(no_calls.map(|call| (call, 2)));
         for (call, number) in all {
             let mut after = self.clone();

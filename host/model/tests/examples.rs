@@ -1,0 +1,47 @@
+//! The rolls of `examples/`, whose answers were written from the documents: the model gives the
+//! same. (`../test-examples` and the tests of `library` play them on the proved machine.)
+
+use model::{play, LINE_BYTES};
+use std::fs;
+use std::path::{Path, PathBuf};
+
+fn example_rolls() -> Vec<PathBuf> {
+    let folder = Path::new(env!("CARGO_MANIFEST_DIR")).join("../../examples");
+    let files =
+        fs::read_dir(folder).expect("the examples").map(|file| file.expect("a file").path());
+    files.filter(|file| file.extension().is_some_and(|extension| extension == "roll")).collect()
+}
+
+#[test]
+fn the_model_answers_as_the_examples_say() {
+    let rolls = example_rolls();
+    assert!(rolls.len() >= 19, "only {} examples", rolls.len());
+    for roll in rolls {
+        let image = fs::read(roll.with_extension("image")).ok();
+        let played = play(&fs::read(&roll).expect("the roll"), image.as_deref(), 128);
+        let expected = fs::read(roll.with_extension("answers")).expect("answers");
+        for (line, (played, expected)) in played.chunks(19).zip(expected.chunks(19)).enumerate() {
+            let [played, expected] = [played, expected].map(String::from_utf8_lossy);
+            assert_eq!(played, expected, "{}, line {}", roll.display(), line + 1);
+        }
+        assert_eq!(played.len(), expected.len(), "{}", roll.display());
+    }
+}
+
+/// A line of every call is accepted somewhere, and some line has the first code that is no call.
+#[test]
+fn the_examples_have_every_call() {
+    let mut accepted = [false; 12];
+    for roll in example_rolls() {
+        let lines = fs::read(&roll).expect("the roll");
+        let answers = fs::read(roll.with_extension("answers")).expect("answers");
+        for (line, answer) in lines.chunks(LINE_BYTES).zip(answers.chunks(19)) {
+            let code = model::parse_line(line).map_or(0, |call| call.code);
+            let expected = if code == 11 { b"     2" } else { b"     0" };
+            if code < 12 && answer[6..12] == *expected {
+                accepted[usize::from(code)] = true;
+            }
+        }
+    }
+    assert_eq!(accepted[1..], [true; 11]);
+}
