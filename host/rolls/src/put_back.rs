@@ -3,7 +3,7 @@
 
 use crate::prng::Prng;
 use crate::steering::new_call;
-use model::{Backing, Call, Machine, Page, PAGES};
+use model::{Backing, Call, Machine, Page, PAGES, PAGE_BYTES};
 
 /// With more bytes to write back than this, a page is unmapped, to be mapped anew.
 const FEW: usize = 3;
@@ -20,7 +20,7 @@ pub(crate) fn put_back(prng: &mut Prng, machine: &Machine, number: usize) -> Opt
     let (page, kept) = (&sandbox.pages[at], &copy[at]);
     let call = |code, parameters| new_call(code, number, parameters);
     let other: Vec<usize> =
-        (0..page.bytes.len()).filter(|&offset| page.bytes[offset] != kept.bytes[offset]).collect();
+        (0..PAGE_BYTES).filter(|&offset| page.bytes[offset] != kept.bytes[offset]).collect();
     Some(match (page.mapped, kept.mapped) {
         (false, _) => map_alike(prng, machine, number, at, kept),
         (true, false) => call(3, [at, 1, 0, 0, 0]),
@@ -29,7 +29,7 @@ pub(crate) fn put_back(prng: &mut Prng, machine: &Machine, number: usize) -> Opt
         (true, true) if page.rights == 1 => call(4, [at, 1, 3, 0, 0]),
         (true, true) => {
             let offset = prng.pick(&other);
-            call(6, [at * 256 + offset, usize::from(kept.bytes[offset]), 0, 0, 0])
+            call(6, [at * PAGE_BYTES + offset, usize::from(kept.bytes[offset]), 0, 0, 0])
         }
     })
 }
@@ -44,7 +44,7 @@ pub(crate) fn map_alike(
     kept: &Page,
 ) -> Call {
     let image = machine.image().iter().enumerate();
-    let zero = (kept.bytes == [0; 256]).then_some(Backing::Anonymous);
+    let zero = (kept.bytes == [0; PAGE_BYTES]).then_some(Backing::Anonymous);
     let same = image.filter(|(_, bytes)| **bytes == kept.bytes).map(|(at, _)| Backing::Image(at));
     let other: Vec<Backing> = zero.into_iter().chain(same).filter(|&b| b != kept.backing).collect();
     let chosen = match other.is_empty() || prng.chance(40) {

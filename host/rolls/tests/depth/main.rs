@@ -1,5 +1,7 @@
 //! How deep the random rolls reach: a roll that never gets anywhere tells nothing.
 
+mod compare;
+
 use model::{parse_line, Answering, Backing, Call, Machine, Sandbox, CODES, LINE_BYTES, SANDBOXES};
 use rolls::Case;
 use std::collections::{BTreeMap, BTreeSet};
@@ -197,92 +199,6 @@ fn rolls_for_the_player_do_so_too() {
 #[test]
 fn rolls_of_200_lines_do_so_too() {
     assert_deep(&measured(|seed| Case::of_lines(seed, 200), 1_000), 20);
-}
-
-/// The branches of call 10 that a roll exercises.
-fn branches_of_compare(case: &Case) -> BTreeSet<&'static str> {
-    let mut machine = Machine::fresh(&case.image, case.frames);
-    let mut met = BTreeSet::new();
-    for call in case.roll.chunks(LINE_BYTES).filter_map(parse_line) {
-        let (number, value) = machine.answer(&call);
-        match (call.code, number) {
-            (10, 8) => met.extend(["refused 8"]),
-            (10, 0) => met.extend(answered(machine.sandbox(call.sandbox.into()), value as usize)),
-            _ => {}
-        }
-    }
-    met
-}
-
-/// What led to an accepted compare's value: the page named, and the pages before it, which agree.
-fn answered(sandbox: &Sandbox, value: usize) -> BTreeSet<&'static str> {
-    let mut met = BTreeSet::new();
-    let mut saw = |branch: &'static str, happened: bool| met.extend(happened.then_some(branch));
-    let copy = sandbox.copy.as_ref().expect("accepted, so there is a snapshot");
-    for (page, kept) in sandbox.pages.iter().zip(&copy[..]).take(value) {
-        let (both, anew) = (page.mapped && kept.mapped, page.mapped && !page.committed);
-        let left_over = !page.mapped && page.bytes != kept.bytes;
-        saw("agrees: committed, no front, passed over", page.committed && !page.front);
-        saw("agrees: written back, with its front", page.committed && page.front);
-        saw("agrees: mapped anew", both && anew);
-        saw("agrees: mapped anew and written", both && anew && page.front);
-        saw("agrees: mapped anew over another backing", both && page.backing != kept.backing);
-        saw("agrees: unmapped in both, after it was written", left_over);
-    }
-    saw("64", value == 64);
-    if value < 64 {
-        let (page, kept) = (&sandbox.pages[value], &copy[value]);
-        let (rights, bytes) = (page.rights != kept.rights, page.bytes != kept.bytes);
-        let both = page.mapped && kept.mapped;
-        saw("differs: mapped since", page.mapped && !kept.mapped);
-        saw("differs: unmapped since", !page.mapped && kept.mapped);
-        saw("differs: rights alone", both && rights && !bytes);
-        saw("differs: rights alone, no front", both && rights && !bytes && !page.front);
-        saw("differs: bytes alone", both && bytes && !rights);
-        saw("differs: rights and bytes", both && bytes && rights);
-        let last_alone = page.bytes[..255] == kept.bytes[..255];
-        saw("differs: the last byte alone", both && bytes && !rights && last_alone);
-        saw("differs: mapped anew, no front", both && bytes && !page.committed && !page.front);
-        saw("differs: page 0", value == 0);
-        saw("differs: page 63", value == 63);
-    }
-    met
-}
-
-/// How many rolls of 1,000 exercise each branch of call 10, at least.
-#[test]
-fn random_rolls_reach_every_branch_of_compare() {
-    let fewest = BTreeMap::from([
-        ("refused 8", 200),
-        ("64", 500),
-        ("differs: mapped since", 300),
-        ("differs: unmapped since", 130),
-        ("differs: rights alone", 120),
-        ("differs: rights alone, no front", 100),
-        ("differs: bytes alone", 250),
-        ("differs: rights and bytes", 60),
-        ("differs: the last byte alone", 70),
-        ("differs: mapped anew, no front", 60),
-        ("differs: page 0", 280),
-        ("differs: page 63", 20),
-        ("agrees: committed, no front, passed over", 400),
-        ("agrees: written back, with its front", 250),
-        ("agrees: mapped anew", 90),
-        ("agrees: mapped anew and written", 12),
-        ("agrees: mapped anew over another backing", 15),
-        ("agrees: unmapped in both, after it was written", 80),
-    ]);
-    for case_of in [Case::random, Case::for_player] {
-        let mut rolls = BTreeMap::<&str, usize>::new();
-        for branch in (0..1_000).flat_map(|seed| branches_of_compare(&case_of(seed))) {
-            *rolls.entry(branch).or_default() += 1;
-        }
-        println!("{rolls:#?}");
-        assert!(rolls.keys().eq(fewest.keys()), "{:?}", rolls.keys());
-        for (branch, count) in rolls {
-            assert!(count >= fewest[branch], "{branch}: {count} rolls of 1,000");
-        }
-    }
 }
 
 #[test]
