@@ -1,8 +1,8 @@
 //! (a) Each call, beside the unproved machines.
 
 use crate::roll::{
-    call, map, open, protect, read, report, rewind, snapshot, text, unmap, write, ANYWHERE, READ,
-    WRITE,
+    call, compare, map, open, protect, read, report, rewind, snapshot, text, unmap, write,
+    ANYWHERE, READ, WRITE,
 };
 use crate::states::State;
 use crate::table::{markdown, ratio, thousands, Costs, Purpose, Table};
@@ -54,6 +54,8 @@ pub fn rows() -> Vec<Row> {
         row(State::Busy, "snapshot, 12 pages", snapshot(2), false),
         row(State::Busy, "rewind, 6 fronts", rewind(0), false),
         row(State::Busy, "report", report(0), true),
+        row(State::Busy, "compare, page 3 differs", compare(0), true),
+        refused(State::Busy, "compare, refused 8", compare(2), 8),
         refused(State::Busy, "open again, refused 5", open(0, 1), 5),
         refused(State::Busy, "unknown code, refused 2", unknown, 2),
         row(State::Full, "unmap, 2 pages, 2 fronts", unmap(0, 56, 2), false),
@@ -62,6 +64,7 @@ pub fn rows() -> Vec<Row> {
         row(State::Full, "write, front there", write(0, 57), true),
         row(State::Full, "rewind, 16 fronts", rewind(0), true),
         row(State::Full, "report", report(0), true),
+        row(State::Full, "compare, 16 fronts, clean", compare(0), true),
         refused(State::Full, "open again, refused 5", open(0, 1), 5),
     ]
 }
@@ -137,7 +140,7 @@ pub const HEAD: [&str; 9] = [
     "same steps, ns",
 ];
 
-/// Which rows are looked at: those of the nine calls, accepted or refused, or the lines
+/// Which rows are looked at: those of the ten calls, accepted or refused, or the lines
 /// whose code is no call's, which are refused before the test of soundness.
 #[derive(Clone, Copy, PartialEq, Eq, Debug)]
 pub enum Lines {

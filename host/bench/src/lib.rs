@@ -5,11 +5,13 @@
 //!   `copying`: whole copies;
 //! - `roll` and `states`: the calls that are measured, and the states before them;
 //! - `work` and `meter`: what is measured, and instructions and times of it;
-//! - `calls`, `mixed`, `rewind`, `snapshot`, `frames`, `rounds`, `stepwise`: the tables;
+//! - `calls`, `mixed`, `rewind`, `snapshot`, `frames`, `rounds`, `stepwise`, `compare`: the
+//!   tables;
 //! - `reach`: what is reached and what is not;
 //! - `table`, `svg` and `document`: how they are written.
 
 pub mod calls;
+mod compare;
 pub mod copying;
 pub mod document;
 mod frames;
@@ -33,7 +35,7 @@ mod work;
 use table::Table;
 
 /// The tables of docs/BENCHMARK.md.
-pub const TABLES: [Table; 8] = [
+pub const TABLES: [Table; 9] = [
     calls::TABLE,
     mixed::TABLE,
     rewind::TABLE,
@@ -42,4 +44,5 @@ pub const TABLES: [Table; 8] = [
     rounds::TABLE,
     rounds::ADVERSE,
     stepwise::TABLE,
+    compare::TABLE,
 ];

@@ -38,7 +38,12 @@ pub fn read(sandbox: u16, page: u16) -> Call {
 
 /// A write in the middle of a page.
 pub fn write(sandbox: u16, page: u16) -> Call {
-    call(6, sandbox, [256 * page + 100, 1 + page, 0, 0, 0])
+    store(sandbox, page, 1 + page)
+}
+
+/// A write of a byte at the place of `write`.
+pub fn store(sandbox: u16, page: u16, byte: u16) -> Call {
+    call(6, sandbox, [256 * page + 100, byte, 0, 0, 0])
 }
 
 pub fn snapshot(sandbox: u16) -> Call {
@@ -51,6 +56,10 @@ pub fn rewind(sandbox: u16) -> Call {
 
 pub fn report(sandbox: u16) -> Call {
     call(9, sandbox, [0; 5])
+}
+
+pub fn compare(sandbox: u16) -> Call {
+    call(10, sandbox, [0; 5])
 }
 
 pub fn call(code: u16, sandbox: u16, parameters: [u16; 5]) -> Call {

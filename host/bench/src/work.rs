@@ -1,5 +1,5 @@
 //! What is measured: a roll played by one of the machines, or its calls made one at a time,
-//! or one step of the copying machine, or a bare copy.
+//! or one step of the copying machine, or a bare copy or comparison.
 
 use crate::copying::Copying;
 use crate::{same_steps, unproved};
@@ -39,6 +39,10 @@ pub enum Work {
     CopyingRewind,
     /// So many pages copied, one after the other.
     BareCopy {
+        pages: usize,
+    },
+    /// So many pages compared with equal ones, one after the other.
+    BareComparison {
         pages: usize,
     },
 }
@@ -98,6 +102,12 @@ impl Work {
                 let mut to = vec![2u8; pages * PAGE_BYTES];
                 Box::new(move || copy_pages(black_box(&from), black_box(&mut to)))
             }
+            Work::BareComparison { pages } => {
+                let (here, there) = (vec![1u8; pages * PAGE_BYTES], vec![1u8; pages * PAGE_BYTES]);
+                Box::new(move || {
+                    black_box(are_same_pages(black_box(&here), black_box(&there)));
+                })
+            }
         }
     }
 }
@@ -106,6 +116,10 @@ fn copy_pages(from: &[u8], to: &mut [u8]) {
     for (to, from) in to.chunks_exact_mut(PAGE_BYTES).zip(from.chunks_exact(PAGE_BYTES)) {
         to.copy_from_slice(from);
     }
+}
+
+fn are_same_pages(here: &[u8], there: &[u8]) -> bool {
+    here.chunks_exact(PAGE_BYTES).zip(there.chunks_exact(PAGE_BYTES)).all(|(a, b)| a == b)
 }
 
 /// A pool, a table and room for the replies of a roll.

@@ -1,13 +1,15 @@
-//! The unproved machine once more, from the same files, but for four that go by the
+//! The unproved machine once more, from the same files, but for five that go by the
 //! proved machine's steps. They part what a step costs from what the proof or the
 //! compiler costs:
 //!
 //! - `lookup`: all 8 places are tried for a page, and all 8 lengths are counted;
 //! - `walk` and `soundness`: the test of soundness walks the areas along with the pages;
-//! - `rewind`: one look-up for each front.
+//! - `rewind`: one look-up for each front;
+//! - `compare`: the same walk, and all bytes of a page are compared.
 
 #[path = "../unproved/areas.rs"]
 mod areas;
+mod compare;
 #[path = "../unproved/held.rs"]
 mod held;
 mod lookup;

@@ -1,5 +1,6 @@
-//! The machine: nine calls over a state and lent pool, page table and image.
+//! The machine: ten calls over a state and lent pool, page table and image.
 
+use super::compare::lowest_difference;
 use super::held::Held;
 use super::memory::Memory;
 use super::page::{PageNo, PAGE_BYTES};
@@ -30,7 +31,7 @@ impl<const KEEPS_FRONTS: bool> Machine<KEEPS_FRONTS> {
 
     /// One request: its value, or why it is refused; then nothing has changed.
     pub fn call(&mut self, memory: &mut Memory, q: &Request) -> Result<u32, Refusal> {
-        if !(1..=9).contains(&q.code) {
+        if !(1..=10).contains(&q.code) {
             return Err(Refusal::NoSuchCall);
         }
         if !self.is_sound(memory) {
@@ -70,6 +71,7 @@ impl<const KEEPS_FRONTS: bool> Machine<KEEPS_FRONTS> {
                 0
             }
             9 => frames_held(memory, s),
+            10 => lowest_difference(sandbox, memory, s),
             _ => 0,
         };
         sandbox.present = areas;

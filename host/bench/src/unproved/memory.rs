@@ -7,6 +7,7 @@ use std::ops::Range;
 pub const TABLE_ENTRIES: usize = 512;
 /// Of one sandbox: "64 front entries, then 64 back entries".
 pub const SANDBOX_ENTRIES: usize = 2 * PAGES;
+static ZERO_PAGE: [u8; PAGE_BYTES] = [0; PAGE_BYTES];
 
 pub struct Memory<'a> {
     pub pool: &'a mut [u8],
@@ -67,6 +68,18 @@ impl Memory<'_> {
         match backing {
             Backing::Anonymous => 0,
             Backing::Image(page) => self.image[usize::from(page.0) * PAGE_BYTES + offset],
+        }
+    }
+
+    /// The bytes of a frame, or those of the backing where there is none.
+    pub fn bytes(&self, frame: Option<FrameNo>, backing: Backing) -> &[u8] {
+        match (frame, backing) {
+            (Some(frame), _) => &self.pool[bytes_of(frame)],
+            (None, Backing::Anonymous) => &ZERO_PAGE,
+            (None, Backing::Image(page)) => {
+                let start = usize::from(page.0) * PAGE_BYTES;
+                &self.image[start..start + PAGE_BYTES]
+            }
         }
     }
 

@@ -7,10 +7,12 @@
 //! - `memory`: the lent pool, page table and image;
 //! - `request`: a call, its limits and its refusals;
 //! - `sandbox` and `soundness`: what is kept, and the test of it;
-//! - `rules`, `machine` and `rewind`: what is refused, and what an accepted call does;
+//! - `rules`, `machine`, `rewind` and `compare`: what is refused, and what an accepted call
+//!   does;
 //! - `text` and `roll`: the lines, and the player.
 
 mod areas;
+mod compare;
 mod held;
 mod lookup;
 mod machine;

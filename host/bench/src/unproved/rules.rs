@@ -68,6 +68,10 @@ pub fn decide(
             let areas = sandbox.snapshot.ok_or(Refusal::NoSnapshot)?;
             Ok(Accepted { areas, place: None })
         }
+        10 => {
+            refuse_if(sandbox.snapshot.is_none(), Refusal::NoSnapshot)?;
+            Ok(unchanged)
+        }
         _ => Ok(unchanged),
     }
 }
