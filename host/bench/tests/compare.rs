@@ -6,6 +6,8 @@ use model::{call_line, Call};
 
 type Play = fn(&[u8], &[u8], &mut [u8], &mut [u16], &mut [u8]) -> usize;
 type Fields = [u16; 7];
+/// A reply's number and value.
+type Reply = (u32, u32);
 
 fn proved(r: &[u8], i: &[u8], pool: &mut [u8], table: &mut [u16], out: &mut [u8]) -> usize {
     gazhuppin::play(r, i, pool, table, out).expect("out has room")
@@ -43,8 +45,8 @@ fn image() -> Vec<u8> {
     image
 }
 
-/// What each line of call 10, of a code past it and each refused line is told: number and value.
-fn told(play: Play, lines: &[Fields]) -> Vec<(u32, u32)> {
+/// What each line of call 10, of a code past it and each refused line is told.
+fn told(play: Play, lines: &[Fields]) -> Vec<Reply> {
     let call = |&[code, sandbox, p1, p2, p3, p4, p5]: &Fields| {
         call_line(&Call { code, sandbox, parameters: [p1, p2, p3, p4, p5] })
     };
@@ -62,7 +64,7 @@ fn told(play: Play, lines: &[Fields]) -> Vec<(u32, u32)> {
 }
 
 /// Lines, and what the comparisons and the refused lines among them are told.
-fn checked_by_hand() -> Vec<(Vec<Fields>, Vec<(u32, u32)>)> {
+fn checked_by_hand() -> Vec<(Vec<Fields>, Vec<Reply>)> {
     let after =
         |before: &[Fields], lines: &[Fields]| [&[OPEN], before, &[SNAPSHOT], lines].concat();
     let page = |page: u32| (0, page);
