@@ -38,14 +38,14 @@ module _ (image : List ℕ) (w : World) (q : Request) (o : Outcome) (s : Stepped
   pages n t i l d = rw (left image w q o s n) (stored image w q o s n .others t i d l)
 
   is-call : Coded q → isCall q ≡ true
-  is-call c = and-of (le-leb 1 (q .code) (c .0)) (le-leb (q .code) 9 (c .1))
+  is-call c = and-of (le-leb 1 (q .code) (c .0)) (le-leb (q .code) 10 (c .1))
 
   uncalled : (Coded q → ⊥) → o .answer .number ≡ 2
   uncalled c =
       number-is image w q o s
       ∙ by-cases (isCall q)
-      (λ e. let both = and-both (leb 1 (q .code)) (leb (q .code) 9) e in
-      absurd (c (leb-true 1 (q .code) (both .0), leb-true (q .code) 9 (both .1))))
+      (λ e. let both = and-both (leb 1 (q .code)) (leb (q .code) 10) e in
+      absurd (c (leb-true 1 (q .code) (both .0), leb-true (q .code) 10 (both .1))))
       (λ e. sym (number-two image w q e))
 
   unsound : Coded q → length (w .sandboxes) ≡ 4 → (Sound image w → ⊥) → o .answer .number ≡ 3

@@ -22,8 +22,8 @@ use Rattle.areas.specs.Areas.{slots}
 use Rattle.areas.specs.Formed.{ImagesExist}
 use Rattle.state.specs.declared.sandbox.Sandbox.{Sandbox}
 use Rattle.state.specs.World.{pagesIn}
-use Rattle.content.specs.Content.{backingPage, pageUnder, pageRead, copyPage}
-use Rattle.plain.specs.Machine.{Given, Kept, copySlots, backingByte}
+use Rattle.content.specs.Content.{backingPage, pageUnder, pageRead, copyPage, copyRead}
+use Rattle.plain.specs.Machine.{Given, Kept, copySlots, copyBytes, backingByte}
 use Rattle.plain.specs.Claims.{Keeps, Reads}
 use Rattle.claims.specs.Demands.{Lent}
 use Rattle.claims.specs.Agrees.{pageIf, AgreesAt}
@@ -109,3 +109,10 @@ module _ (g : Given) (L : Lent g) (st : Store) (s : ℕ) (b : Sandbox) (k : Kept
   pub page-read : (i : ℕ) → i < 64 → isMapped (k .core .pages .slots i) ≡ true → pageRead (g .image) st b s i ≡ listed 256 (k .core .pages .bytes i)
   unfolding pageRead
   page-read i l m = rw (A .fronts i l) (by-cases (k .traces .front i) (λ f. rw f) (λ f. rw f (under i l m f)))
+
+  -- a page of the snapshot
+  pub copy-read : (i : ℕ) → i < 64 → isMapped (copied (copySlots (k .core)) i) ≡ true
+      → copyRead (g .image) st b s i ≡ listed 256 (copyBytes (k .core .copy) i)
+  unfolding copyRead
+  copy-read i l m =
+      rw (copy-page i, A .backs i l) (by-cases (k .traces .back i) (λ e. rw e) (λ e. rw e (ap (listed 256) (sym (r .unbacked i m e)))))

@@ -7,19 +7,21 @@ use lib.Dec.{ltb, eqb}
 use lib.ListN.{getD, length-set}
 use lib.Seq.{getD-set-same, getD-set-other}
 use borrow.Author.Tests.{eq-eqb, eqb-true, eqb-false, ltb-true, ltb-false}
-use Rattle.basics.specs.Ranges.{one, count, sum}
+use Rattle.basics.specs.Ranges.{one, count, sum, alike}
 use Rattle.basics.proofs.TestLaws.{by-cases, and-left}
 use Rattle.interface.specs.declared.request.Request.{Request}
-use Rattle.interface.specs.Requests.{_is_, Map, Read, Write, Snapshot, Report, isCall, pageOf, offsetOf}
-use Rattle.interface.specs.Slots.{Slots, isMapped, mappedPages}
+use Rattle.interface.specs.Requests.{_is_, Map, Read, Write, Snapshot, Report, Compare, isCall, pageOf, offsetOf}
+use Rattle.interface.specs.Slots.{Slots, isMapped, mappedPages, copied}
 use Rattle.interface.specs.Limits.{usesOne, within}
 use Rattle.interface.specs.Outcome.{firstOf, shareAfter}
 use Rattle.interface.specs.Refusals.{View, allMapped, refusal}
 use Rattle.interface.specs.Accepted.{Accepted}
 use Rattle.interface.proofs.KindLaws.{kind}
 use Rattle.interface.proofs.AcceptedLaws.{accepted}
+use Rattle.interface.proofs.CompareLaws.{agree-bytes, difference-same}
 use Rattle.frames.specs.Frames.{held}
-use Rattle.pages.proofs.ListedLaws.{listed-at}
+use Rattle.pages.specs.Parts.{sameBytes}
+use Rattle.pages.proofs.ListedLaws.{listed-at, same-listed}
 use Rattle.marks.specs.Named.{used, usedBelow}
 use Rattle.marks.specs.Marks.{from}
 use Rattle.marks.proofs.NamedLaws.{by-entry}
@@ -28,11 +30,11 @@ use Rattle.table.specs.Store.{Store, entry, frontOf, backOf, contents}
 use Rattle.state.specs.declared.sandbox.Sandbox.{Sandbox}
 use Rattle.state.specs.World.{World, sandboxAt, closedSandbox, framesOf, sharesOf, viewAt}
 use Rattle.rules.specs.After.{sandboxAfter}
-use Rattle.content.specs.Content.{pageRead}
+use Rattle.content.specs.Content.{pageRead, copyRead, differing}
 use Rattle.memory.specs.Memory.{storeAfter, heldBy, valueAt}
 use Rattle.machine.specs.Step.{worldAfter, numberAt, step, Outcome, Stepped}
-use Rattle.plain.specs.Machine.{Given, Kept, Plain, shares, viewOf, keptAfter, coreValue, answer, after}
-use Rattle.plain.specs.Machine.{held as heldMarks, valueAt as plainValue, numberAt as plainNumber}
+use Rattle.plain.specs.Machine.{Given, Kept, Plain, copySlots, copyBytes, shares, viewOf, keptAfter, coreValue, answer, after}
+use Rattle.plain.specs.Machine.{held as heldMarks, differing as plainDiffering, valueAt as plainValue, numberAt as plainNumber}
 use Rattle.plain.proofs.KeptLaws.{holds-after}
 use Rattle.plain.proofs.ReadLaws.{reads-after}
 use Rattle.plain.proofs.OneSandbox.{after-others}
@@ -41,7 +43,7 @@ use Rattle.claims.specs.Demands.{Lent}
 use Rattle.claims.specs.Agrees.{pageIf, AgreesAt, Agrees}
 use Rattle.claims.proofs.StepLaws.{frame-free}
 use Rattle.claims.proofs.AreaSteps.{copy-same, slots-after, formed-after, copy-after, formed-copy-after, taken-after, untaken-after}
-use Rattle.claims.proofs.ReadSteps.{page-read, mark-none, frame-is}
+use Rattle.claims.proofs.ReadSteps.{page-read, copy-read, mark-none, frame-is}
 use Rattle.claims.proofs.StoreSteps.{Stored, stored-after}
 use Rattle.claims.proofs.SoundLaws.{frames-same, shares-same, agrees-tested}
 
@@ -142,6 +144,24 @@ module _ {C : Type 0} (g : Given) (L : Lent g) (w : World) (p : Plain) (A : Agre
       rw (page-read g L (w .store) (q .sandbox) (sandboxAt w (q .sandbox)) (p (q .sandbox)) h (A .reads (q .sandbox)) mine (pageOf q) page there)
       (listed-at 256 (p (q .sandbox) .core .pages .bytes (pageOf q)) (offsetOf q) (omega arith))
 
+  -- call 10: the bytes are compared only where the page is mapped in both, and there they are what the plain machine has
+  differing-same : differing (g .image) (w .store) (sandboxAt w (q .sandbox)) (q .sandbox) ≡ plainDiffering (p (q .sandbox) .core)
+  unfolding differing plainDiffering
+  differing-same =
+      let b : Sandbox = sandboxAt w (q .sandbox) in
+      let k : Kept = p (q .sandbox) in
+      let h = A .holds .each (q .sandbox) in
+      rw (mine .present, mine .copy)
+      (difference-same (k .core .pages .slots) (copied (copySlots (k .core)))
+      (λ i. sameBytes 256 (pageRead (g .image) (w .store) b (q .sandbox) i) (copyRead (g .image) (w .store) b (q .sandbox) i))
+      (λ i. alike (k .core .pages .bytes i) (copyBytes (k .core .copy) i) 256)
+      (λ i l. agree-bytes (k .core .pages .slots i) (copied (copySlots (k .core)) i) _ _
+      (λ m c. rw (
+        page-read g L (w .store) (q .sandbox) b k h (A .reads (q .sandbox)) mine i l m,
+        copy-read g L (w .store) (q .sandbox) b k h (A .reads (q .sandbox)) mine i l c,
+      )
+      (same-listed 256 (k .core .pages .bytes i) (copyBytes (k .core .copy) i)))))
+
   value-same : valueAt (g .image) q (sandboxAt w (q .sandbox)) (w .store) ≡ plainValue g q (p (q .sandbox))
   unfolding valueAt coreValue
   value-same =
@@ -151,7 +171,8 @@ module _ {C : Type 0} (g : Given) (L : Lent g) (w : World) (p : Plain) (A : Agre
       rw (m, d, s, r) (held-same g w p A (q .sandbox) low)) λ r.
       by-cases (q is Map) (λ m. rw (r, m) (ap (λ (f : Slots). firstOf f q) (mine .present))) λ m.
       by-cases (q is Read) (λ d. rw (r, m, d) (read-same (eqb-true (q .code) Read d))) λ d.
-      by-cases (q is Snapshot) (λ s. rw (r, m, d, s) (ap mappedPages (mine .present))) λ s. rw (r, m, d, s)
+      by-cases (q is Snapshot) (λ s. rw (r, m, d, s) (ap mappedPages (mine .present))) λ s.
+      by-cases (q is Compare) (λ c. rw (r, m, d, s, c) differing-same) (λ c. rw (r, m, d, s, c))
 
   -- a sandbox that the request does not name
   agrees-other : (r : Store) (t : ℕ) (b : Sandbox) (k : Kept) → ((x : ℕ) → x < 128 → contents 256 r (t * 128 + x) ≡ contents 256 (w .store) (t * 128 + x))

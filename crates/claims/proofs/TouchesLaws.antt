@@ -9,7 +9,7 @@ use lib.Seq.{set-getD, getD-set-same}
 use borrow.Author.Tests.{eqb-true}
 use Rattle.basics.proofs.TestLaws.{by-cases}
 use Rattle.interface.specs.declared.request.Request.{Request}
-use Rattle.interface.specs.Requests.{_is_, Open, Read, Write, Snapshot, Rewind, Report, pageOf, offsetOf}
+use Rattle.interface.specs.Requests.{_is_, Open, Read, Write, Snapshot, Rewind, Report, Compare, pageOf, offsetOf}
 use Rattle.interface.specs.Limits.{within}
 use Rattle.interface.proofs.KindLaws.{kind}
 use Rattle.frames.specs.Frames.{held, mark}
@@ -81,7 +81,8 @@ module _ (image : List ℕ) (w : World) (q : Request) (o : Outcome) (s : Stepped
   state h =
       by-cases (q is Read) (λ e. let c = eqb-true (q .code) Read e in unchanged (rw c) (rw c) (rw c) (rw c)) λ x.
       by-cases (q is Write) (λ e. let c = eqb-true (q .code) Write e in unchanged (rw c) (rw c) (rw c) (rw c)) λ y.
-      let c = eqb-true (q .code) Report (rw (x, y) at h) in unchanged (rw c) (rw c) (rw c) (rw c)
+      by-cases (q is Report) (λ e. let c = eqb-true (q .code) Report e in unchanged (rw c) (rw c) (rw c) (rw c)) λ z.
+      let c = eqb-true (q .code) Compare (rw (x, y, z) at h) in unchanged (rw c) (rw c) (rw c) (rw c)
 
   -- ---- entries
 

@@ -8,8 +8,10 @@ use lib.ListN.{length, getD, set, length-set}
 use lib.Seq.{getD-set-same, getD-set-other, ext-getD}
 use borrow.Author.Tests.{eqb-true, eqb-false}
 use Rattle.basics.specs.Choice.{_when_else_}
-use Rattle.basics.proofs.TestLaws.{by-cases}
-use Rattle.pages.specs.Parts.{zeros, listed, frame}
+use Rattle.basics.specs.Ranges.{alike}
+use Rattle.basics.proofs.TestLaws.{by-cases, both-ways}
+use Rattle.basics.proofs.LoopLaws.{alike-at, alike-of}
+use Rattle.pages.specs.Parts.{zeros, listed, frame, sameBytes}
 use Rattle.pages.proofs.PartLaws.{length-zeros, getD-zeros, length-frame, frame-at}
 
 pub length-listed : (n : ℕ) (f : ℕ → ℕ) → length (listed n f) ≡ n
@@ -46,3 +48,11 @@ zeros-listed n = as-listed n (λ _. 0) (zeros n) (length-zeros n) (λ o d. getD-
 pub frame-listed : (size : ℕ) (xs : List ℕ) (f : ℕ) → f * size + size ≤ length xs → frame size xs f ≡ listed size (λ o. getD xs (f * size + o) 0)
 frame-listed size xs f h =
     as-listed size (λ o. getD xs (f * size + o) 0) (frame size xs f) (length-frame size xs f h) (frame-at size xs f)
+
+-- two pages given by their bytes are the same where these are alike
+pub same-listed : (n : ℕ) (f g : ℕ → ℕ) → sameBytes n (listed n f) (listed n g) ≡ alike f g n
+unfolding sameBytes
+same-listed n f g =
+    both-ways _ _
+    (λ h. alike-of f g n (λ o d. sym (listed-at n f o d) ∙ alike-at _ _ n h o d ∙ listed-at n g o d))
+    (λ h. alike-of _ _ n (λ o d. listed-at n f o d ∙ alike-at f g n h o d ∙ sym (listed-at n g o d)))
