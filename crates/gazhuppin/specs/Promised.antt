@@ -24,7 +24,7 @@ pub record Promised (image roll pool₀ table₀ out₀ pool table out : List �
   pub replies : Room roll out₀ → lengthsOk (length pool₀) (length table₀) (length image) ≡ true
       → out ≡ plainReplies (lent image pool₀) roll ++ drop (lines * 19) out₀
   -- "A wrong length of image, pool or table is no error of the call: pool and table are then left as they are, and every line is answered with a refusal:
-  -- 1 if it is malformed, 2 if its code is not 1 to 9, 3 otherwise."
+  -- 1 if it is malformed, 2 if its code is not 1 to 10, 3 otherwise."
   pub wrong : Room roll out₀ → lengthsOk (length pool₀) (length table₀) (length image) ≡ false
       → (pool ≡ pool₀) × ((table ≡ table₀) × (out ≡ refusedReplies roll ++ drop (lines * 19) out₀))
   -- "Afterwards pool and table are those of the machine after the last line. .. A frame that no entry names is all zero."

@@ -8,6 +8,7 @@ use lib.ListN.{length, getD}
 use lib.Dec.{eqb}
 use borrow.Author.Tests.{eqb-true}
 use Rattle.basics.proofs.TestLaws.{when-cases, passed}
+use Rattle.basics.proofs.LoopLaws.{lowest-range}
 use Rattle.interface.specs.declared.request.Request.{Request}
 use Rattle.interface.specs.declared.answer.Refusal.{Refusal}
 use Rattle.interface.specs.declared.answer.Refusal.the-variants.{Malformed, NoSuchCall, Unsound, NotOpen, AlreadyOpen, OutsideLimits, SnapshotTaken}
@@ -16,9 +17,10 @@ use Rattle.interface.specs.declared.answer.Answer.{Answer}
 use Rattle.interface.specs.declared.answer.Answer.the-variants.{Value, Refused}
 use Rattle.interface.specs.declared.page.Backing.{Backing}
 use Rattle.interface.specs.declared.page.Backing.the-variants.{Anonymous, Image}
-use Rattle.interface.specs.Requests.{_is_, isCall, Map, Read, Snapshot, Report, pageOf, offsetOf}
+use Rattle.interface.specs.Requests.{_is_, isCall, Map, Read, Snapshot, Report, Compare, pageOf, offsetOf}
 use Rattle.interface.specs.Answers.{refusalNumber, numberOf}
 use Rattle.interface.specs.Slots.{isCommitted, backingAt}
+use Rattle.interface.specs.Compare.{lowestDifference}
 use Rattle.interface.specs.Outcome.{firstOf}
 use Rattle.interface.specs.Refusals.{refusal}
 use Rattle.interface.proofs.AcceptedLaws.{accepted, map-fits}
@@ -35,7 +37,7 @@ use Rattle.areas.specs.Areas.{slots}
 use Rattle.state.specs.declared.sandbox.Sandbox.{Sandbox}
 use Rattle.state.specs.World.{World, sandboxAt, viewAt}
 use Rattle.state.specs.Test.{soundb}
-use Rattle.content.specs.Content.{backingPage, pageUnder, pageRead}
+use Rattle.content.specs.Content.{backingPage, pageUnder, pageRead, differing}
 use Rattle.memory.specs.Memory.{heldBy, valueAt}
 use Rattle.machine.specs.Step.{Outcome, Stepped, step, numberAt}
 
@@ -87,6 +89,11 @@ held-low : (st : Store) (s : ℕ) → heldBy st s ≤ 128
 unfolding heldBy
 held-low st s = count-low (marksTo (length (st .pool) / 256) (from (s * 128) (st .table)) 128 .held)
 
+-- "and 64 if they nowhere differ"
+differing-low : (image : List ℕ) (st : Store) (b : Sandbox) (s : ℕ) → differing image st b s ≤ 64
+unfolding differing lowestDifference
+differing-low image st b s = lowest-range _ 0 64 .1
+
 module _ (image : List ℕ) (w : World) (q : Request) (t : Bytes image) (u : Bytes (w .store .pool)) where
   value-low : numberAt image w q ≡ 0 → valueAt image q (sandboxAt w (q .sandbox)) (w .store) ≤ 65535
   unfolding valueAt
@@ -96,7 +103,8 @@ module _ (image : List ℕ) (w : World) (q : Request) (t : Bytes image) (u : Byt
       (λ _. when-cases (λ x. x ≤ 65535) (q is Read)
       (λ e. let r = read-byte (offsetOf q) (omega arith) image (w .store) b (q .sandbox) (pageOf q) t u in omega (arith, r))
       (λ _. when-cases (λ x. x ≤ 65535) (q is Snapshot) (λ e. let r = mapped-small (slots (b .present)) in omega (arith, r))
-      (λ _. when-cases (λ x. x ≤ 65535) (q is Report) (λ e. let r = held-low (w .store) (q .sandbox) in omega (arith, r)) (λ _. omega arith))))
+      (λ _. when-cases (λ x. x ≤ 65535) (q is Report) (λ e. let r = held-low (w .store) (q .sandbox) in omega (arith, r))
+      (λ _. when-cases (λ x. x ≤ 65535) (q is Compare) (λ e. let r = differing-low image (w .store) b (q .sandbox) in omega (arith, r)) (λ _. omega arith)))))
 
   pub value-small : (o : Outcome) → Stepped image w q o → o .answer .value ≤ 65535
   unfolding step

@@ -56,7 +56,7 @@ startHands image h = handsOf (startedBy (h .pool) (h .table) image) when eqb (le
 
 -- ---- a call
 
--- row 2 "call code not 1 to 9", else row 3 "lent length wrong, or state unsound", where the bytes are no state's
+-- row 2, a code that is no call's, else row 3 "lent length wrong, or state unsound", where the bytes are no state's
 abbrev pub noState : Request → Answered
 noState q = record { number = 2 when not (isCall q) else 3; value = 0 }
 
