@@ -33,7 +33,7 @@ pub record Tested (image : List ℕ) (w : World) : Type 0 where
   pub filed : Filed 256 (framesOf w) (w .store)
   pub each : (s : ℕ) → s < 4 → SoundAt (pagesIn (length image)) (w .store) s (sandboxAt w s)
 
-tested : (image : List ℕ) (w : World) → soundb image w ≡ true → Tested image w
+pub tested : (image : List ℕ) (w : World) → soundb image w ≡ true → Tested image w
 unfolding soundb
 tested image w h =
     let lengths = and-both (lengthsOk (length (w .store .pool)) (length (w .store .table)) (length image)) _ h in

@@ -1,4 +1,5 @@
--- THE THEOREMS: the statements of specs/Demands and specs/TurnedBack, of every image and pool that a start accepts and of every list of requests.
+-- THE THEOREMS: the statements of specs/Demands, specs/TurnedBack and specs/StillClean, of every image and pool that a start accepts and of every list of
+-- requests.
 use mathlib.Core.List.{List}
 use Prim.Native.Nat.{ℕ}
 use Rattle.interface.specs.declared.request.Request.{Request}
@@ -8,12 +9,16 @@ use Rattle.machine.specs.Step.{Outcome, Stepped}
 use Rattle.plain.specs.Machine.{Given}
 use Rattle.plain.specs.Cases.{casesOver, noImage, cases}
 use Rattle.plain.specs.TurnedBack.{turnedBackCases}
+use Rattle.plain.specs.StillClean.{stillClean}
 use Rattle.claims.specs.Demands.{StartsLists, Lent, EveryListRuns, Demand1, Demand2, Demand3}
 use Rattle.claims.specs.TurnedBack.{AllGet, WrongLength, AllGetLent, StrayEntry}
+use Rattle.claims.specs.StillClean.{BacksCannotAlter, StillClean}
 use Rattle.claims.proofs.Demand1Laws.{demand-1}
 use Rattle.claims.proofs.Runs.{starts-lists, every-list-runs, demand-2}
 use Rattle.claims.proofs.Demand3Laws.{demand-3}
-use Rattle.claims.proofs.TurnedBackLaws.{cases-get, turned-back-get, wrong-length, lendings-get, stray-entry}
+use Rattle.claims.proofs.TurnedBackLaws.{cases-get, turned-back-get, still-clean-get, wrong-length, lendings-get, stray-entry}
+use Rattle.claims.proofs.BacksLaws.{backs-cannot-alter}
+use Rattle.claims.proofs.StillCleanLaws.{still-clean}
 
 -- a start that is not refused leaves the world from which lists start
 pub claim-start : StartsLists
@@ -53,3 +58,15 @@ claim-lent-lengths = lendings-get
 -- a state that is unsound
 pub claim-stray-entry : StrayEntry
 claim-stray-entry = stray-entry
+
+-- no byte of the back frame of a page that call 10 passes over can alter its answer: of any world
+pub claim-backs-cannot-alter : (image : List ℕ) → BacksCannotAlter image
+claim-backs-cannot-alter = backs-cannot-alter
+
+-- call 10 answers 64 right after a snapshot and while a sandbox is rewound, and where it does every read answers what the copy has
+pub claim-still-clean : (g : Given) → Lent g → StillClean g
+claim-still-clean = still-clean
+
+-- every run over the table of "Still clean?" has the table's answers
+pub claim-still-clean-cases : AllGet stillClean
+claim-still-clean-cases = still-clean-get

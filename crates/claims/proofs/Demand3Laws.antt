@@ -13,6 +13,7 @@ use Rattle.interface.specs.Answers.{Answered}
 use Rattle.interface.specs.Requests.{Write, Snapshot, Rewind, pageOf}
 use Rattle.interface.specs.Slots.{Slots, isMapped, rightsAt}
 use Rattle.interface.specs.Limits.{within}
+use Rattle.interface.specs.Examples.{refused}
 use Rattle.frames.proofs.FrameLaws.{held-or}
 use Rattle.table.specs.Store.{entry, frontOf, backOf}
 use Rattle.areas.specs.Areas.{slots}
@@ -98,15 +99,19 @@ module _ (g : Given) (L : Lent g) (qs : List Request) (v : World) (A : Agrees (U
 
 -- ---- two lists
 
--- the answers say what was accepted
-took-then : (g : Given) (s call : ℕ) (qs : List Request) (q : Request) (rest : List Request) (as′ : List Answered)
-    → as′ ≡ answers g fresh (qs ++ q ∷ rest) → Took s call q as′ (length qs) → Then g s call qs q
+-- the answer at a request's place in the list is that of the plain machine after those before it
+pub answer-at : (g : Given) (qs : List Request) (q : Request) (rest : List Request) (as′ : List Answered)
+    → as′ ≡ answers g fresh (qs ++ q ∷ rest) → getD as′ (length qs) (refused 1) ≡ answer g (upTo g qs) q
 unfolding answers
-took-then g s call qs q rest as′ e t =
-    let z : getD as′ (length qs) (record { number = 1; value = 0 }) ≡ answer g (upTo g qs) q =
+answer-at g qs q rest as′ e =
     rw (e, answers-append g fresh qs (q ∷ rest))
-    (getD-at (answers g fresh qs) (answer g (upTo g qs) q) (answers g (after g (upTo g qs) q) rest)
-    (record { number = 1; value = 0 }) (length qs) (length-answers g fresh qs)) in
+    (getD-at (answers g fresh qs) (answer g (upTo g qs) q) (answers g (after g (upTo g qs) q) rest) (refused 1) (length qs) (length-answers g fresh qs))
+
+-- the answers say what was accepted
+pub took-then : (g : Given) (s call : ℕ) (qs : List Request) (q : Request) (rest : List Request) (as′ : List Answered)
+    → as′ ≡ answers g fresh (qs ++ q ∷ rest) → Took s call q as′ (length qs) → Then g s call qs q
+took-then g s call qs q rest as′ e t =
+    let z = answer-at g qs q rest as′ e in
     record { called = t .called; names = t .names; taken = sym (answer-number g (upTo g qs) q) ∙ sym (ap (λ (x : Answered). x .number) z) ∙ t .taken }
 
 pub demand-3 : (g : Given) → Lent g → Demand3 g

@@ -15,4 +15,6 @@ pub mod Runs
 pub mod Demand3Laws
 pub mod Roll
 pub mod TurnedBackLaws
+pub mod BacksLaws
+pub mod StillCleanLaws
 pub mod Claims

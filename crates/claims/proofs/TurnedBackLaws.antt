@@ -1,4 +1,4 @@
--- "Turned back" of the machine that runs: by demand 2 from the plain machine's table, and by the lent lengths alone.
+-- "Turned back" of the machine that runs: by demand 2 from the plain machine's tables, and by the lent lengths alone.
 use mathlib.Core.Path.{_≡_, refl, sym, ap₂, subst, _∙_}
 use mathlib.Core.Bool.{Bool, true, false, not, _&&_, false≢true}
 use mathlib.Core.List.{List, [], _∷_}
@@ -34,7 +34,8 @@ use Rattle.machine.proofs.CallLaws.{number-two, number-three}
 use Rattle.plain.specs.Machine.{Given, fresh, closed, valueAt, coreValue, held, answer, answers}
 use Rattle.plain.specs.Cases.{Case, casesOver, noImage, cases, sameAnswer, sameAnswers, allGiven}
 use Rattle.plain.specs.TurnedBack.{turnedBackCases}
-use Rattle.plain.proofs.Claims.{claim-cases, claim-turned-back}
+use Rattle.plain.specs.StillClean.{stillClean}
+use Rattle.plain.proofs.Claims.{claim-cases, claim-turned-back, claim-still-clean}
 use Rattle.claims.specs.Demands.{Lent}
 use Rattle.claims.specs.TurnedBack.{AllGet, AllGetLent, strayEntry, StrayEntry}
 use Rattle.claims.proofs.StepLaws.{number-is, refused-leaves}
@@ -42,7 +43,7 @@ use Rattle.claims.proofs.SoundLaws.{started-agrees}
 use Rattle.claims.proofs.Simulate.{step-answer}
 use Rattle.claims.proofs.Runs.{starts-lists, demand-2}
 
--- ---- the plain machine's table
+-- ---- the plain machine's tables
 
 same-answer : (a b : Answered) → sameAnswer a b ≡ true → a ≡ b
 same-answer a b e =
@@ -81,6 +82,10 @@ cases-get = all-get (casesOver noImage cases) refl claim-cases
 pub turned-back-get : AllGet turnedBackCases
 unfolding lentb
 turned-back-get = all-get turnedBackCases refl claim-turned-back
+
+pub still-clean-get : AllGet stillClean
+unfolding lentb
+still-clean-get = all-get stillClean refl claim-still-clean
 
 -- ---- row 3
 

@@ -20,6 +20,14 @@ use interface::page::PageNo;
 use interface::page::Slot;
 use state::sandbox::Sandbox;
 
+// Where a sandbox and its snapshot differ.
+pub struct Difference;
+
+impl Difference {
+    // "and 64 if they nowhere differ"
+    pub const NOWHERE: u8 = 64;
+}
+
 // Page by page, with a walk along the present areas and one along the snapshot's, up to the first page that differs; 64 where none does.
 pub fn lowest_difference(
     pool: &[u8],
@@ -64,7 +72,7 @@ pub fn lowest_difference(
             there = snapshot.list[q as usize];
         }
     }
-    64
+    Difference::NOWHERE
 }
 
 // Whether a page agrees with the snapshot's in being mapped, in rights and in bytes, from what stands there in both and from its front and back entries.

@@ -64,7 +64,7 @@ pub fn is_same(part: &[u8], other: &[u8]) -> bool
     ensures { λ r. ⌜ r ≡ sameBytes (length (now (part .entry))) (now (part .entry)) (now (other .entry)) ⌝ }
 {
     let mut same = true;
-    for i in 0..part.len() {
+    for i in 0..other.len() {
         same = same & (part[i] == other[i]);
     }
     same
