@@ -1,2 +1,4 @@
+-- In reading order.
 pub mod ReadingLaws
 pub mod CompareLaws
+pub mod UnchangedLaws

@@ -11,7 +11,10 @@ ghost use Rattle.table.specs.Store.{kept, pageIn, pageFrom, underFront, Ranged}
 ghost use Rattle.table.specs.Source.{sourceEnd};
 ghost use Rattle.rules.specs.Ready.{Ready};
 ghost use Rattle.content.specs.Content.{sourceOf, backingPage, differing};
+ghost use Rattle.content.specs.Unchanged.{stays, unchanged};
 use crate::read::source_of;
+use areas::area::Area;
+use areas::area::Areas;
 use areas::slot::backing_at;
 use areas::slot::is_committed;
 use areas::slot::is_mapped;
@@ -28,7 +31,7 @@ impl Difference {
     pub const NOWHERE: u8 = 64;
 }
 
-// Page by page, with a walk along the present areas and one along the snapshot's, up to the first page that differs; 64 where none does.
+// Page by page, up to the first page that differs. Where every area stands in the snapshot as it is, a page without a front is not even looked up.
 pub fn lowest_difference(
     pool: &[u8],
     table: &[u16],
@@ -45,34 +48,42 @@ pub fn lowest_difference(
 {
     let present = b.present;
     let snapshot = b.snapshot;
-    let mut p: u8 = 0;
-    let mut q: u8 = 0;
-    let mut here = present.list[0];
-    let mut there = snapshot.list[0];
+    let same = are_unchanged(present, snapshot);
     for i in 0..64u8 {
         let page = PageNo(i);
         let front = table::entry::front(table, s, page);
-        let back = table::entry::back(table, s, page);
-        if !agrees(
-            pool,
-            image,
-            here.slot_here(page),
-            there.slot_here(page),
-            front,
-            back,
-        ) {
-            return i;
-        }
-        if here.is_left(p, present.count, PageNo(i + 1)) {
-            p += 1;
-            here = present.list[p as usize];
-        }
-        if there.is_left(q, snapshot.count, PageNo(i + 1)) {
-            q += 1;
-            there = snapshot.list[q as usize];
+        if !(same & (front == 0)) {
+            let back = table::entry::back(table, s, page);
+            let slot = present.slot(page);
+            let copied = snapshot.slot(page);
+            if !agrees(pool, image, slot, copied, front, back) {
+                return i;
+            }
         }
     }
     Difference::NOWHERE
+}
+
+// Whether every area is committed and stands in the snapshot with the same pages and rights. All 8 places are looked at, which takes no branch.
+fn are_unchanged(present: Areas, snapshot: Areas) -> bool
+    ensures { λ r. ⌜ r ≡ unchanged present snapshot ⌝ }
+{
+    let mut same = true;
+    for k in 0..Area::MOST {
+        let area = present.list[k];
+        let copied = snapshot.list[k];
+        same = same & stays(area, copied);
+    }
+    same
+}
+
+// Whether the area is committed and has the same pages and rights in the snapshot, or there is none in both.
+fn stays(area: Area, copied: Area) -> bool
+    ensures { λ r. ⌜ r ≡ stays area copied ⌝ }
+{
+    let marked = area.committed | (area.pages == 0);
+    let placed = area.first.0 == copied.first.0;
+    placed & ((area.pages == copied.pages) & ((area.rights == copied.rights) & marked))
 }
 
 // Whether a page agrees with the snapshot's in being mapped, in rights and in bytes, from what stands there in both and from its front and back entries.
