@@ -1,18 +1,19 @@
 -- Where every area stays, a page can differ from the snapshot's by its bytes alone.
 use Prim.Native.Nat.{ℕ, zero, suc, _≤_, _<_}
-use mathlib.Core.Path.{_≡_, refl, sym, _∙_}
+use mathlib.Core.Path.{_≡_, refl, sym, ap, _∙_}
 use mathlib.Core.Bool.{Bool, true, false, _&&_, _||_, false≢true}
 use mathlib.Core.List.{List, [], _∷_}
 use native.Mathlib.Omega.{arith}
 use native.Mathlib.Decide.{decLt}
 use lib.Dec.{eqb}
 use lib.ListN.{getD}
-use borrow.Author.Tests.{eqb-true, eq-eqb}
+use borrow.Author.Tests.{eqb-true}
 use Rattle.basics.proofs.TestLaws.{by-cases, and-both}
 use Rattle.basics.proofs.LoopLaws.{every-at}
 use Rattle.basics.proofs.RangeLaws.{inside-past, inside-below}
 use Rattle.interface.specs.Slots.{isCommitted}
 use Rattle.interface.specs.Compare.{agree}
+use Rattle.interface.proofs.CompareLaws.{agree-self}
 use Rattle.areas.specs.declared.area.Area.{Area}
 use Rattle.areas.specs.declared.area.Areas.{Areas}
 use Rattle.areas.specs.Areas.{none, covers, slotIn, slots}
@@ -47,9 +48,9 @@ marked-here a c i S h =
     by-cases (a .committed) (λ t. t)
     (λ t. absurd (false≢true (sym (bare a i (eqb-true (a .pages) 0 (rw t at (S .marked)))) ∙ h)))
 
-module _ (i : ℕ) (x : Bool) where
-  go : (l m : List Area) → ((k : ℕ) → stays (getD l k none) (getD m k none) ≡ true) → (isCommitted (slotIn l i) ≡ true → x ≡ true)
-      → agree (slotIn l i) (slotIn m i) x ≡ true
+module _ (i : ℕ) (x y : Bool) where
+  go : (l m : List Area) → ((k : ℕ) → stays (getD l k none) (getD m k none) ≡ true) → (isCommitted (slotIn l i) ≡ true → x ≡ y)
+      → agree (slotIn l i) (slotIn l i) x ≡ agree (slotIn l i) (slotIn m i) y
   unfolding slotIn agree
   go [] [] s h = refl
   go [] (c ∷ m) s h =
@@ -63,17 +64,23 @@ module _ (i : ℕ) (x : Bool) where
       let S = stays-of a c (s 0) in
       let same : covers c i ≡ covers a i = rw (S .first, S .pages) in
       by-cases (covers a i)
-      (λ t. rw (t, same, t, eq-eqb (a .rights) (c .rights) (S .rights)) ((rw t at h) (marked-here a c i S t)))
+      (λ t. rw (t, same, t, S .rights) (ap (λ (z : Bool). eqb (c .rights) (c .rights) && z) ((rw t at h) (marked-here a c i S t))))
       (λ t. rw (t, same, t) (go l m (λ k. s (suc k)) (rw t at h)))
 
-pub unchanged-agrees : (present snapshot : Areas) → Formed present → Formed snapshot → unchanged present snapshot ≡ true → (i : ℕ) (x : Bool)
-    → (isCommitted (slots present i) ≡ true → x ≡ true) → agree (slots present i) (slots snapshot i) x ≡ true
-unfolding unchanged
-unchanged-agrees present snapshot F G u i x h = go i x (present .list) (snapshot .list) each h
-  where
-    each : (k : ℕ) → stays (getD (present .list) k none) (getD (snapshot .list) k none) ≡ true
-    each k = at (decLt k 8)
-      where
-        at : Dec (k < 8) → stays (getD (present .list) k none) (getD (snapshot .list) k none) ≡ true
-        at (yes l) = every-at _ 0 8 u k (omega arith) (omega arith)
-        at (no l) = rw (F .formed .rest k (omega (arith, F .formed .few)), G .formed .rest k (omega (arith, G .formed .few)))
+module _ (present snapshot : Areas) (F : Formed present) (G : Formed snapshot) (u : unchanged present snapshot ≡ true) (i : ℕ) where
+  -- a page may be compared with itself in place of the snapshot's, its bytes apart
+  pub alike-slots : (x y : Bool) → (isCommitted (slots present i) ≡ true → x ≡ y)
+      → agree (slots present i) (slots present i) x ≡ agree (slots present i) (slots snapshot i) y
+  unfolding unchanged
+  alike-slots x y h = go i x y (present .list) (snapshot .list) each h
+    where
+      each : (k : ℕ) → stays (getD (present .list) k none) (getD (snapshot .list) k none) ≡ true
+      each k = at (decLt k 8)
+        where
+          at : Dec (k < 8) → stays (getD (present .list) k none) (getD (snapshot .list) k none) ≡ true
+          at (yes l) = every-at _ 0 8 u k (omega arith) (omega arith)
+          at (no l) = rw (F .formed .rest k (omega (arith, F .formed .few)), G .formed .rest k (omega (arith, G .formed .few)))
+
+  -- a page whose bytes are the snapshot's, if it is committed, agrees
+  pub stays-alike : (x : Bool) → (isCommitted (slots present i) ≡ true → x ≡ true) → agree (slots present i) (slots snapshot i) x ≡ true
+  stays-alike x h = sym (alike-slots true x (λ m. sym (h m))) ∙ agree-self (slots present i)

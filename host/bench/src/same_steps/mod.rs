@@ -5,7 +5,7 @@
 //! - `lookup`: all 8 places are tried for a page, and all 8 lengths are counted;
 //! - `walk` and `soundness`: the test of soundness walks the areas along with the pages;
 //! - `rewind`: one look-up for each front;
-//! - `compare`: the same walk, and all bytes of a page are compared.
+//! - `compare`: the areas are compared first, and all bytes of two pages.
 
 #[path = "../unproved/areas.rs"]
 mod areas;

@@ -1,4 +1,5 @@
-//! "Still clean?": each page is looked up in the present areas and in the snapshot's.
+//! "Still clean?": where the areas are the snapshot's, only pages with a front are looked at; else
+//! each page is looked up in the present areas and in the snapshot's.
 
 use super::memory::Memory;
 use super::page::{PageNo, PAGES};
@@ -7,7 +8,10 @@ use super::sandbox::Sandbox;
 /// "the lowest page number at which the sandbox and its snapshot differ in being mapped, in
 /// rights or in bytes, and 64 if they nowhere differ".
 pub fn lowest_difference(sandbox: &Sandbox, memory: &Memory, s: usize) -> u32 {
-    let differs = |&page: &PageNo| !agrees(sandbox, memory, s, page);
+    // The snapshot's areas are committed, so these are too where they are the same.
+    let same = sandbox.snapshot.as_ref() == Some(&sandbox.present);
+    let passed = |page: PageNo| same && memory.front(s, page).is_none();
+    let differs = |&page: &PageNo| !passed(page) && !agrees(sandbox, memory, s, page);
     let lowest = (0..PAGES as u8).map(PageNo).find(differs);
     lowest.map_or(PAGES as u32, |page| u32::from(page.0))
 }
