@@ -31,8 +31,11 @@ source-there image images a f w i = go (backingAt (slots a i)) (image-exists ima
 
 -- one byte
 module _ (image : List ℕ) (q : Request) (b : Sandbox) (st : Store) where
-  pub read-is : (committed : Bool) (source : Source) (value : ℕ) → committed ≡ isCommitted (slots (b .present) (pageOf q)) → source ≡ sourceOf (backingAt (slots (b .present) (pageOf q)))
-      → value ≡ getD (pageFrom (underFront committed (sourceBytes image source) (contents 256 st (backOf (q .sandbox) (pageOf q)))) (contents 256 st (frontOf (q .sandbox) (pageOf q)))) (offsetOf q) 0
+  pub read-is : (committed : Bool) (source : Source) (value : ℕ)
+      → committed ≡ isCommitted (slots (b .present) (pageOf q)) → source ≡ sourceOf (backingAt (slots (b .present) (pageOf q)))
+      → let back = contents 256 st (backOf (q .sandbox) (pageOf q)) in
+      let front = contents 256 st (frontOf (q .sandbox) (pageOf q)) in
+      value ≡ getD (pageFrom (underFront committed (sourceBytes image source) back) front) (offsetOf q) 0
       → value ≡ getD (pageRead image st b (q .sandbox) (pageOf q)) (offsetOf q) 0
   unfolding pageRead pageUnder
   read-is committed source value c s v = v ∙ rw (c, s)

@@ -4,9 +4,11 @@ use mathlib.Core.Path.{_≡_, ap, _∙_}
 use mathlib.Core.Bool.{Bool}
 use mathlib.Core.List.{List}
 use lib.ListN.{length, take, drop}
-use Rattle.pages.specs.Parts.{frame, sameBytes}
+use Rattle.interface.specs.declared.page.ImagePageNo.{ImagePageNo}
+use Rattle.pages.specs.Parts.{zeros, frame, sameBytes}
 use Rattle.pages.proofs.PartLaws.{part-is-frame}
 use Rattle.table.specs.declared.source.Source.{Source}
+use Rattle.table.specs.declared.source.Source.the-variants.{Zero, Image}
 use Rattle.table.specs.Store.{pageIn, pageFrom}
 use Rattle.table.specs.Source.{sourceBytes}
 use Rattle.table.proofs.PageLaws.{page-there}
@@ -25,8 +27,11 @@ module _ (pool image : List ℕ) (e : ℕ) (source : Source) where
   at-frame f is d = part-is-frame 256 pool f ∙ ap (λ (n : ℕ). frame 256 pool n) is ∙ page-there 256 pool (sourceBytes image source) e d
 
   -- one that names none
-  pub at-source : (bytes : List ℕ) → e ≡ 0 → bytes ≡ sourceBytes image source → bytes ≡ pageOf pool image e source
-  at-source bytes z is = rw z is
+  pub at-zero : e ≡ 0 → source ≡ Zero → zeros 256 ≡ pageOf pool image e source
+  at-zero z is = rw (z, is)
+
+  pub at-image : (page : ImagePageNo) → e ≡ 0 → source ≡ Image page → lent image (page .0) ≡ pageOf pool image e source
+  at-image page z is = rw (z, is) (part-is-frame 256 image (page .0))
 
 -- a part compared with a page
 pub has-page : (part bytes page : List ℕ) (r : Bool) → length part ≡ 256 → bytes ≡ page → r ≡ sameBytes (length part) part bytes → r ≡ sameBytes 256 part page

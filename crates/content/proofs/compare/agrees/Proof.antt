@@ -87,7 +87,8 @@ returns-4 : tie.Need-returns-4
 returns-4 c =
     let s = behindRights (c .before .before) in
     let a = s .args in
-    sym (passed-over (a .image .now) (a .pool .now) (a .present) (a .snapshot) (a .front) (a .back) (rw (c .before .is-committed .ensures) at (c .if4 .taken)) (s .pre .1 .1 .1 .1 .1 .1))
+    sym (passed-over (a .image .now) (a .pool .now) (a .present) (a .snapshot) (a .front) (a .back)
+    (rw (c .before .is-committed .ensures) at (c .if4 .taken)) (s .pre .1 .1 .1 .1 .1 .1))
     ∙ decided (c .before .before)
 
 backing-at-requires : tie.Need-backing-at-requires

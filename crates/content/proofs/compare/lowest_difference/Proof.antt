@@ -113,13 +113,15 @@ module _ (s : Start) (i : ℕ) (stay : Bool) where
       (λ t. rw t)
 
 -- any other page is compared
-compared : (c : tie.After-agrees Inv-loop μ-loop) → c .agrees .result ≡ ofIn (behind (c .before .before .before .before .before .before)) (c .before .before .before .before .before .before .before .loop .i)
+compared : (c : tie.After-agrees Inv-loop μ-loop)
+    → c .agrees .result ≡ ofIn (behind (c .before .before .before .before .before .before)) (c .before .before .before .before .before .before .before .loop .i)
 compared c =
     let s = behind (c .before .before .before .before .before .before) in
     let l = c .before .before .before .before .before .before .before .loop in
     let all = c .before .before .before .before .before .before .before .before .are-unchanged in
+    let front = c .before .before .before .before .before .front .ensures in
     c .agrees .ensures
-    ∙ rw (c .before .copied-slot .ensures, c .before .before .slot .ensures, c .before .before .before .back .ensures, c .before .before .before .before .before .front .ensures)
+    ∙ rw (c .before .copied-slot .ensures, c .before .before .slot .ensures, c .before .before .before .back .ensures, front)
     (copied-agrees s (l .i) (all .result) (all .ensures))
 
 -- either way the page agrees
@@ -127,7 +129,8 @@ agreed : (c : tie.Joined1 Inv-loop μ-loop) → ofIn (behind (c .before .before)
 agreed c =
     ⊎-elim
     (λ w.
-    let looked : tie.After-copied-slot Inv-loop μ-loop = record { before = record { before = record { before = record { before = c .before; if1 = w .0 }; back = w .1 }; slot = w .2 }; copied-slot = w .3 } in
+    let found : tie.After-slot Inv-loop μ-loop = record { before = record { before = record { before = c .before; if1 = w .0 }; back = w .1 }; slot = w .2 } in
+    let looked : tie.After-copied-slot Inv-loop μ-loop = record { before = found; copied-slot = w .3 } in
     sym (compared (record { before = looked; agrees = w .4 })) ∙ not-false _ (w .5 .left))
     (λ w. passed (record { before = c .before; if1 = w }))
     (c .if1 .came)

@@ -1,7 +1,8 @@
 use mathlib.Core.Path.{ap, _∙_}
-use Prim.Native.Nat.{_/_}
+use Prim.Native.Nat.{_/_, _<_}
 use Rattle.interface.specs.Slots.{isCommitted, backingAt}
 use Rattle.table.specs.Store.{kept}
+use Rattle.areas.specs.Areas.{Near}
 use Rattle.areas.proofs.FormedLaws.{near}
 use Rattle.rules.proofs.FitLaws.{page-small}
 use Rattle.content.specs.Content.{sourceOf}
@@ -10,11 +11,20 @@ use borrow.Author.Needs.{needs}
 use Rattle.content.proofs.read.read.Statement.{statement}
 use Rattle.content.proofs.read.read.Tie as tie
 
+-- the present areas, and the page of the address
+near-present : (s : tie.Start) → Near (s .args .b .present .list)
+near-present s = near (s .args .images) (s .args .b .present) (s .pre .1 .1 .1 .0 .present) (s .pre .1 .1 .1 .0 .few)
+
+small : (s : tie.Start) → s .args .q .p1 / 256 < 64
+small s = page-small (s .args .q .p1) (s .pre .1 .1 .0 .read (s .pre .0))
+
 cast-read-byte : tie.Need-cast-read-byte
 cast-read-byte c = search needs
 
 slot-requires : tie.Need-slot-requires
-slot-requires c κs = (near (c .before .before .before .before .before .args .images) (c .before .before .before .before .before .args .b .present) (c .before .before .before .before .before .pre .1 .1 .1 .0 .present) (c .before .before .before .before .before .pre .1 .1 .1 .0 .few), page-small (c .before .before .before .before .before .args .q .p1) (c .before .before .before .before .before .pre .1 .1 .0 .read (c .before .before .before .before .before .pre .0)))
+slot-requires c κs =
+    let s = c .before .before .before .before .before in
+    (near-present s, small s)
 
 backing-at-requires : tie.Need-backing-at-requires
 backing-at-requires c κs = search needs
@@ -32,10 +42,22 @@ cast-read-byte-3 : tie.Need-cast-read-byte-3
 cast-read-byte-3 c = search needs
 
 read-byte-requires : tie.Need-read-byte-requires
-read-byte-requires c κs = (c .before .before .before .before .before .before .before .before .before .before .before .pre .1 .0, (page-small (c .before .before .before .before .before .before .before .before .before .before .before .args .q .p1) (c .before .before .before .before .before .before .before .before .before .before .before .pre .1 .1 .0 .read (c .before .before .before .before .before .before .before .before .before .before .before .pre .0)), (c .before .before .before .before .before .before .before .before .before .before .before .pre .1 .1 .1 .1 .1, rw (c .before .before .before .source-of .ensures ∙ ap sourceOf (c .before .before .before .before .backing-at .ensures ∙ ap backingAt (c .before .before .before .before .before .slot .ensures))) (source-there (c .before .before .before .before .before .before .before .before .before .before .before .args .image .now) (c .before .before .before .before .before .before .before .before .before .before .before .args .images) (c .before .before .before .before .before .before .before .before .before .before .before .args .b .present) (c .before .before .before .before .before .before .before .before .before .before .before .pre .1 .1 .1 .0 .present) (c .before .before .before .before .before .before .before .before .before .before .before .pre .1 .1 .1 .1 .0) (c .before .before .before .before .before .before .before .before .before .before .before .args .q .p1 / 256)))))
+read-byte-requires c κs =
+    let s = c .before .before .before .before .before .before .before .before .before .before .before in
+    let slot = c .before .before .before .before .before .slot .ensures in
+    let source = c .before .before .before .source-of .ensures ∙ ap sourceOf (c .before .before .before .before .backing-at .ensures ∙ ap backingAt slot) in
+    let there = source-there (s .args .image .now) (s .args .images) (s .args .b .present) (s .pre .1 .1 .1 .0 .present) (s .pre .1 .1 .1 .1 .0) in
+    (s .pre .1 .0, (small s, (s .pre .1 .1 .1 .1 .1, rw source (there (s .args .q .p1 / 256)))))
 
 returns : tie.Need-returns
-returns c = λ h. read-is (c .before .before .before .before .before .before .before .before .before .before .before .before .args .image .now) (c .before .before .before .before .before .before .before .before .before .before .before .before .args .q) (c .before .before .before .before .before .before .before .before .before .before .before .before .args .b) (kept h (c .before .before .before .before .before .before .before .before .before .before .before .before .args .pool .now) (c .before .before .before .before .before .before .before .before .before .before .before .before .args .table .now)) (c .before .before .is-committed .result) (c .before .before .before .before .source-of .result) (c .read-byte .result) (c .before .before .is-committed .ensures ∙ ap isCommitted (c .before .before .before .before .before .before .slot .ensures)) (c .before .before .before .before .source-of .ensures ∙ ap sourceOf (c .before .before .before .before .before .backing-at .ensures ∙ ap backingAt (c .before .before .before .before .before .before .slot .ensures))) (c .read-byte .ensures h)
+returns c = λ h.
+    let s = c .before .before .before .before .before .before .before .before .before .before .before .before in
+    let slot = c .before .before .before .before .before .before .slot .ensures in
+    let committed = c .before .before .is-committed in
+    let source = c .before .before .before .before .source-of in
+    read-is (s .args .image .now) (s .args .q) (s .args .b) (kept h (s .args .pool .now) (s .args .table .now)) (committed .result) (source .result)
+    (c .read-byte .result) (committed .ensures ∙ ap isCommitted slot)
+    (source .ensures ∙ ap sourceOf (c .before .before .before .before .before .backing-at .ensures ∙ ap backingAt slot)) (c .read-byte .ensures h)
 
 pub read-spec : {M : Type 1} → statement M
 read-spec =

@@ -1,9 +1,8 @@
 use mathlib.Core.Path.{ap}
 use native.Mathlib.Omega.{arith}
-use Rattle.pages.proofs.PartLaws.{part-is-frame}
 use Rattle.pages.specs.Parts.{zeros}
 use Rattle.table.specs.Source.{sourceEnd}
-use Rattle.table.proofs.CompareLaws.{lent, at-frame, at-source, has-page}
+use Rattle.table.proofs.CompareLaws.{at-frame, at-zero, at-image, has-page}
 use borrow.Author.Needs.{needs}
 use Rattle.table.proofs.compare.has_page.Statement.{statement}
 use Rattle.table.proofs.compare.has_page.Tie as tie
@@ -36,7 +35,8 @@ returns : tie.Need-returns
 returns c =
     let s = c .before .before .before .before .before .before .before .before in
     let f = c .before .before .before .frame-of in
-    let here = at-frame (s .args .pool .now) (s .args .image .now) (s .args .entry) (s .args .source) (f .result .0) (f .ensures) (c .before .before .before .before .if1 .taken) in
+    let named = c .before .before .before .before .if1 .taken in
+    let here = at-frame (s .args .pool .now) (s .args .image .now) (s .args .entry) (s .args .source) (f .result .0) (f .ensures) named in
     has-page (s .args .part .now) _ _ (c .is-same .result) (s .pre .0) here (c .is-same .ensures)
 
 enum-told : tie.Need-enum-told
@@ -77,7 +77,7 @@ unfolding zeros
 returns-2 c =
     let s = c .before .before .before .before .before .before .before .before in
     let none = c .before .before .before .before .if1 .left in
-    let here = at-source (s .args .pool .now) (s .args .image .now) (s .args .entry) (s .args .source) (zeros 256) none (rw (c .before .before .enum-told .given .1)) in
+    let here = at-zero (s .args .pool .now) (s .args .image .now) (s .args .entry) (s .args .source) none (c .before .before .enum-told .given .1) in
     has-page (s .args .part .now) _ _ (c .is-same2 .result) (s .pre .0) here (c .is-same2 .ensures)
 
 returns-3 : tie.Need-returns-3
@@ -85,8 +85,7 @@ returns-3 c =
     let s = c .before .before .before .before .before .before .before .before .before .before in
     let none = c .before .before .before .before .before .before .if1 .left in
     let known = c .before .before .before .before .source .given in
-    let page = lent (s .args .image .now) (known .0 .0 .0) in
-    let here = at-source (s .args .pool .now) (s .args .image .now) (s .args .entry) (s .args .source) page none (rw (known .1) (part-is-frame 256 (s .args .image .now) (known .0 .0 .0))) in
+    let here = at-image (s .args .pool .now) (s .args .image .now) (s .args .entry) (s .args .source) (known .0 .0) none (known .1) in
     has-page (s .args .part .now) _ _ (c .is-same3 .result) (s .pre .0) here (c .is-same3 .ensures)
 
 pub has-page-spec : {M : Type 1} → statement M

@@ -3,9 +3,8 @@ use mathlib.Core.List.{List}
 use Prim.Native.Nat.{ℕ}
 use native.Mathlib.Omega.{arith}
 use Rattle.pages.specs.Parts.{zeros}
-use Rattle.pages.proofs.PartLaws.{part-is-frame}
 use Rattle.table.specs.Source.{sourceEnd}
-use Rattle.table.proofs.CompareLaws.{lent, pageOf, at-frame, at-source, same-as}
+use Rattle.table.proofs.CompareLaws.{lent, pageOf, at-frame, at-zero, at-image, same-as}
 use borrow.Author.Needs.{needs}
 use Rattle.table.proofs.compare.same_pages.Statement.{statement}
 use Rattle.table.proofs.compare.same_pages.Tie as tie
@@ -45,7 +44,8 @@ returns : tie.Need-returns
 returns c =
     let s = c .before .before .before .before .before .before .before in
     let f = c .before .before .before .frame-of in
-    let here = at-frame (s .args .pool .now) (s .args .image .now) (s .args .entry) (s .args .source) (f .result .0) (f .ensures) (c .before .before .before .before .if1 .taken) in
+    let named = c .before .before .before .before .if1 .taken in
+    let here = at-frame (s .args .pool .now) (s .args .image .now) (s .args .entry) (s .args .source) (f .result .0) (f .ensures) named in
     same-as (lent (s .args .pool .now) (f .result .0)) (mine s) (twin s) (c .has-page .result) here (c .has-page .ensures)
 
 enum-told : tie.Need-enum-told
@@ -86,7 +86,7 @@ unfolding zeros
 returns-2 c =
     let s = c .before .before .before .before .before .before .before in
     let none = c .before .before .before .before .if1 .left in
-    let here = at-source (s .args .pool .now) (s .args .image .now) (s .args .entry) (s .args .source) (zeros 256) none (rw (c .before .before .enum-told .given .1)) in
+    let here = at-zero (s .args .pool .now) (s .args .image .now) (s .args .entry) (s .args .source) none (c .before .before .enum-told .given .1) in
     same-as (zeros 256) (mine s) (twin s) (c .has-page2 .result) here (c .has-page2 .ensures)
 
 returns-3 : tie.Need-returns-3
@@ -95,7 +95,7 @@ returns-3 c =
     let none = c .before .before .before .before .before .before .if1 .left in
     let known = c .before .before .before .before .source .given in
     let page = lent (s .args .image .now) (known .0 .0 .0) in
-    let here = at-source (s .args .pool .now) (s .args .image .now) (s .args .entry) (s .args .source) page none (rw (known .1) (part-is-frame 256 (s .args .image .now) (known .0 .0 .0))) in
+    let here = at-image (s .args .pool .now) (s .args .image .now) (s .args .entry) (s .args .source) (known .0 .0) none (known .1) in
     same-as page (mine s) (twin s) (c .has-page3 .result) here (c .has-page3 .ensures)
 
 pub same-pages-spec : {M : Type 1} → statement M
