@@ -1,5 +1,4 @@
 -- What the code tests of the areas before it looks at a page: where every area stands in the snapshot as it is, only a page with a front can differ.
-use Prim.Native.Nat.{ℕ}
 use mathlib.Core.Bool.{Bool, _&&_, _||_}
 use lib.Dec.{eqb}
 use lib.ListN.{getD}

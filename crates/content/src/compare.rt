@@ -3,14 +3,12 @@ ghost use mathlib.Core.Path.{_≡_};
 ghost use mathlib.Core.Bool.{true};
 ghost use Prim.Native.Nat.{_*_, _≤_, _<_};
 ghost use lib.ListN.{length};
-ghost use Rattle.basics.specs.Choice.{_when_else_};
 ghost use Rattle.interface.specs.Slots.{isCommitted, backingAt};
 ghost use Rattle.interface.specs.Compare.{agree};
 ghost use Rattle.frames.specs.declared.Held.{Held as Words};
 ghost use Rattle.pages.specs.Parts.{sameBytes};
 ghost use Rattle.table.specs.Store.{kept, pageIn, pageFrom, underFront, Ranged};
 ghost use Rattle.table.specs.Source.{sourceEnd};
-ghost use Rattle.areas.specs.Areas.{slots, Near};
 ghost use Rattle.rules.specs.Ready.{Ready};
 ghost use Rattle.content.specs.Content.{sourceOf, backingPage, differing};
 ghost use Rattle.content.specs.Unchanged.{stays, unchanged};
@@ -57,9 +55,15 @@ pub fn lowest_difference(
         if !(same & (front == 0)) {
             let back = table::entry::back(table, s, page);
             let slot = present.slot(page);
-            let copied = copied_slot(same, slot, snapshot, page);
-            if !agrees(pool, image, slot, copied, front, back) {
-                return i;
+            if same {
+                if !agrees(pool, image, slot, slot, front, back) {
+                    return i;
+                }
+            } else {
+                let copied = snapshot.slot(page);
+                if !agrees(pool, image, slot, copied, front, back) {
+                    return i;
+                }
             }
         }
     }
@@ -77,18 +81,6 @@ fn are_unchanged(present: Areas, snapshot: Areas) -> bool
         same = same & stays(area, copied);
     }
     same
-}
-
-// What to compare a page with: where every area stays, what stands there itself.
-fn copied_slot(same: bool, slot: Slot, snapshot: Areas, page: PageNo) -> Slot
-    requires { ⌜ Near (snapshot .list) ⌝ }
-    requires { ⌜ page .0 < 64 ⌝ }
-    ensures { λ r. ⌜ r ≡ (slot when same else slots snapshot (page .0)) ⌝ }
-{
-    if same {
-        return slot;
-    }
-    snapshot.slot(page)
 }
 
 // Whether the area is committed and has the same pages and rights in the snapshot, or there is none in both.

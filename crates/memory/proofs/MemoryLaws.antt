@@ -8,8 +8,6 @@ use lib.Dec.{eqb}
 use lib.ListN.{length}
 use borrow.Author.Tests.{eqb-true, eq-eqb, ne-eqb}
 use Rattle.basics.proofs.TestLaws.{by-cases, and-left, and-right}
-use Rattle.interface.specs.declared.page.Backing.{Backing}
-use Rattle.interface.specs.declared.page.Backing.the-variants.{Anonymous, Image}
 use Rattle.interface.specs.declared.request.Request.{Request}
 use Rattle.interface.specs.Requests.{_is_, Unmap, Write, Snapshot, Rewind, pageOf, offsetOf}
 use Rattle.interface.specs.Slots.{isCommitted, backingAt}
@@ -19,11 +17,8 @@ use Rattle.table.specs.Source.{sourceBytes, sourceEnd}
 use Rattle.table.proofs.StoreLaws.{taken}
 use Rattle.table.proofs.FiledLaws.{filed-ranged}
 use Rattle.table.proofs.TouchLaws.{source-whole, under-whole}
-use Rattle.areas.specs.declared.area.Areas.{Areas}
 use Rattle.areas.specs.Areas.{slots}
-use Rattle.areas.specs.Formed.{WellFormed, ImagesExist}
 use Rattle.state.specs.declared.sandbox.Sandbox.{Sandbox}
-use Rattle.state.proofs.NearLaws.{image-exists}
 use Rattle.content.specs.Content.{sourceOf, pageUnder, copyPage}
 use Rattle.memory.specs.Memory.{touched, keepsFront, storeAfter}
 use Rattle.memory.specs.Parts.{StoreStepped, TouchStepped}

@@ -3,27 +3,21 @@ use native.Mathlib.Omega.{arith}
 use Prim.Native.Nat.{ℕ, _-_, _*_, _≤_}
 use mathlib.Core.Path.{_≡_, refl, sym, ap, _∙_}
 use mathlib.Core.Logic.{⊎-elim}
-use mathlib.Core.Bool.{Bool, true, not, _&&_}
+use mathlib.Core.Bool.{Bool, true, not}
 use mathlib.Core.List.{List}
 use lib.ListN.{length, getD}
 use borrow.Author.Tests.{not-false}
-use borrow.Author.Needs.{needs}
-use Rattle.basics.specs.Choice.{_when_else_}
 use Rattle.basics.specs.Ranges.{lowest}
-use Rattle.basics.proofs.TestLaws.{by-cases, when-cases, and-left, and-right, and-of}
+use Rattle.basics.proofs.TestLaws.{and-left, and-right, and-of}
 use Rattle.basics.proofs.LoopLaws.{lowest-next, lowest-stop, lowest-end}
-use Rattle.interface.specs.declared.page.Slot.{Slot}
-use Rattle.interface.specs.Slots.{isCommitted, backingAt}
 use Rattle.interface.specs.Compare.{agree, lowestDifference}
 use Rattle.pages.specs.Parts.{sameBytes}
 use Rattle.table.specs.Store.{frontOf, backOf, contents}
-use Rattle.table.specs.Source.{sourceEnd}
 use Rattle.areas.specs.declared.area.Areas.{Areas}
 use Rattle.areas.specs.Areas.{slots}
-use Rattle.areas.specs.Formed.{WellFormed}
 use Rattle.areas.specs.Walk.{Formed}
 use Rattle.areas.proofs.WalkLaws.{settled, near-formed}
-use Rattle.content.specs.Content.{sourceOf, pageUnder, pageRead, copyRead, differing}
+use Rattle.content.specs.Content.{pageUnder, pageRead, copyRead, differing}
 use Rattle.content.specs.Unchanged.{unchanged}
 use Rattle.content.proofs.ReadingLaws.{source-there}
 use Rattle.content.proofs.CompareLaws.{readsNow, readsCopied, passed-over}
@@ -68,6 +62,15 @@ behind c = c .before .before .before .before .before .before .before .before
 
 -- ---- a turn of the loop
 
+-- its entries name frames of the pool or none
+entries : (s : Start) (i : ℕ) → let at : ℕ → ℕ = λ k. getD (s .args .table .now) k 0 in
+    let room = length (s .args .pool .now) in
+    (at (frontOf (s .args .s) i) ≤ 128) × (at (frontOf (s .args .s) i) * 256 ≤ room) × (at (backOf (s .args .s) i) ≤ 128)
+    × (at (backOf (s .args .s) i) * 256 ≤ room)
+entries s i =
+    let ranged = s .pre .1 .1 .1 in
+    (ranged .few (frontOf (s .args .s) i), ranged .room (frontOf (s .args .s) i), ranged .few (backOf (s .args .s) i), ranged .room (backOf (s .args .s) i))
+
 -- a page without a front, where every area stays
 passed : (c : tie.Else1 Inv-loop μ-loop) → ofIn (behind (c .before .before)) (c .before .before .before .loop .i) ≡ true
 passed c =
@@ -82,57 +85,49 @@ passed c =
     (λ m. passed-over (s .args .image .now) (s .args .pool .now) (slots (s .args .b .present) i) (slots (s .args .b .snapshot) i)
     (entry (frontOf (s .args .s) i)) (entry (backOf (s .args .s) i)) (and-of m none) (s .pre .1 .0 .backing i))
 
--- what a page is compared with: where every area stays, itself
-module _ (s : Start) (i : ℕ) (stay : Bool) where
-  abbrev mine : Slot
-  mine = slots (s .args .b .present) i
+-- where every area stays, a page with a front is compared with what stands there itself
+itself : (s : Start) (i : ℕ) → unchanged (s .args .b .present) (s .args .b .snapshot) ≡ true
+    → let mine = slots (s .args .b .present) i in
+    let front = getD (s .args .table .now) (frontOf (s .args .s) i) 0 in
+    let back = getD (s .args .table .now) (backOf (s .args .s) i) 0 in
+    agree mine mine
+    (sameBytes 256 (readsNow (s .args .image .now) (s .args .pool .now) mine mine front back)
+    (readsCopied (s .args .image .now) (s .args .pool .now) mine mine front back))
+    ≡ ofIn s i
+itself s i u = alike-slots (s .args .b .present) (s .args .b .snapshot) (formed s) (formed-copy s) u i _ _ (λ m. rw (s .pre .1 .0 .backing i m))
 
-  abbrev copied : Slot
-  copied = mine when stay else slots (s .args .b .snapshot) i
-
-  copied-there : sourceEnd (sourceOf (backingAt copied)) * 256 ≤ length (s .args .image .now)
-  copied-there =
-      let there : (a : Areas) → WellFormed (s .args .images) a → sourceEnd (sourceOf (backingAt (slots a i))) * 256 ≤ length (s .args .image .now) =
-      λ a w. source-there (s .args .image .now) (s .args .images) a w (s .pre .1 .1 .0) i in
-      when-cases (λ x. sourceEnd (sourceOf (backingAt x)) * 256 ≤ length (s .args .image .now)) stay
-      (λ _. there (s .args .b .present) (s .pre .1 .0 .present)) (λ _. there (s .args .b .snapshot) (s .pre .1 .0 .snapshot))
-
-  copied-backing : isCommitted mine ≡ true → backingAt mine ≡ backingAt copied
-  copied-backing m = when-cases (λ x. backingAt mine ≡ backingAt x) stay (λ _. refl) (λ _. s .pre .1 .0 .backing i m)
-
-  copied-agrees : stay ≡ unchanged (s .args .b .present) (s .args .b .snapshot)
-      → let front = getD (s .args .table .now) (frontOf (s .args .s) i) 0 in
-      let back = getD (s .args .table .now) (backOf (s .args .s) i) 0 in
-      agree mine copied
-      (sameBytes 256 (readsNow (s .args .image .now) (s .args .pool .now) mine copied front back)
-      (readsCopied (s .args .image .now) (s .args .pool .now) mine copied front back))
-      ≡ ofIn s i
-  copied-agrees e =
-      by-cases stay
-      (λ t. rw t (alike-slots (s .args .b .present) (s .args .b .snapshot) (formed s) (formed-copy s) (sym e ∙ t) i _ _ (λ m. rw (s .pre .1 .0 .backing i m))))
-      (λ t. rw t)
-
--- any other page is compared
-compared : (c : tie.After-agrees Inv-loop μ-loop)
+compared-itself : (c : tie.After-agrees Inv-loop μ-loop)
     → c .agrees .result ≡ ofIn (behind (c .before .before .before .before .before .before)) (c .before .before .before .before .before .before .before .loop .i)
-compared c =
+compared-itself c =
     let s = behind (c .before .before .before .before .before .before) in
     let l = c .before .before .before .before .before .before .before .loop in
     let all = c .before .before .before .before .before .before .before .before .are-unchanged in
     let front = c .before .before .before .before .before .front .ensures in
     c .agrees .ensures
-    ∙ rw (c .before .copied-slot .ensures, c .before .before .slot .ensures, c .before .before .before .back .ensures, front)
-    (copied-agrees s (l .i) (all .result) (all .ensures))
+    ∙ rw (c .before .before .slot .ensures, c .before .before .before .back .ensures, front) (itself s (l .i) (sym (all .ensures) ∙ c .before .if2 .taken))
 
--- either way the page agrees
+-- else with the snapshot's
+compared : (c : tie.After-agrees2 Inv-loop μ-loop) → c .agrees2 .result
+    ≡ ofIn (behind (c .before .before .before .before .before .before .before)) (c .before .before .before .before .before .before .before .before .loop .i)
+compared c =
+    let front = c .before .before .before .before .before .before .front .ensures in
+    c .agrees2 .ensures ∙ rw (c .before .slot2 .ensures, c .before .before .before .slot .ensures, c .before .before .before .before .back .ensures, front)
+
+-- any way the page agrees
 agreed : (c : tie.Joined1 Inv-loop μ-loop) → ofIn (behind (c .before .before)) (c .before .before .before .loop .i) ≡ true
 agreed c =
     ⊎-elim
     (λ w.
     let found : tie.After-slot Inv-loop μ-loop = record { before = record { before = record { before = c .before; if1 = w .0 }; back = w .1 }; slot = w .2 } in
-    let looked : tie.After-copied-slot Inv-loop μ-loop = record { before = found; copied-slot = w .3 } in
-    sym (compared (record { before = looked; agrees = w .4 })) ∙ not-false _ (w .5 .left))
+    let stays : tie.Then2 Inv-loop μ-loop = record { before = found; if2 = w .3 } in
+    sym (compared-itself (record { before = stays; agrees = w .4 })) ∙ not-false _ (w .5 .left))
+    (λ v. ⊎-elim
+    (λ w.
+    let found : tie.After-slot Inv-loop μ-loop = record { before = record { before = record { before = c .before; if1 = w .0 }; back = w .1 }; slot = w .2 } in
+    let both : tie.After-slot2 Inv-loop μ-loop = record { before = record { before = found; if2 = w .3 }; slot2 = w .4 } in
+    sym (compared (record { before = both; agrees2 = w .5 })) ∙ not-false _ (w .6 .left))
     (λ w. passed (record { before = c .before; if1 = w }))
+    v)
     (c .if1 .came)
 
 -- ---- the needs
@@ -154,36 +149,15 @@ slot-requires c κs =
     let s = behind (c .before .before .before) in
     (near-formed (s .args .b .present) (formed s), c .before .before .before .loop-test .taken)
 
-copied-slot-requires : tie.Need-copied-slot-requires Inv-loop μ-loop
-copied-slot-requires c κs =
-    let s = behind (c .before .before .before .before) in
-    (near-formed (s .args .b .snapshot) (formed-copy s), c .before .before .before .before .loop-test .taken)
-
 agrees-requires : tie.Need-agrees-requires Inv-loop μ-loop
 agrees-requires c κs =
     let s = behind (c .before .before .before .before .before) in
     let i = c .before .before .before .before .before .before .loop .i in
-    let stay = c .before .before .before .before .before .before .before .are-unchanged .result in
-    let ranged = s .pre .1 .1 .1 in
-    rw (c .copied-slot .ensures, c .before .slot .ensures, c .before .before .back .ensures, c .before .before .before .before .front .ensures) (
-      ranged .few (frontOf (s .args .s) i),
-      (
-        ranged .room (frontOf (s .args .s) i),
-        (
-          ranged .few (backOf (s .args .s) i),
-          (
-            ranged .room (backOf (s .args .s) i),
-            (
-              source-there (s .args .image .now) (s .args .images) (s .args .b .present) (s .pre .1 .0 .present) (s .pre .1 .1 .0) i,
-              (
-                copied-there s i stay,
-                copied-backing s i stay,
-              ),
-            ),
-          ),
-        ),
-      ),
-    )
+    let front = c .before .before .before .before .front .ensures in
+    let source = source-there (s .args .image .now) (s .args .images) (s .args .b .present) (s .pre .1 .0 .present) (s .pre .1 .1 .0) i in
+    let named = entries s i in
+    rw (c .before .slot .ensures, c .before .before .back .ensures, front)
+    (named .0, (named .1, (named .2, (named .3, (source, (source, λ m. refl))))))
 
 returns : tie.Need-returns Inv-loop μ-loop
 unfolding differing lowestDifference pageRead pageUnder copyRead contents
@@ -191,7 +165,32 @@ returns c = λ h.
     let s = behind (c .before .before .before .before .before .before .before) in
     let l = c .before .before .before .before .before .before .before .before .loop in
     let test = c .before .before .before .before .before .before .before .loop-test .taken in
-    sym (l .inv .1 ∙ lowest-stop (λ k. not (ofIn s k)) 64 (l .i) test (ap not (sym (compared (c .before))) ∙ c .if2 .taken))
+    sym (l .inv .1 ∙ lowest-stop (λ k. not (ofIn s k)) 64 (l .i) test (ap not (sym (compared-itself (c .before))) ∙ c .if3 .taken))
+
+slot-requires-2 : tie.Need-slot-requires-2 Inv-loop μ-loop
+slot-requires-2 c κs =
+    let s = behind (c .before .before .before .before .before) in
+    (near-formed (s .args .b .snapshot) (formed-copy s), c .before .before .before .before .before .loop-test .taken)
+
+agrees-requires-2 : tie.Need-agrees-requires-2 Inv-loop μ-loop
+agrees-requires-2 c κs =
+    let s = behind (c .before .before .before .before .before .before) in
+    let i = c .before .before .before .before .before .before .before .loop .i in
+    let front = c .before .before .before .before .before .front .ensures in
+    let ready = s .pre .1 .0 in
+    let source = source-there (s .args .image .now) (s .args .images) (s .args .b .present) (ready .present) (s .pre .1 .1 .0) i in
+    let copied = source-there (s .args .image .now) (s .args .images) (s .args .b .snapshot) (ready .snapshot) (s .pre .1 .1 .0) i in
+    let named = entries s i in
+    rw (c .slot2 .ensures, c .before .before .slot .ensures, c .before .before .before .back .ensures, front)
+    (named .0, (named .1, (named .2, (named .3, (source, (copied, ready .backing i))))))
+
+returns-2 : tie.Need-returns-2 Inv-loop μ-loop
+unfolding differing lowestDifference pageRead pageUnder copyRead contents
+returns-2 c = λ h.
+    let s = behind (c .before .before .before .before .before .before .before .before) in
+    let l = c .before .before .before .before .before .before .before .before .before .loop in
+    let test = c .before .before .before .before .before .before .before .before .loop-test .taken in
+    sym (l .inv .1 ∙ lowest-stop (λ k. not (ofIn s k)) 64 (l .i) test (ap not (sym (compared (c .before))) ∙ c .if4 .taken))
 
 add-i : tie.Need-add-i Inv-loop μ-loop
 add-i c = omega arith
@@ -206,9 +205,9 @@ loop-again c =
     let test = c .before .before .loop-test .taken in
     (omega (arith, test), l .inv .1 ∙ lowest-next (λ k. not (ofIn s k)) 64 (l .i) test (ap not (agreed c)))
 
-returns-2 : tie.Need-returns-2 Inv-loop μ-loop
+returns-3 : tie.Need-returns-3 Inv-loop μ-loop
 unfolding differing lowestDifference pageRead pageUnder copyRead contents
-returns-2 c = λ h.
+returns-3 c = λ h.
     let s = c .before .before .before .before .before .before .before .before in
     let l = c .before .loop in
     sym (l .inv .1 ∙ lowest-end (λ k. not (ofIn s k)) 64 (l .i) (c .loop-test .left) ∙ omega arith)
@@ -224,10 +223,12 @@ lowest-difference-spec =
     front-requires
     back-requires
     slot-requires
-    copied-slot-requires
     agrees-requires
     returns
+    slot-requires-2
+    agrees-requires-2
+    returns-2
     add-i
     loop-less
     loop-again
-    returns-2)
+    returns-3)
