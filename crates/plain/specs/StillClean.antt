@@ -19,7 +19,7 @@ stillCleanRolls =
     (call₁ Open 8 gives ok 0 ∷ mapAt 0 2 gives ok 0 ∷ call Snapshot gives ok 2 ∷ call₃ Protect 1 1 1 gives ok 0 ∷ call Compare gives ok 1 ∷
     call₃ Protect 1 1 3 gives ok 0 ∷ call Compare gives ok 64 ∷ []) ∷
     -- "comparing all 64 pages": the last byte of the last page, and put back
-    (call₁ Open 128 gives ok 0 ∷ mapAt 0 64 gives ok 0 ∷ call Snapshot gives ok 64 ∷ call₂ Write 16383 1 gives ok 0 ∷ call Compare gives ok 63 ∷
+    (call₁ Open 8 gives ok 0 ∷ mapAt 62 2 gives ok 62 ∷ call Snapshot gives ok 2 ∷ call₂ Write 16383 1 gives ok 0 ∷ call Compare gives ok 63 ∷
     call₂ Write 16383 0 gives ok 0 ∷ call Compare gives ok 64 ∷ []) ∷
     -- "in being mapped": unmapped since the snapshot; mapped anew with equal bytes it agrees, uncommitted as it is; with other rights it differs
     (call₁ Open 8 gives ok 0 ∷ mapAt 2 2 gives ok 2 ∷ call Snapshot gives ok 2 ∷ call₂ Unmap 3 1 gives ok 0 ∷ call Compare gives ok 3 ∷

@@ -2,7 +2,7 @@
 // It answers each line as soon as the line has come, so that a program can talk with it. It promises that what it reads, one line after the other, is one roll
 // played from a start, and that what it hands on to be written is that roll's replies (`Talked`); so they are the plain machine's, or the refusals of a wrong
 // length (specs/Replies).
-// It stands on `roll` and on the kit's `io`, `os` and `libc`; which bytes these read and write nothing proves.
+// It stands on `playing` and on the kit's `io`, `os` and `libc`; which bytes these read and write nothing proves.
 ghost use mathlib.Core.Path.{_≡_};
 ghost use Prim.Native.Nat.{_≤_};
 ghost use lib.ListN.{length};
@@ -12,7 +12,7 @@ ghost use Rattle.player.specs.Image.{imageBytes};
 ghost use Rattle.player.specs.Conversation.{turnOf, goesOn, Answers, Talked};
 use lines::Line;
 use lines::lines_of;
-use roll::play;
+use playing::play;
 use state::sandbox::Machine;
 
 fn main() {

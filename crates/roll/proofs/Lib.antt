@@ -1,4 +1,3 @@
-pub mod Again
 pub mod SmallLaws
 pub mod PlayLaws
 pub mod RepliesLaws

@@ -18,7 +18,7 @@ use Rattle.interface.specs.declared.answer.Answer.the-variants.{Value, Refused}
 use Rattle.interface.specs.declared.page.Backing.{Backing}
 use Rattle.interface.specs.declared.page.Backing.the-variants.{Anonymous, Image}
 use Rattle.interface.specs.Requests.{_is_, isCall, Map, Read, Snapshot, Report, Compare, pageOf, offsetOf}
-use Rattle.interface.specs.Answers.{refusalNumber, numberOf}
+use Rattle.interface.specs.Answers.{refusalNumber, numberOf, valueOf, answered}
 use Rattle.interface.specs.Slots.{isCommitted, backingAt}
 use Rattle.interface.specs.Compare.{lowestDifference}
 use Rattle.interface.specs.Outcome.{firstOf}
@@ -40,6 +40,7 @@ use Rattle.state.specs.Test.{soundb}
 use Rattle.content.specs.Content.{backingPage, pageUnder, pageRead, differing}
 use Rattle.memory.specs.Memory.{heldBy, valueAt}
 use Rattle.machine.specs.Step.{Outcome, Stepped, step, numberAt}
+use Rattle.roll.specs.Play.{FitsLine}
 
 -- each element is a byte
 abbrev pub Bytes : List ℕ → Type 0
@@ -129,6 +130,10 @@ refusal-small NotWritable = omega arith
 refusal-small ShareExceeded = omega arith
 refusal-small TooManyAreas = omega arith
 
-pub number-small : (a : Answer) → numberOf a ≤ 14
+number-small : (a : Answer) → numberOf a ≤ 14
 number-small (Value v) = omega arith
 number-small (Refused r) = refusal-small r
+
+-- so a reply line has room for its numbers
+pub fits-line : (line : ℕ) (a : Answer) → line ≤ 999999 → valueOf a ≤ 65535 → FitsLine line (answered a)
+fits-line line a l v = (omega arith, (omega (arith, number-small a), (omega arith, tt)))

@@ -1,6 +1,6 @@
 use borrow.Author.Needs.{needs}
-use Rattle.roll.proofs.print.Statement.{statement}
-use Rattle.roll.proofs.print.Tie as tie
+use Rattle.playing.proofs.print.Statement.{statement}
+use Rattle.playing.proofs.print.Tie as tie
 
 number-requires : tie.Need-number-requires
 number-requires c κs = search needs

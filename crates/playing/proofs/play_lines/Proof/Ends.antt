@@ -38,11 +38,11 @@ use Rattle.state.proofs.sandbox.Machine.Laws as M′
 use Rattle.reader.specs.declared.Reader.{Reader}
 use Rattle.reader.proofs.new as new
 use Rattle.reader.proofs.new.Symbol.{name as #reader·new}
 use Rattle.roll.specs.Play.{Played}
 use Rattle.roll.proofs.PlayLaws.{played-none}
-use Rattle.roll.proofs.play_lines as play-lines
-use Rattle.roll.proofs.play_lines.Proof.Held.{Passed, Turn, Fits, Held, Slices, Token, Roll-token, Roll, B, reader, mach, spelled, slice, called}
-use Rattle.roll.proofs.play_lines.Proof.Held.{pool₀, table₀, image, roll, first, out₀, n, κi, κr}
+use Rattle.playing.proofs.play_lines as play-lines
+use Rattle.playing.proofs.play_lines.Proof.Held.{Passed, Turn, Fits, Held, Slices, Token, Roll-token, Roll, B, reader, mach, spelled, slice, called}
+use Rattle.playing.proofs.play_lines.Proof.Held.{pool₀, table₀, image, roll, first, out₀, n, κi, κr}
 
 abbrev pub stayed : Stays (play-lines.ended .signature .params) (play-lines.ended .kept)
 stayed = (

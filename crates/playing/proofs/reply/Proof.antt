@@ -4,11 +4,11 @@ use lib.ListN.{take, drop}
 use Prim.Native.Nat.{_+_, _*_}
 use native.Mathlib.Omega.{arith}
 use borrow.Author.Needs.{needs}
-use Rattle.interface.specs.Answers.{numberOf, valueOf}
+use Rattle.interface.specs.Answers.{answered}
 use Rattle.roll.proofs.PlayLaws.{part-is}
-use Rattle.roll.proofs.SmallLaws.{number-small}
-use Rattle.roll.proofs.reply.Statement.{statement}
-use Rattle.roll.proofs.reply.Tie as tie
+use Rattle.roll.proofs.SmallLaws.{fits-line}
+use Rattle.playing.proofs.reply.Statement.{statement}
+use Rattle.playing.proofs.reply.Tie as tie
 
 turn-requires : tie.Need-turn-requires
 turn-requires c κs = search needs
@@ -54,9 +54,9 @@ returns c =
     let a = start .args in
     let at = a .k * 19 in
     record {
-      answer = record { number = numberOf (got .result .answer); value = valueOf (got .result .answer) };
+      answer = answered (got .result .answer);
       turned = got .ensures .0;
-      fits = (omega (arith, start .pre .1), (omega (arith, number-small (got .result .answer)), (omega (arith, got .ensures .1), tt)));
+      fits = fits-line (a .first + a .k) (got .result .answer) (start .pre .1) (got .ensures .1);
       prints = part-is (a .out .now) (shown .last .0) at (at + 19) refl ∙ ap (λ ys. take at (a .out .now) ++ (ys ++ drop (at + 19) (a .out .now))) (shown .ensures);
     }
 

@@ -1,6 +1,6 @@
 use borrow.Author.Needs.{needs}
-use Rattle.roll.proofs.play.Statement.{statement}
-use Rattle.roll.proofs.play.Tie as tie
+use Rattle.playing.proofs.play.Statement.{statement}
+use Rattle.playing.proofs.play.Tie as tie
 
 lines-of-requires : tie.Need-lines-of-requires
 lines-of-requires c κs = search needs

@@ -49,24 +49,24 @@ use Rattle.reader.proofs.next.Met as next-thm
 use Rattle.reader.proofs.skip.Symbol as skip-def
 use Rattle.reader.proofs.skip.Symbol.{name as #reader·skip}
 use Rattle.reader.proofs.skip.Met as skip-thm
-use Rattle.roll.proofs.reply.Symbol as reply-def
-use Rattle.roll.proofs.reply.Symbol.{name as #roll·reply}
-use Rattle.roll.proofs.reply.Met as reply-thm
-use Rattle.roll.proofs.play_lines.Key.{name as #roll·play-lines}
-use Rattle.roll.proofs.play_lines as play-lines
-use Rattle.roll.proofs.play_lines.Statement as stated
-use Rattle.roll.proofs.play_lines.Code as code
-use Rattle.roll.proofs.play_lines.Proof.Held.{Passed, Next, Skip, Reply, Fits, reader, slice, image, roll, first, n, κi, κr}
-use Rattle.roll.proofs.play_lines.Proof.Replied as call
-use Rattle.roll.proofs.play_lines.Proof.Ends.{New, stayed, vals, start, Post, Made, made}
-use Rattle.roll.proofs.play_lines.Proof.Loop.{readerTy, passed, typed-machine, typed-slice, typed-reader, looped}
+use Rattle.playing.proofs.reply.Symbol as reply-def
+use Rattle.playing.proofs.reply.Symbol.{name as #playing·reply}
+use Rattle.playing.proofs.reply.Met as reply-thm
+use Rattle.playing.proofs.play_lines.Key.{name as #playing·play-lines}
+use Rattle.playing.proofs.play_lines as play-lines
+use Rattle.playing.proofs.play_lines.Statement as stated
+use Rattle.playing.proofs.play_lines.Code as code
+use Rattle.playing.proofs.play_lines.Proof.Held.{Passed, Next, Skip, Reply, Fits, reader, slice, image, roll, first, n, κi, κr}
+use Rattle.playing.proofs.play_lines.Proof.Replied as call
+use Rattle.playing.proofs.play_lines.Proof.Ends.{New, stayed, vals, start, Post, Made, made}
+use Rattle.playing.proofs.play_lines.Proof.Loop.{readerTy, passed, typed-machine, typed-slice, typed-reader, looped}
 
 module _ (P : Passed) (ok : Fits P) (is : Is M.the-row (P .args .0) (M′.lowered (P .args .0) ∷ []))
     (image-is : Is (ShrSlice (named 2) (κi P) u8) (image P) (slice (image P) ∷ [])) (roll-is : Is (ShrSlice (named 3) (κr P) u8) (roll P)
     (slice (roll P) ∷ []))
     {M₁ : Type 1} (𝓤 : URA M₁) (H : Heap 𝓤) (A : Atoms 𝓤) (W : Given 𝓤 H A) (mem : Memory → SProp 𝓤) (run : Routine → Fun 𝓤) (𝓣 : Tables 𝓤 H)
     (known-new : Triple 𝓤 (𝓣 .C #reader·new) (New 𝓤 H A mem run)) (known-next : Triple 𝓤 (𝓣 .C #reader·next) (Next 𝓤 H A mem run))
-    (known-skip : Triple 𝓤 (𝓣 .C #reader·skip) (Skip 𝓤 H A mem run)) (known-reply : Triple 𝓤 (𝓣 .C #roll·reply) (Reply 𝓤 H A mem run)) where
+    (known-skip : Triple 𝓤 (𝓣 .C #reader·skip) (Skip 𝓤 H A mem run)) (known-reply : Triple 𝓤 (𝓣 .C #playing·reply) (Reply 𝓤 H A mem run)) where
   walk : ent 𝓤 (onEntry 𝓤 H A play-lines.signature (P .κs) (P .qs) (P .args) (vals P ok is)) (WpFn 𝓤 H (𝓣 .C)
       (𝓣 .Λ) code.function (passed P ok is image-is roll-is) (Post P ok is 𝓤 H A W mem run))
   unfolding start
@@ -98,7 +98,7 @@ module _ (P : Passed) (ok : Fits P) (is : Is M.the-row (P .args .0) (M′.lowere
 
 module _ {M₁ : Type 1} (𝓤 : URA M₁) (H : Heap 𝓤) (A : Atoms 𝓤) (W : Given 𝓤 H A) (mem : Memory → SProp 𝓤) (run : Routine → Fun 𝓤) (𝓣 : Tables 𝓤 H)
     (known-new : Triple 𝓤 (𝓣 .C #reader·new) (New 𝓤 H A mem run)) (known-next : Triple 𝓤 (𝓣 .C #reader·next) (Next 𝓤 H A mem run))
-    (known-skip : Triple 𝓤 (𝓣 .C #reader·skip) (Skip 𝓤 H A mem run)) (known-reply : Triple 𝓤 (𝓣 .C #roll·reply) (Reply 𝓤 H A mem run)) where
+    (known-skip : Triple 𝓤 (𝓣 .C #reader·skip) (Skip 𝓤 H A mem run)) (known-reply : Triple 𝓤 (𝓣 .C #playing·reply) (Reply 𝓤 H A mem run)) where
   play-lines-walks : Walks 𝓤 H A play-lines.ended stayed (WpFn 𝓤 H (𝓣 .C) (𝓣 .Λ) code.function) (play-lines.clauses 𝓤 H A mem run)
   play-lines-walks = walked 𝓤 H A play-lines.ended stayed (play-lines.clauses 𝓤 H A mem run) (WpFn 𝓤 H (𝓣 .C) (𝓣 .Λ) code.function)
       (λ κs. ((λ m. M′.lowered m ∷ []), (slice-vals, (slice-vals, (slice-vals, (slice-vals, (uint-vals w32, (slice-vals, (uint-vals w64, tt)))))))))
@@ -157,9 +157,9 @@ pub play-lines-spec : {M : Type 1} → stated.statement M
 unfolding code.routine tablesOf
 play-lines-spec 𝓤 H 𝓜 𝓖 𝓡 =
     entered 𝓤 H (tripleOf 𝓤 H (𝓖 .A) play-lines.signature (play-lines.spec 𝓤 H (𝓖 .A) (𝓜 .mem) (𝓡 .run)))
-    (tables 𝓤 H 𝓜 𝓡 code.env .C) (tables 𝓤 H 𝓜 𝓡 code.env .Λ) #roll·play-lines code.function (code.unfolded 𝓤 H 𝓜 𝓡)
+    (tables 𝓤 H 𝓜 𝓡 code.env .C) (tables 𝓤 H 𝓜 𝓡 code.env .Λ) #playing·play-lines code.function (code.unfolded 𝓤 H 𝓜 𝓡)
     (play-lines-meets 𝓤 H (𝓖 .A) (givenOf 𝓤 H 𝓜 𝓖) (𝓜 .mem) (𝓡 .run) (tablesOf 𝓤 H 𝓜 (tables 𝓤 H 𝓜 𝓡 code.env))
     (cited 𝓤 H (New 𝓤 H (𝓖 .A) (𝓜 .mem) (𝓡 .run)) 𝓜 𝓡 code.env #reader·new new-def.routine code.calls-reader·new (new-thm.met 𝓤 H 𝓜 𝓖 𝓡))
     (cited 𝓤 H (Next 𝓤 H (𝓖 .A) (𝓜 .mem) (𝓡 .run)) 𝓜 𝓡 code.env #reader·next next-def.routine code.calls-reader·next (next-thm.met 𝓤 H 𝓜 𝓖 𝓡))
     (cited 𝓤 H (Skip 𝓤 H (𝓖 .A) (𝓜 .mem) (𝓡 .run)) 𝓜 𝓡 code.env #reader·skip skip-def.routine code.calls-reader·skip (skip-thm.met 𝓤 H 𝓜 𝓖 𝓡))
-    (cited 𝓤 H (Reply 𝓤 H (𝓖 .A) (𝓜 .mem) (𝓡 .run)) 𝓜 𝓡 code.env #roll·reply reply-def.routine code.calls-roll·reply (reply-thm.met 𝓤 H 𝓜 𝓖 𝓡)))
+    (cited 𝓤 H (Reply 𝓤 H (𝓖 .A) (𝓜 .mem) (𝓡 .run)) 𝓜 𝓡 code.env #playing·reply reply-def.routine code.calls-playing·reply (reply-thm.met 𝓤 H 𝓜 𝓖 𝓡)))

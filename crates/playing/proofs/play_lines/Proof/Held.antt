@@ -49,10 +49,10 @@ use Rattle.reader.proofs.next as next
 use Rattle.reader.proofs.next.Symbol.{name as #reader·next}
 use Rattle.reader.proofs.skip as skip
 use Rattle.reader.proofs.skip.Symbol.{name as #reader·skip}
 use Rattle.roll.specs.Play.{Played}
-use Rattle.roll.proofs.Again.{Owned}
-use Rattle.roll.proofs.reply as reply
-use Rattle.roll.proofs.play_lines as play-lines
+use Rattle.playing.proofs.Again.{Owned}
+use Rattle.playing.proofs.reply as reply
+use Rattle.playing.proofs.play_lines as play-lines
 
 -- what `play_lines` is passed: the lifetimes of pool, table, image, roll and out, a share of each one's token, and the arguments
 pub record Passed : Type 0 where

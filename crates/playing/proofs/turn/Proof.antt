@@ -2,11 +2,11 @@ use native.Mathlib.Omega.{arith}
 use mathlib.Core.Path.{refl, sym, subst}
 use Rattle.state.specs.World.{worldOf}
 use Rattle.machine.specs.Parts.{outcomeOf}
 use Rattle.roll.specs.Play.{malformed, Turned}
 use Rattle.roll.proofs.SmallLaws.{value-small}
 use borrow.Author.Needs.{needs}
-use Rattle.roll.proofs.turn.Statement.{statement}
-use Rattle.roll.proofs.turn.Tie as tie
+use Rattle.playing.proofs.turn.Statement.{statement}
+use Rattle.playing.proofs.turn.Tie as tie
 
 enum-known-line : tie.Need-enum-known-line
 enum-known-line c = search needs
