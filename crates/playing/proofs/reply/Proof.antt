@@ -56,7 +56,9 @@ returns c =
       answer = answered (got .result .answer);
       turned = got .ensures .0;
       fits = fits-line (a .first + a .k) (got .result .answer) (start .pre .1) (got .ensures .1);
-      prints = part-is (a .out .now) (shown .last .0) at (at + 19) refl ∙ ap (λ ys. take at (a .out .now) ++ (ys ++ drop (at + 19) (a .out .now))) (shown .ensures);
+      prints =
+          part-is (a .out .now) (shown .last .0) at (at + 19) refl
+          ∙ ap (λ ys. take at (a .out .now) ++ (ys ++ drop (at + 19) (a .out .now))) (shown .ensures);
     }
 
 pub reply-spec : {M : Type 1} → statement M

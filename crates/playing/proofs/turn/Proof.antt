@@ -31,7 +31,11 @@ returns c =
     let w = worldOf (start .args .machine) (start .args .pool .now) (start .args .table .now) in
     let o = outcomeOf (got .result) (got .last .1 .0) (got .last .1 .1 .0) in
     let line = c .before .before .before .before .before .before .before .before .line .given in
-    (subst (λ l. Turned image w l o) (sym (line .1)) (got .ensures), value-small image w _ (λ k. omega (arith, c .before .before .before .before .before .before .before .before .before .before .shared-slice-known .given k)) (λ k. omega (arith, c .before .before .before .before .before .before .before .before .before .before .before .before .slice-known .given k)) o (got .ensures))
+    let images = c .before .before .before .before .before .before .before .before .before .before .shared-slice-known .given in
+    let bytes = c .before .before .before .before .before .before .before .before .before .before .before .before .slice-known .given in (
+      subst (λ l. Turned image w l o) (sym (line .1)) (got .ensures),
+      value-small image w _ (λ k. omega (arith, images k)) (λ k. omega (arith, bytes k)) o (got .ensures),
+    )
 
 returns-2 : tie.Need-returns-2
 returns-2 c =
