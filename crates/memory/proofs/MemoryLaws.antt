@@ -12,7 +12,8 @@ use Rattle.interface.specs.declared.request.Request.{Request}
 use Rattle.interface.specs.Requests.{_is_, Unmap, Write, Snapshot, Rewind, pageOf, offsetOf}
 use Rattle.interface.specs.Slots.{isCommitted, backingAt}
 use Rattle.table.specs.declared.source.Source.{Source}
-use Rattle.table.specs.Store.{Store, entry, frontOf, backOf, contents, underFront, take, storeByte, freeTo, moveTo, rewindPage, rewindTo, Ranged, Filed, Tidy, Touched}
+use Rattle.table.specs.Store.{Store, entry, frontOf, backOf, contents, underFront, Ranged, Filed, Tidy, Touched}
+use Rattle.table.specs.Store.{take, storeByte, freeTo, moveTo, rewindPage, rewindTo}
 use Rattle.table.specs.Source.{sourceBytes, sourceEnd}
 use Rattle.table.proofs.StoreLaws.{taken}
 use Rattle.table.proofs.FiledLaws.{filed-ranged}
@@ -58,9 +59,10 @@ module _ (image : List ℕ) (frames s page : ℕ) (committed : Bool) (source : S
   touch-ranged after l m f w t =
       by-cases (eqb (entry st (frontOf s page)) 0)
       (λ e. let free = t .free e in
-      let same : after ≡ take 256 (frontOf s page) (t .frame) (underFront committed (sourceBytes image source) (contents 256 st (backOf s page))) st = t .equals ∙ rw e in
+      let bytes : List ℕ = underFront committed (sourceBytes image source) (contents 256 st (backOf s page)) in
+      let same : after ≡ take 256 (frontOf s page) (t .frame) bytes st = t .equals ∙ rw e in
       let whole = under-whole 256 frames st (tidy-of f) (backOf s page) (sourceBytes image source) (source-whole image source w) committed in
-      let changed = taken 256 frames st (tidy-of f) (frontOf s page) (t .frame) (underFront committed (sourceBytes image source) (contents 256 st (backOf s page))) (omega arith) (eqb-true _ 0 e) (free .0) (free .1) whole in
+      let changed = taken 256 frames st (tidy-of f) (frontOf s page) (t .frame) bytes (omega arith) (eqb-true _ 0 e) (free .0) (free .1) whole in
       rw same (filed-ranged 256 frames _ (changed .tidy .filed)))
       (λ e. let same : after ≡ st = t .equals ∙ rw e in rw same (filed-ranged 256 frames st f))
 
@@ -68,7 +70,8 @@ module _ (image : List ℕ) (frames s page : ℕ) (committed : Bool) (source : S
 
 module _ (image : List ℕ) (frames : ℕ) (q : Request) (b : Sandbox) (st : Store) where
   pub written : (mid after : Store)
-      → TouchStepped image frames (q .sandbox) (pageOf q) (isCommitted (slots (b .present) (pageOf q))) (sourceOf (backingAt (slots (b .present) (pageOf q)))) st mid
+      → let slot = slots (b .present) (pageOf q) in
+      TouchStepped image frames (q .sandbox) (pageOf q) (isCommitted slot) (sourceOf (backingAt slot)) st mid
       → q .code ≡ Write → after ≡ storeByte 256 (frontOf (q .sandbox) (pageOf q)) (offsetOf q) (q .p2) mid → StoreStepped image frames q b st after
   unfolding storeAfter touched pageUnder
   written mid after t e a = record {
@@ -89,11 +92,13 @@ module _ (image : List ℕ) (frames : ℕ) (q : Request) (b : Sandbox) (st : Sto
   unfolding storeAfter
   copied after e a = stepped-none after (rw e) (a ∙ rw e)
 
-  pub rewound : (after : Store) → q .code ≡ Rewind → after ≡ rewindTo 256 (q .sandbox * 128) (keepsFront b) (copyPage image b) st 64 → StoreStepped image frames q b st after
+  pub rewound : (after : Store) → q .code ≡ Rewind → after ≡ rewindTo 256 (q .sandbox * 128) (keepsFront b) (copyPage image b) st 64
+      → StoreStepped image frames q b st after
   unfolding storeAfter
   rewound after e a = stepped-none after (rw e) (a ∙ rw e)
 
   pub left : (q .code ≡ Unmap → ⊥) → (q .code ≡ Write → ⊥) → (q .code ≡ Snapshot → ⊥) → (q .code ≡ Rewind → ⊥) → StoreStepped image frames q b st st
   unfolding storeAfter
   left u w s r =
-      stepped-none st (ne-eqb (q .code) Write w) (rw (ne-eqb (q .code) Unmap u, ne-eqb (q .code) Write w, ne-eqb (q .code) Snapshot s, ne-eqb (q .code) Rewind r))
+      stepped-none st (ne-eqb (q .code) Write w)
+      (rw (ne-eqb (q .code) Unmap u, ne-eqb (q .code) Write w, ne-eqb (q .code) Snapshot s, ne-eqb (q .code) Rewind r))

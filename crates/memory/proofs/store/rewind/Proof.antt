@@ -88,7 +88,8 @@ returns c =
     let b = s .args .b in
     let image = s .args .image .now in
     c .before .loop .inv .4 ∙ ap (rewindTo 256 (s .args .s * 128) (keeps (b .present)) (bytes image (b .present)) _) (omega arith)
-    ∙ rewind-alike 256 (s .args .s * 128) (keepsFront b) (bytes image (b .present)) (copyPage image b) _ (λ i h. ap (backingPage image) (s .pre .1 .0 .backing i h)) 64
+    ∙ rewind-alike 256 (s .args .s * 128) (keepsFront b) (bytes image (b .present)) (copyPage image b) _
+    (λ i h. ap (backingPage image) (s .pre .1 .0 .backing i h)) 64
 
 pub rewind-spec : {M : Type 1} → statement M
 rewind-spec =

@@ -30,7 +30,9 @@ source-of-requires c κs = search needs
 restore-page-requires : tie.Need-restore-page-requires
 restore-page-requires c κs =
     let s = c .before .before .before .before .before .before .before .before .before .before .before .before in
-    (s .pre .0, (s .pre .1 .0, (s .pre .1 .1 .1 .0, rw (c .before .before .source-of .ensures ∙ ap sourceOf (c .before .before .before .backing-at .ensures ∙ ap backingAt (c .before .before .before .before .before .slot .ensures))) (s .pre .1 .1 .1 .1))))
+    let slot = c .before .before .before .before .before .slot .ensures in
+    let source = c .before .before .source-of .ensures ∙ ap sourceOf (c .before .before .before .backing-at .ensures ∙ ap backingAt slot) in
+    (s .pre .0, (s .pre .1 .0, (s .pre .1 .1 .1 .0, rw source (s .pre .1 .1 .1 .1))))
 
 same-length-2 : tie.Need-same-length-2
 same-length-2 c = search needs
@@ -40,8 +42,10 @@ same-length-3 c = search needs
 
 returns-2 : tie.Need-returns-2
 returns-2 c =
-    rw (← (c .before .before .before .before .before .before .before .source-of .ensures ∙ ap sourceOf (c .before .before .before .before .before .before .before .before .backing-at .ensures ∙ ap backingAt (c .before .before .before .before .before .before .before .before .before .before .slot .ensures))), ← (c .before .before .before .before .before .before .before .before .before .is-committed .ensures ∙ ap isCommitted (c .before .before .before .before .before .before .before .before .before .before .slot .ensures)))
-    (c .before .before .before .before .restore-page .ensures)
+    let slot = c .before .before .before .before .before .before .before .before .before .before .slot .ensures in
+    let source = c .before .before .before .before .before .before .before .source-of .ensures ∙ ap sourceOf (c .before .before .before .before .before .before .before .before .backing-at .ensures ∙ ap backingAt slot) in
+    let keep = c .before .before .before .before .before .before .before .before .before .is-committed .ensures ∙ ap isCommitted slot in
+    rw (← source, ← keep) (c .before .before .before .before .restore-page .ensures)
 
 pub rewind-page-spec : {M : Type 1} → statement M
 rewind-page-spec =

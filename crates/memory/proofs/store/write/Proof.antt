@@ -1,8 +1,13 @@
-use mathlib.Core.Path.{ap, _∙_}
-use Prim.Native.Nat.{_/_}
+use mathlib.Core.Path.{_≡_, sym, ap, subst, _∙_}
+use Prim.Native.Nat.{_*_, _/_, _≤_, _<_}
 use native.Mathlib.Omega.{arith}
+use lib.ListN.{length}
+use Rattle.interface.specs.declared.page.Slot.{Slot}
 use Rattle.interface.specs.Slots.{isCommitted, backingAt}
-use Rattle.table.specs.Store.{kept}
+use Rattle.table.specs.declared.source.Source.{Source}
+use Rattle.table.specs.Store.{Store, kept}
+use Rattle.table.specs.Source.{sourceEnd}
+use Rattle.areas.specs.Areas.{slots}
 use Rattle.areas.proofs.FormedLaws.{near}
 use Rattle.rules.proofs.FitLaws.{page-small}
 use Rattle.content.specs.Content.{sourceOf}
@@ -12,6 +17,33 @@ use borrow.Author.Needs.{needs}
 use Rattle.memory.proofs.store.write.Statement.{statement}
 use Rattle.memory.proofs.store.write.Tie as tie
 
+-- the page of the address, and what is lent
+small : (s : tie.Start) → s .args .q .p1 / 256 < 64
+small s = page-small (s .args .q .p1) (s .pre .1 .fit .written (s .pre .0) .0)
+
+abbrev lent : tie.Start → Store
+lent s = kept (s .args .held) (s .args .pool .now) (s .args .table .now)
+
+-- what was found of the page, once its source is known
+abbrev behind : tie.After-source-of → tie.Start
+behind c = c .before .before .before .before .before .before .before .before .before .before .before .before
+
+abbrev slot-of : tie.After-source-of → Slot
+slot-of c = slots (behind c .args .b .present) (behind c .args .q .p1 / 256)
+
+source-is : (c : tie.After-source-of) → c .source-of .result ≡ sourceOf (backingAt (slot-of c))
+source-is c = c .source-of .ensures ∙ ap sourceOf (c .before .backing-at .ensures ∙ ap backingAt (c .before .before .before .before .before .slot .ensures))
+
+committed-is : (c : tie.After-source-of) → c .before .before .is-committed .result ≡ isCommitted (slot-of c)
+committed-is c = c .before .before .is-committed .ensures ∙ ap isCommitted (c .before .before .before .before .before .slot .ensures)
+
+-- its image page is there
+source-here : (c : tie.After-source-of) → sourceEnd (c .source-of .result) * 256 ≤ length (behind c .args .image .now)
+source-here c =
+    let s = behind c in
+    subst (λ (x : Source). sourceEnd x * 256 ≤ length (s .args .image .now)) (sym (source-is c))
+    (source-there (s .args .image .now) (s .args .images) (s .args .b .present) (s .pre .1 .ready .present) (s .pre .1 .whole) (s .args .q .p1 / 256))
+
 cast-s : tie.Need-cast-s
 cast-s c = search needs
 
@@ -19,7 +51,9 @@ cast-store-byte : tie.Need-cast-store-byte
 cast-store-byte c = search needs
 
 slot-requires : tie.Need-slot-requires
-slot-requires c κs = (near (c .before .before .before .before .before .before .args .images) (c .before .before .before .before .before .before .args .b .present) (c .before .before .before .before .before .before .pre .1 .ready .present) (c .before .before .before .before .before .before .pre .1 .ready .few), page-small (c .before .before .before .before .before .before .args .q .p1) (c .before .before .before .before .before .before .pre .1 .fit .written (c .before .before .before .before .before .before .pre .0) .0))
+slot-requires c κs =
+    let s = c .before .before .before .before .before .before in
+    (near (s .args .images) (s .args .b .present) (s .pre .1 .ready .present) (s .pre .1 .ready .few), small s)
 
 is-committed-requires : tie.Need-is-committed-requires
 is-committed-requires c κs = search needs
@@ -31,16 +65,28 @@ source-of-requires : tie.Need-source-of-requires
 source-of-requires c κs = search needs
 
 touch-requires : tie.Need-touch-requires
-touch-requires c κs = (c .before .before .before .before .before .before .before .before .before .before .before .before .pre .1 .row, (page-small (c .before .before .before .before .before .before .before .before .before .before .before .before .args .q .p1) (c .before .before .before .before .before .before .before .before .before .before .before .before .pre .1 .fit .written (c .before .before .before .before .before .before .before .before .before .before .before .before .pre .0) .0), (rw (c .source-of .ensures ∙ ap sourceOf (c .before .backing-at .ensures ∙ ap backingAt (c .before .before .before .before .before .slot .ensures))) (source-there (c .before .before .before .before .before .before .before .before .before .before .before .before .args .image .now) (c .before .before .before .before .before .before .before .before .before .before .before .before .args .images) (c .before .before .before .before .before .before .before .before .before .before .before .before .args .b .present) (c .before .before .before .before .before .before .before .before .before .before .before .before .pre .1 .ready .present) (c .before .before .before .before .before .before .before .before .before .before .before .before .pre .1 .whole) (c .before .before .before .before .before .before .before .before .before .before .before .before .args .q .p1 / 256)), (c .before .before .before .before .before .before .before .before .before .before .before .before .pre .1 .filed, c .before .before .before .before .before .before .before .before .before .before .before .before .pre .1 .room (rw (c .before .before .before .before .before .before .before .before .before .before .before .before .pre .0))))))
+touch-requires c κs =
+    let s = c .before .before .before .before .before .before .before .before .before .before .before .before in
+    (s .pre .1 .row, (small s, (source-here c, (s .pre .1 .filed, s .pre .1 .room (rw (s .pre .0))))))
 
 cast-store-byte-2 : tie.Need-cast-store-byte-2
 cast-store-byte-2 c = search needs
 
 cast-store-byte-3 : tie.Need-cast-store-byte-3
-cast-store-byte-3 c = omega (arith, c .before .before .before .before .before .before .before .before .before .before .before .before .before .before .before .before .before .before .before .before .before .pre .1 .fit .written (c .before .before .before .before .before .before .before .before .before .before .before .before .before .before .before .before .before .before .before .before .before .pre .0) .1)
+cast-store-byte-3 c = let s = c .before .before .before .before .before .before .before .before .before .before .before .before .before .before .before .before .before .before .before .before .before in omega (arith, s .pre .1 .fit .written (s .pre .0) .1)
 
 store-byte-requires : tie.Need-store-byte-requires
-store-byte-requires c κs = (c .before .before .before .before .before .before .before .before .before .before .before .before .before .before .before .before .before .before .before .before .before .pre .1 .row, (page-small (c .before .before .before .before .before .before .before .before .before .before .before .before .before .before .before .before .before .before .before .before .before .args .q .p1) (c .before .before .before .before .before .before .before .before .before .before .before .before .before .before .before .before .before .before .before .before .before .pre .1 .fit .written (c .before .before .before .before .before .before .before .before .before .before .before .before .before .before .before .before .before .before .before .before .before .pre .0) .0), touch-ranged (c .before .before .before .before .before .before .before .before .before .before .before .before .before .before .before .before .before .before .before .before .before .args .image .now) (c .before .before .before .before .before .before .before .before .before .before .before .before .before .before .before .before .before .before .before .before .before .args .frames) (c .before .before .before .before .before .before .before .before .before .before .before .before .before .before .before .before .before .before .before .before .before .args .q .sandbox) (c .before .before .before .before .before .before .before .before .before .before .before .before .before .before .before .before .before .before .before .before .before .args .q .p1 / 256) (c .before .before .before .before .before .before .before .before .before .before .before .is-committed .result) (c .before .before .before .before .before .before .before .before .before .source-of .result) (kept (c .before .before .before .before .before .before .before .before .before .before .before .before .before .before .before .before .before .before .before .before .before .args .held) (c .before .before .before .before .before .before .before .before .before .before .before .before .before .before .before .before .before .before .before .before .before .args .pool .now) (c .before .before .before .before .before .before .before .before .before .before .before .before .before .before .before .before .before .before .before .before .before .args .table .now)) _ (c .before .before .before .before .before .before .before .before .before .before .before .before .before .before .before .before .before .before .before .before .before .pre .1 .row) (page-small (c .before .before .before .before .before .before .before .before .before .before .before .before .before .before .before .before .before .before .before .before .before .args .q .p1) (c .before .before .before .before .before .before .before .before .before .before .before .before .before .before .before .before .before .before .before .before .before .pre .1 .fit .written (c .before .before .before .before .before .before .before .before .before .before .before .before .before .before .before .before .before .before .before .before .before .pre .0) .0)) (c .before .before .before .before .before .before .before .before .before .before .before .before .before .before .before .before .before .before .before .before .before .pre .1 .filed) (rw (c .before .before .before .before .before .before .before .before .before .source-of .ensures ∙ ap sourceOf (c .before .before .before .before .before .before .before .before .before .before .backing-at .ensures ∙ ap backingAt (c .before .before .before .before .before .before .before .before .before .before .before .before .before .before .slot .ensures))) (source-there (c .before .before .before .before .before .before .before .before .before .before .before .before .before .before .before .before .before .before .before .before .before .args .image .now) (c .before .before .before .before .before .before .before .before .before .before .before .before .before .before .before .before .before .before .before .before .before .args .images) (c .before .before .before .before .before .before .before .before .before .before .before .before .before .before .before .before .before .before .before .before .before .args .b .present) (c .before .before .before .before .before .before .before .before .before .before .before .before .before .before .before .before .before .before .before .before .before .pre .1 .ready .present) (c .before .before .before .before .before .before .before .before .before .before .before .before .before .before .before .before .before .before .before .before .before .pre .1 .whole) (c .before .before .before .before .before .before .before .before .before .before .before .before .before .before .before .before .before .before .before .before .before .args .q .p1 / 256))) (c .before .before .before .before .before .before .before .before .touch .ensures)))
+store-byte-requires c κs =
+    let s = c .before .before .before .before .before .before .before .before .before .before .before .before .before .before .before .before .before .before .before .before .before in
+    let found = c .before .before .before .before .before .before .before .before .before in (
+      s .pre .1 .row,
+      (
+        small s,
+        touch-ranged (s .args .image .now) (s .args .frames) (s .args .q .sandbox) (s .args .q .p1 / 256) (found .before .before .is-committed .result)
+            (found .source-of .result) (lent s) _ (s .pre .1 .row) (small s) (s .pre .1 .filed) (source-here found)
+            (c .before .before .before .before .before .before .before .before .touch .ensures),
+      ),
+    )
 
 same-length : tie.Need-same-length
 same-length c = search needs
@@ -49,7 +95,12 @@ same-length-2 : tie.Need-same-length-2
 same-length-2 c = search needs
 
 returns : tie.Need-returns
-returns c = written (c .before .before .before .before .before .before .before .before .before .before .before .before .before .before .before .before .before .before .before .before .before .before .before .before .args .image .now) (c .before .before .before .before .before .before .before .before .before .before .before .before .before .before .before .before .before .before .before .before .before .before .before .before .args .frames) (c .before .before .before .before .before .before .before .before .before .before .before .before .before .before .before .before .before .before .before .before .before .before .before .before .args .q) (c .before .before .before .before .before .before .before .before .before .before .before .before .before .before .before .before .before .before .before .before .before .before .before .before .args .b) (kept (c .before .before .before .before .before .before .before .before .before .before .before .before .before .before .before .before .before .before .before .before .before .before .before .before .args .held) (c .before .before .before .before .before .before .before .before .before .before .before .before .before .before .before .before .before .before .before .before .before .before .before .before .args .pool .now) (c .before .before .before .before .before .before .before .before .before .before .before .before .before .before .before .before .before .before .before .before .before .before .before .before .args .table .now)) _ _ (rw (← (c .before .before .before .before .before .before .before .before .before .before .before .before .before .before .is-committed .ensures ∙ ap isCommitted (c .before .before .before .before .before .before .before .before .before .before .before .before .before .before .before .before .before .slot .ensures)), ← (c .before .before .before .before .before .before .before .before .before .before .before .before .source-of .ensures ∙ ap sourceOf (c .before .before .before .before .before .before .before .before .before .before .before .before .before .backing-at .ensures ∙ ap backingAt (c .before .before .before .before .before .before .before .before .before .before .before .before .before .before .before .before .before .slot .ensures)))) (c .before .before .before .before .before .before .before .before .before .before .before .touch .ensures)) (c .before .before .before .before .before .before .before .before .before .before .before .before .before .before .before .before .before .before .before .before .before .before .before .before .pre .0) (c .before .before .store-byte .ensures (c .before .before .before .before .before .before .before .before .before .before .before .touch .result))
+returns c =
+    let s = c .before .before .before .before .before .before .before .before .before .before .before .before .before .before .before .before .before .before .before .before .before .before .before .before in
+    let found = c .before .before .before .before .before .before .before .before .before .before .before .before in
+    let touched = c .before .before .before .before .before .before .before .before .before .before .before .touch in
+    written (s .args .image .now) (s .args .frames) (s .args .q) (s .args .b) (lent s) _ _ (rw (← committed-is found, ← source-is found) (touched .ensures))
+    (s .pre .0) (c .before .before .store-byte .ensures (touched .result))
 
 pub write-spec : {M : Type 1} → statement M
 write-spec =
