@@ -60,8 +60,10 @@ bareEdges =
     call₅ Map 0 1 1 2 3 gives refused 6 ∷ call₅ Map 0 1 1 65535 3 gives refused 6 ∷
     -- "p5 rights"
     rightsEdges (λ r. call₅ Map 0 1 0 0 r) ++
-    -- within their limits these meet rows 8 and 9, or none
-    (call₂ Unmap 0 1 gives refused 9 ∷ call₃ Protect 0 1 3 gives refused 9 ∷ call₁ Read 16383 gives refused 9 ∷ call₂ Write 0 1 gives refused 9 ∷
+    -- request A2, "a range with none mapped is accepted", in the same limits as where all are mapped
+    pagesEdges (λ first n. call₂ Unmap first n) ++
+    -- "Refusal 9 remains for protect, read and write"; within their limits the others meet row 8, or none
+    (call₃ Protect 0 1 3 gives refused 9 ∷ call₃ Protect 0 64 3 gives refused 9 ∷ call₁ Read 16383 gives refused 9 ∷ call₂ Write 0 1 gives refused 9 ∷
     call Rewind gives refused 8 ∷ call Compare gives refused 8 ∷ call Snapshot gives ok 0 ∷ call Report gives ok 0 ∷ []) ++
     -- snapshot, rewind, report and compare use none
     unused (1 ∷ 2 ∷ 3 ∷ 4 ∷ 5 ∷ []) (call Snapshot) ++ unused (1 ∷ 2 ∷ 3 ∷ 4 ∷ 5 ∷ []) (call Rewind) ++
@@ -96,7 +98,10 @@ eightEdges =
     -- "more than 8 areas would result": page 16 is a ninth area, page 15 goes on with the eighth, as a page with other rights does not
     readable 16 1 gives refused 14 ∷ readable 15 1 gives ok 15 ∷ mapAt 15 1 gives refused 14 ∷
     -- "the lowest gap that fits"
-    readable 64 1 gives ok 1 ∷ readable 64 2 gives ok 15 ∷ []
+    readable 64 1 gives ok 1 ∷ readable 64 2 gives ok 15 ∷
+    -- A2, "Unmap now passes over unmapped pages": over all areas and gaps, from a gap to a gap, over one gap alone; a protect does not
+    call₂ Unmap 0 64 gives ok 0 ∷ call₂ Unmap 1 3 gives ok 0 ∷ call₂ Unmap 2 2 gives ok 0 ∷ call₂ Unmap 1 2 gives ok 0 ∷ call₂ Unmap 1 1 gives ok 0 ∷
+    call₂ Unmap 15 49 gives ok 0 ∷ call₃ Protect 0 3 1 gives refused 9 ∷ call₃ Protect 1 2 1 gives refused 9 ∷ call₃ Protect 2 2 1 gives refused 9 ∷ []
 
 -- ---- the four sandboxes, as refusals are decided from them: a pool of 128 frames, an image of 2 pages, no other share, no snapshot
 

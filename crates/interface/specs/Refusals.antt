@@ -5,7 +5,7 @@ use mathlib.Core.Option.{Option, some, none}
 use lib.Dec.{ltb, eqb}
 use Rattle.basics.specs.Choice.{_when_else_}
 use Rattle.interface.specs.declared.request.Request.{Request}
-use Rattle.interface.specs.Requests.{_is_, Open, Map, Unmap, Protect, Read, Write, Snapshot, isCall, pageOf, needsSnapshot}
+use Rattle.interface.specs.Requests.{_is_, Open, Map, Protect, Read, Write, Snapshot, isCall, pageOf, needsSnapshot}
 use Rattle.interface.specs.Slots.{Slots, isMapped, rightsAt, areas, allAre, lowestGap, chargeOf}
 use Rattle.interface.specs.Limits.{within}
 use Rattle.interface.specs.Outcome.{slotsAfter, copyAfter, shareAfter}
@@ -26,10 +26,11 @@ abbrev pub isTaken {ℓ} : {A : Type ℓ} → Option A → Bool
 isTaken none = false
 isTaken (some c) = true
 
--- "unmap, protect, read or write meets an unmapped page": here, it meets none
+-- "unmap, protect, read or write meets an unmapped page", and request A2: "Unmap now passes over unmapped pages .. Refusal 9 remains for protect, read and
+-- write." Here, it meets none
 unfoldable pub allMapped : Slots → Request → Bool
 allMapped f q =
-    allAre true f (q .p1) (q .p2) when q is Unmap || q is Protect else
+    allAre true f (q .p1) (q .p2) when q is Protect else
     isMapped (f (pageOf q)) when q is Read || q is Write else
     true
 
@@ -55,7 +56,7 @@ refusal v q =
     7 when q is Snapshot && isTaken (v .copy) else
     -- "rewind without a snapshot"; call 10: "Without a snapshot it is refusal 8."
     8 when needsSnapshot q && not (isTaken (v .copy)) else
-    -- "unmap, protect, read or write meets an unmapped page"
+    -- "unmap, protect, read or write meets an unmapped page"; A2: "Refusal 9 remains for protect, read and write."
     9 when not (allMapped (v .slots) q) else
     -- "map at a named page meets a mapped page"
     10 when q is Map && not (eqb (q .p1) 64) && not (allAre false (v .slots) (q .p1) (q .p2)) else

@@ -24,11 +24,12 @@ turnedBack =
     -- 8 "rewind without a snapshot": "`8 0` after open"; and call 10, "Without a snapshot it is refusal 8"
     (call₁ Open 8 gives ok 0 ∷ call Rewind gives refused 8 ∷ call Compare gives refused 8 ∷ call Snapshot gives ok 0 ∷ call Rewind gives ok 0 ∷
     call Compare gives ok 64 ∷ []) ∷
-    -- 9 "unmap, protect, read or write meets an unmapped page": "`5 0 16383` after open"; and one mapped page of two
-    (call₁ Open 8 gives ok 0 ∷ call₁ Read 16383 gives refused 9 ∷ call₂ Unmap 0 1 gives refused 9 ∷ call₃ Protect 0 1 1 gives refused 9 ∷
-    call₂ Write 0 1 gives refused 9 ∷ mapAt 1 1 gives ok 1 ∷ call₂ Unmap 0 2 gives refused 9 ∷ call₂ Unmap 1 2 gives refused 9 ∷
-    call₃ Protect 0 2 1 gives refused 9 ∷ call₃ Protect 1 2 1 gives refused 9 ∷ call₁ Read 255 gives refused 9 ∷ call₁ Read 256 gives ok 0 ∷
-    call₂ Write 511 1 gives ok 0 ∷ call₂ Write 512 1 gives refused 9 ∷ call₂ Unmap 1 1 gives ok 0 ∷ call₁ Read 256 gives refused 9 ∷ []) ∷
+    -- 9 "unmap, protect, read or write meets an unmapped page": "`5 0 16383` after open"; and one mapped page of two. "Refusal 9 remains for protect, read
+    -- and write": an unmap of the same pages is accepted
+    (call₁ Open 8 gives ok 0 ∷ call₁ Read 16383 gives refused 9 ∷ call₂ Unmap 0 1 gives ok 0 ∷ call₃ Protect 0 1 1 gives refused 9 ∷
+    call₂ Write 0 1 gives refused 9 ∷ mapAt 1 1 gives ok 1 ∷ call₃ Protect 0 2 1 gives refused 9 ∷ call₃ Protect 1 2 1 gives refused 9 ∷
+    call₁ Read 255 gives refused 9 ∷ call₁ Read 256 gives ok 0 ∷ call₂ Write 511 1 gives ok 0 ∷ call₂ Write 512 1 gives refused 9 ∷
+    call₂ Unmap 0 2 gives ok 0 ∷ call₁ Read 256 gives refused 9 ∷ []) ∷
     -- 10 "map at a named page meets a mapped page": "`2 0 0 1 0 0 3` twice"; at its last page, at its first, beside it
     (call₁ Open 8 gives ok 0 ∷ call₅ Map 0 1 0 0 3 gives ok 0 ∷ call₅ Map 0 1 0 0 3 gives refused 10 ∷ mapAt 2 2 gives ok 2 ∷ mapAt 1 2 gives refused 10 ∷
     mapAt 3 2 gives refused 10 ∷ mapAt 1 1 gives ok 1 ∷ mapAt 4 1 gives ok 4 ∷ []) ∷

@@ -7,7 +7,7 @@ use lib.Dec.{leb, ltb, eqb}
 use borrow.Author.Tests.{leb-true, ltb-true, eqb-true, eqb-false, ne-eqb}
 use Rattle.basics.proofs.TestLaws.{by-cases, and-left, and-right}
 use Rattle.interface.specs.declared.request.Request.{Request}
-use Rattle.interface.specs.Requests.{_is_, Map, Unmap, Protect, Read, Write, backingOf}
+use Rattle.interface.specs.Requests.{_is_, Map, Protect, Read, Write, backingOf}
 use Rattle.interface.specs.Limits.{between, rightsOk, pagesOk, placeOk, backingOk, usesOne, usesTwo, usesThree, within}
 use Rattle.areas.specs.Areas.{startOf}
 use Rattle.rules.specs.Ready.{Fit}
@@ -70,11 +70,9 @@ fit images q few w =
           (ltb-true (q .p1) 16384 (and-left (ltb (q .p1) 16384) _ h), ltb-true (q .p2) 256 (and-left (ltb (q .p2) 256) _ (and-right (ltb (q .p1) 16384) _ h)));
     }
 
--- the pages that an unmap or a protect names, and the page of an address
-pub named-pages : (q : Request) → Fit q → (q is Unmap || q is Protect) ≡ true → q .p1 + q .p2 ≤ 64
-named-pages q f h =
-    by-cases (q is Unmap) (λ e. f .unmapped (eqb-true _ _ e))
-    (λ e. let h₁ : (q is Protect) ≡ true = rw e at h in f .protected (eqb-true _ _ h₁) .0)
+-- the pages that a protect names, and the page of an address
+pub protected-pages : (q : Request) → Fit q → q .code ≡ Protect → q .p1 + q .p2 ≤ 64
+protected-pages q f e = f .protected e .0
 
 pub named-address : (q : Request) → Fit q → (q is Read || q is Write) ≡ true → q .p1 < 16384
 named-address q f h =

@@ -18,14 +18,14 @@ use interface::page::PageNo;
 use interface::request::Request;
 use state::sandbox::Sandbox;
 
-// Row 9 does not apply: "unmap, protect, read or write meets an unmapped page".
+// Row 9 does not apply: "Refusal 9 remains for protect, read and write." An unmap passes over unmapped pages.
 pub fn all_mapped(present: Areas, q: Request) -> bool
     requires { ⌜ Near (present .list) ⌝ }
     requires { ⌜ Fit q ⌝ }
     ensures { λ r. ⌜ r ≡ allMapped (slots present) q ⌝ }
 {
     let code = q.code;
-    if (code == 3) | (code == 4) {
+    if code == 4 {
         return present.all_are(true, PageNo(q.p1 as u8), q.p2 as u8);
     }
     if (code == 5) | (code == 6) {
