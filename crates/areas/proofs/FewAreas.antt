@@ -1,16 +1,16 @@
 -- The slots of well formed areas have no more areas than these: row 14 never meets a sound state's own slots.
 use Prim.Native.Nat.{ℕ, zero, suc, _+_, _-_, _≤_, _<_}
 use mathlib.Core.Path.{_≡_, refl, sym, _∙_, ap}
-use mathlib.Core.Bool.{Bool, true, false, not, false≢true}
+use mathlib.Core.Bool.{Bool, true, false, false≢true}
 use native.Mathlib.Omega.{arith}
 use native.Mathlib.Numerals.{add-one}
 use lib.Dec.{ltb, eqb}
 use lib.ListN.{getD}
 use borrow.Author.Tests.{ltb-true, ltb-false, lt-ltb, le-ltb, eqb-true, eqb-false, eq-eqb, not-true}
-use Rattle.basics.specs.Ranges.{one, count}
+use Rattle.basics.specs.Ranges.{count}
 use Rattle.basics.proofs.TestLaws.{by-cases, and-left, and-right, same-of}
 use Rattle.basics.proofs.RangeLaws.{inside-first, inside-end, inside-yes, inside-past}
-use Rattle.basics.proofs.CountLaws.{count-small, count-le}
+use Rattle.basics.proofs.CountLaws.{count-small, count-le, count-less}
 use Rattle.interface.specs.declared.page.Backing.{Backing}
 use Rattle.interface.specs.declared.page.Backing.the-variants.{Anonymous, Image}
 use Rattle.interface.specs.Slots.{isMapped, advance, follows, joins, startsArea, areas}
@@ -19,21 +19,6 @@ use Rattle.areas.specs.declared.area.Areas.{Areas}
 use Rattle.areas.specs.Areas.{none, covers, slotOf, slots}
 use Rattle.areas.specs.Formed.{WellFormed}
 use Rattle.areas.proofs.SlotLaws.{covers-none, Found, found, slot-hit}
-
--- one number passes q and not p
-count-less : (p q : ℕ → Bool) (n k : ℕ) → ((i : ℕ) → p i ≡ true → q i ≡ true) → k < n → p k ≡ false → q k ≡ true → count p n < count q n
-unfolding count
-count-less p q zero k h l a b = absurd (omega arith)
-count-less p q (suc n) k h l a b =
-    by-cases (eqb k n)
-    (λ t. let x : p n ≡ false = rw (eqb-true k n t) at a in
-    let y : q n ≡ true = rw (eqb-true k n t) at b in
-    rw (x, y) (omega (arith, count-le p q n h)))
-    (λ t. omega (arith, one-up (p n) (q n) (h n), count-less p q n k h (omega (arith, eqb-false k n t)) a b))
-  where
-    one-up : (a b : Bool) → (a ≡ true → b ≡ true) → one a ≤ one b
-    one-up true b h = rw (h refl) (omega arith)
-    one-up false b h = omega arith
 
 -- neighbouring pages of one area join
 follows-next : (b : Backing) (d e : ℕ) → e ≡ d + 1 → follows (advance b d) 1 (advance b e) ≡ true
@@ -51,7 +36,8 @@ module _ (images : ℕ) (s : Areas) (w : WellFormed images s) where
   abbrev at : ℕ → Area
   at k = getD (s .list) k none
 
-  order : (j k : ℕ) → j < k → k < s .count → at j .first .0 + at j .pages ≤ at k .first .0
+  -- an area ends before each later one starts
+  pub order : (j k : ℕ) → j < k → k < s .count → at j .first .0 + at j .pages ≤ at k .first .0
   order j zero d l = absurd (omega arith)
   order j (suc k) d l =
       let a = rw (add-one k) at (w .apart k (omega arith)) in
@@ -59,7 +45,7 @@ module _ (images : ℕ) (s : Areas) (w : WellFormed images s) where
       (λ t. omega (arith, a .after, order j k (omega (arith, eqb-false j k t)) (omega arith)))
 
   -- a mapped page lies in one of the areas
-  area-of : (n : ℕ) → isMapped (slots s n) ≡ true → (r : Found (s .list) n) × (r .place < s .count)
+  pub area-of : (n : ℕ) → isMapped (slots s n) ≡ true → (r : Found (s .list) n) × (r .place < s .count)
   area-of n e =
       let r = found (s .list) n e in (
         r,
@@ -68,13 +54,17 @@ module _ (images : ℕ) (s : Areas) (w : WellFormed images s) where
             absurd (false≢true (sym (covers-none n) ∙ ap (λ (a : Area). covers a n) (sym z) ∙ r .covered))),
       )
 
+  -- an area says what stands at its pages
+  pub area-slot : (n k : ℕ) → k < s .count → at k .first .0 ≤ n → n < at k .first .0 + at k .pages → slots s n ≡ slotOf (at k) n
+  area-slot n k l f d =
+      slot-hit (s .list) n k (inside-yes (at k .first .0) (at k .pages) n f d)
+      (λ j b. inside-past (at j .first .0) (at j .pages) n (omega (arith, order j k b l)))
+
   -- a page of an area that starts before it joins the page before
   joins-before : (n k : ℕ) → k < s .count → covers (at k) (suc n) ≡ true → slotOf (at k) (suc n) ≡ slots s (suc n) → at k .first .0 ≤ n
       → joins (slots s n) (slots s (suc n)) ≡ true
   joins-before n k l c g f =
-      let there : covers (at k) n ≡ true = inside-yes (at k .first .0) (at k .pages) n f (omega (arith, inside-end (at k .first .0) (at k .pages) (suc n) c)) in
-      let here : slots s n ≡ slotOf (at k) n = slot-hit (s .list) n k there (λ j d. inside-past (at j .first .0) (at j .pages) n (omega (arith, order j k d l))) in
-      rw (here, ← g) (joins-next (at k) n f)
+      rw (area-slot n k l f (omega (arith, inside-end (at k .first .0) (at k .pages) (suc n) c)), ← g) (joins-next (at k) n f)
 
   -- where an area starts, one of the areas has its first page
   start-first : (n : ℕ) → startsArea (slots s) n ≡ true → (k : ℕ) × (k < s .count) × (at k .first .0 ≡ n)

@@ -6,5 +6,6 @@ pub mod WalkLaws
 pub mod CountedLaws
 pub mod KeptLaws
 pub mod FewAreas
+pub mod ToldLaws
 pub mod ChangeLaws
 pub mod Examples

@@ -1,7 +1,7 @@
 -- Laws of counts and sums below a bound.
 use Prim.Native.Nat.{ℕ, zero, suc, _+_, _≤_, _<_}
 use mathlib.Core.Path.{_≡_, refl}
-use mathlib.Core.Bool.{Bool, true, false}
+use mathlib.Core.Bool.{Bool, true, false, _||_}
 use native.Mathlib.Omega.{arith}
 use lib.Dec.{eqb}
 use borrow.Author.Tests.{eqb-true, eqb-false, ne-eqb}
@@ -27,6 +27,27 @@ pub count-le : (p q : ℕ → Bool) (n : ℕ) → ((i : ℕ) → p i ≡ true �
 unfolding count
 count-le p q zero h = omega arith
 count-le p q (suc n) h = omega (arith, one-le (p n) (q n) (h n), count-le p q n h)
+
+-- and one number passes the other alone
+pub count-less : (p q : ℕ → Bool) (n k : ℕ) → ((i : ℕ) → p i ≡ true → q i ≡ true) → k < n → p k ≡ false → q k ≡ true → count p n < count q n
+unfolding count
+count-less p q zero k h l a b = absurd (omega arith)
+count-less p q (suc n) k h l a b =
+    by-cases (eqb k n)
+    (λ t. let x : p n ≡ false = rw (eqb-true k n t) at a in
+    let y : q n ≡ true = rw (eqb-true k n t) at b in
+    rw (x, y) (omega (arith, count-le p q n h)))
+    (λ t. omega (arith, one-le (p n) (q n) (h n), count-less p q n k h (omega (arith, eqb-false k n t)) a b))
+
+-- what passes one of two tests
+pub count-either : (p q : ℕ → Bool) (n : ℕ) → count (λ i. p i || q i) n ≤ count p n + count q n
+unfolding count
+count-either p q zero = omega arith
+count-either p q (suc n) = omega (arith, count-either p q n, one-either (p n) (q n))
+  where
+    one-either : (a b : Bool) → one (a || b) ≤ one a + one b
+    one-either true b = omega arith
+    one-either false b = omega arith
 
 -- the same numbers pass
 pub count-equal : (p q : ℕ → Bool) (n : ℕ) → ((i : ℕ) → i < n → p i ≡ q i) → count p n ≡ count q n

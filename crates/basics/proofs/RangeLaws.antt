@@ -1,8 +1,9 @@
 -- Laws of a range of numbers, and of a function changed on a range.
 use Prim.Native.Nat.{ℕ, _+_, _-_, _≤_, _<_}
-use mathlib.Core.Path.{_≡_}
+use mathlib.Core.Path.{_≡_, fun-ext}
 use mathlib.Core.Bool.{true, false, _&&_}
 use native.Mathlib.Omega.{arith}
+use native.Mathlib.Decide.{decLt}
 use lib.Dec.{leb, ltb}
 use borrow.Author.Tests.{ltb-true, leb-true, lt-ltb, le-ltb, le-leb, lt-leb}
 use Rattle.basics.specs.Ranges.{inside, over}
@@ -59,3 +60,16 @@ over-in a n g f i e = rw e
 pub over-out {ℓ} : {A : Type ℓ} (a n : ℕ) (g f : ℕ → A) (i : ℕ) → inside a n i ≡ false → over a n g f i ≡ f i
 unfolding over
 over-out a n g f i e = rw e
+
+-- a range, and then the one behind it
+over-join-at {ℓ} : {A : Type ℓ} (a n m : ℕ) (g f : ℕ → A) (i : ℕ) → Dec (i < a) → Dec (i < a + n) → Dec (i < a + n + m)
+    → over (a + n) m g (over a n g f) i ≡ over a (n + m) g f i
+unfolding over
+over-join-at a n m g f i (yes x) y z = rw (inside-below (a + n) m i (omega arith), inside-below a n i x, inside-below a (n + m) i x)
+over-join-at a n m g f i (no x) (yes y) z = rw (inside-below (a + n) m i y, inside-yes a n i (omega arith) y, inside-yes a (n + m) i (omega arith) (omega arith))
+over-join-at a n m g f i (no x) (no y) (yes z) = rw (inside-yes (a + n) m i (omega arith) z, inside-yes a (n + m) i (omega arith) (omega arith))
+over-join-at a n m g f i (no x) (no y) (no z) =
+    rw (inside-past (a + n) m i (omega arith), inside-past a n i (omega arith), inside-past a (n + m) i (omega arith))
+
+pub over-join {ℓ} : {A : Type ℓ} (a n m : ℕ) (g f : ℕ → A) → over (a + n) m g (over a n g f) ≡ over a (n + m) g f
+over-join a n m g f = fun-ext λ i. over-join-at a n m g f i (decLt i a) (decLt i (a + n)) (decLt i (a + n + m))

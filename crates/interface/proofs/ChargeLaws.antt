@@ -28,7 +28,7 @@ unfolding uncommittedPages
 uncommitted-small f = count-small (λ i. isUncommitted (f i)) 64
 
 -- how many of the n numbers from a on are below j
-inside-part : (a n j : ℕ) → count (inside a n) j + min a j ≡ min (a + n) j
+pub inside-part : (a n j : ℕ) → count (inside a n) j + min a j ≡ min (a + n) j
 unfolding count
 inside-part a n zero = omega arith
 inside-part a n (suc j) =

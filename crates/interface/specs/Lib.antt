@@ -9,5 +9,6 @@ pub mod Refusals
 pub mod Settled
 pub mod Accepted
 pub mod Examples
+pub mod Gaps
 pub mod Edges
 pub mod Differences

@@ -1,4 +1,4 @@
--- The starred cases, "Turned back" and "Still clean?", by computation.
+-- The starred cases, "Turned back", "Still clean?" and "Unmapping over gaps", by computation.
 use mathlib.Core.Path.{_≡_, refl}
 use mathlib.Core.Bool.{true}
 use Rattle.basics.specs.Ranges.{count, sum, every, lowest, inside, over, alike}
@@ -11,6 +11,7 @@ use Rattle.plain.specs.Machine.{bytesAfter, frontAfter, backAfter, copie
 use Rattle.plain.specs.Cases.{cases, casesOver, noImage, allGiven}
 use Rattle.plain.specs.TurnedBack.{turnedBackCases}
 use Rattle.plain.specs.StillClean.{stillClean}
+use Rattle.plain.specs.OverGaps.{overGaps}
 
 pub starred-cases : allGiven (casesOver noImage cases) ≡ true
 unfolding allGiven count sum every lowest inside over follows joins areas mappedPages uncommittedPages lowestGap chargeOf
@@ -26,3 +27,8 @@ pub still-clean : allGiven stillClean ≡ true
 unfolding allGiven count sum every lowest inside over alike follows joins areas mappedPages uncommittedPages lowestGap chargeOf agree lowestDifference
     within firstOf slotsAfter copyAfter allMapped refusal bytesAfter frontAfter backAfter copiedBackAfter held differing coreValue answer after answers
 still-clean = refl
+
+pub over-gaps : allGiven overGaps ≡ true
+unfolding allGiven count sum every lowest inside over alike follows joins areas mappedPages uncommittedPages lowestGap chargeOf agree lowestDifference
+    within firstOf slotsAfter copyAfter allMapped refusal bytesAfter frontAfter backAfter copiedBackAfter held differing coreValue answer after answers
+over-gaps = refl

@@ -1,7 +1,9 @@
--- In reading order: the machine, lists of requests, what is claimed, the starred cases, the table of refusals, the table of call 10.
+-- In reading order: the machine, lists of requests, what is claimed, the starred cases, the table of refusals, the table of call 10, the table of
+-- unmaps over gaps.
 pub mod Machine
 pub mod Lists
 pub mod Claims
 pub mod Cases
 pub mod TurnedBack
 pub mod StillClean
+pub mod OverGaps

@@ -4,7 +4,7 @@ use mathlib.Core.Logic.{_⊎_, inl, inr, ⊎-elim}
 use mathlib.Core.Option.{none}
 use mathlib.Core.List.{List}
 use Prim.Native.Nat.{ℕ, zero, suc, _+_, _*_, _≤_, _<_}
-use native.Mathlib.Nat.{le-trans, le-of-eq, suc-mul}
+use native.Mathlib.Nat.{le-trans, le-of-eq, suc-mul, add-zero, add-suc}
 use native.Mathlib.Numerals.{add-one}
 use native.Mathlib.Omega.{arith}
 use lib.ListN.{length, getD, set, length-set, List·getD-eq-default}
@@ -88,3 +88,20 @@ free-kept-as size k s r e g = rw e (free-kept size k s g)
 pub free-more : (size first i : ℕ) (s r q : Store) → r ≡ freeTo size first s i → q ≡ free size (first + i) r → q ≡ freeTo size first s (i + 1)
 unfolding freeTo
 free-more size first i s r q a b = b ∙ rw (add-one i) (ap (free size (first + i)) a)
+
+-- ---- runs joined, and a run without a page
+
+-- a run, and then the one behind it
+pub freeTo-join : (size first : ℕ) (s : Store) (n m : ℕ) → freeTo size (first + n) (freeTo size first s n) m ≡ freeTo size first s (n + m)
+unfolding freeTo
+freeTo-join size first s n zero = ap (freeTo size first s) (sym (add-zero n))
+freeTo-join size first s n (suc m) =
+    let place : first + n + m ≡ first + (n + m) = omega arith in
+    rw (add-suc n m, place) (ap (free size (first + (n + m))) (freeTo-join size first s n m))
+
+-- entries that hold none stay as they are, and so does all else
+pub freeTo-none : (size first : ℕ) (s : Store) (n : ℕ) → ((i : ℕ) → i < n → entry s (first + i) ≡ 0) → freeTo size first s n ≡ s
+unfolding freeTo
+freeTo-none size first s zero h = refl
+freeTo-none size first s (suc n) h =
+    ap (free size (first + n)) (freeTo-none size first s n (λ i l. h i (omega arith))) ∙ free-none size (first + n) s (h n (omega arith))

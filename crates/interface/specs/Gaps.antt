@@ -1,0 +1,39 @@
+-- Request A2, "Unmapping over gaps": an unmap that only row 14 can refuse, and the mapped pages of its range as unmaps that name these alone.
+use Prim.Native.Nat.{ℕ, zero, suc, _-_, _≤_}
+use mathlib.Core.Path.{_≡_}
+use mathlib.Core.Bool.{true}
+use mathlib.Core.List.{List, [], _∷_}
+use Rattle.basics.specs.Choice.{_when_else_}
+use Rattle.interface.specs.declared.request.Request.{Request}
+use Rattle.interface.specs.Requests.{Unmap}
+use Rattle.interface.specs.Slots.{Slots, isMapped}
+use Rattle.interface.specs.Limits.{within}
+use Rattle.interface.specs.Refusals.{View}
+use Rattle.interface.specs.Examples.{call₂, inSandbox}
+
+-- an unmap of an open sandbox, within its limits: rows 4 and 6 do not apply
+pub record Unmaps (v : View) (q : Request) : Type 0 where
+  pub called : q .code ≡ Unmap
+  pub row : q .sandbox ≤ 3
+  pub opened : v .opened ≡ true
+  pub limits : within (v .imagePages) q ≡ true
+
+-- ---- "Unmap now passes over unmapped pages"
+
+-- the unmap of n pages of sandbox s from first on
+abbrev pub unmapOf : ℕ → ℕ → ℕ → Request
+unmapOf s first n = inSandbox s (call₂ Unmap first n)
+
+-- the unmap of the m pages before page i, where there are any, and then the rest
+abbrev pub withRun : ℕ → ℕ → ℕ → List Request → List Request
+withRun s zero i rest = rest
+withRun s (suc m) i rest = unmapOf s (i - suc m) (suc m) ∷ rest
+
+-- the unmaps of the longest runs of mapped pages, in page order: the m pages before page i are mapped and not yet in one, and n pages are left from i on
+unfoldable pub unmapsFrom : ℕ → Slots → ℕ → ℕ → ℕ → List Request
+unmapsFrom s f m i zero = withRun s m i []
+unmapsFrom s f m i (suc n) = unmapsFrom s f (suc m) (suc i) n when isMapped (f i) else withRun s m i (unmapsFrom s f 0 (suc i) n)
+
+-- of the range that an unmap names, and of its sandbox
+abbrev pub mappedAlone : Request → Slots → List Request
+mappedAlone q f = unmapsFrom (q .sandbox) f 0 (q .p1) (q .p2)
