@@ -6,15 +6,16 @@ use mathlib.Core.List.{[], _∷_}
 use native.Mathlib.Omega.{arith}
 use lib.Dec.{ltb, eqb}
 use borrow.Author.Tests.{leb-true, le-ltb, eqb-true, eqb-false}
-use Rattle.basics.specs.Choice.{_when_else_}
+use Rattle.basics.specs.Choice.{_when_else_, same}
 use Rattle.basics.specs.Ranges.{inside, over}
-use Rattle.basics.proofs.TestLaws.{by-cases, and-left, and-right, never}
+use Rattle.basics.proofs.TestLaws.{by-cases, and-left, and-right, never, same-true}
+use Rattle.basics.proofs.LoopLaws.{every-at}
 use Rattle.basics.proofs.RangeLaws.{inside-first, inside-end, inside-yes, inside-past, over-in, over-out}
 use Rattle.basics.proofs.CountLaws.{count-le, count-less, count-either}
 use Rattle.interface.specs.declared.page.Slot.the-variants.{Unmapped}
 use Rattle.interface.specs.declared.request.Request.{Request}
 use Rattle.interface.specs.Requests.{Unmap}
-use Rattle.interface.specs.Slots.{Slots, isMapped, joins, previous, startsArea, areas}
+use Rattle.interface.specs.Slots.{Slots, isMapped, joins, previous, startsArea, areas, allAre}
 use Rattle.interface.specs.Limits.{within}
 use Rattle.interface.specs.Outcome.{slotsAfter}
 use Rattle.interface.specs.Refusals.{View, allMapped, slotsThen, refusal}
@@ -33,7 +34,11 @@ use Rattle.interface.proofs.RowLaws.{row-13}
 abbrev pub without : ℕ → ℕ → Slots → Slots
 without a n f = over a n (λ i. Unmapped) f
 
--- a range with none mapped
+-- the pages of a range with none mapped
+pub none-in : (f : Slots) (a n : ℕ) → allAre false f a n ≡ true → (i : ℕ) → inside a n i ≡ true → isMapped (f i) ≡ false
+none-in f a n h i t =
+    sym (same-true false (isMapped (f i)) (every-at (λ i. same false (isMapped (f i))) a n h i (inside-first a n i t) (inside-end a n i t)))
+
 pub without-none : (f : Slots) (a n : ℕ) → ((i : ℕ) → inside a n i ≡ true → isMapped (f i) ≡ false) → without a n f ≡ f
 without-none f a n h =
     fun-ext λ i. by-cases (inside a n i)

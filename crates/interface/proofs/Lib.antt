@@ -4,5 +4,6 @@ pub mod AcceptedLaws
 pub mod ChargeLaws
 pub mod RowLaws
 pub mod GapLaws
+pub mod AloneLaws
 pub mod CompareLaws
 pub mod EdgeLaws

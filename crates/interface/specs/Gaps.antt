@@ -5,11 +5,12 @@ use mathlib.Core.Bool.{true}
 use mathlib.Core.List.{List, [], _∷_}
 use Rattle.basics.specs.Choice.{_when_else_}
 use Rattle.interface.specs.declared.request.Request.{Request}
+use Rattle.interface.specs.Answers.{Answered}
 use Rattle.interface.specs.Requests.{Unmap}
 use Rattle.interface.specs.Slots.{Slots, isMapped}
 use Rattle.interface.specs.Limits.{within}
 use Rattle.interface.specs.Refusals.{View}
-use Rattle.interface.specs.Examples.{call₂, inSandbox}
+use Rattle.interface.specs.Examples.{ok, call₂, inSandbox}
 
 -- an unmap of an open sandbox, within its limits: rows 4 and 6 do not apply
 pub record Unmaps (v : View) (q : Request) : Type 0 where
@@ -37,3 +38,8 @@ unmapsFrom s f m i (suc n) = unmapsFrom s f (suc m) (suc i) n when isMapped (f i
 -- of the range that an unmap names, and of its sandbox
 abbrev pub mappedAlone : Request → Slots → List Request
 mappedAlone q f = unmapsFrom (q .sandbox) f 0 (q .p1) (q .p2)
+
+-- and what each is to answer: accepted, with value 0
+abbrev pub allOk : List Request → List Answered
+allOk [] = []
+allOk (q ∷ qs) = ok 0 ∷ allOk qs

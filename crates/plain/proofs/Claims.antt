@@ -10,7 +10,8 @@ use Rattle.plain.specs.Claims.{TwoLists, RewoundIsRestored, Holds, Reads
 use Rattle.plain.specs.Cases.{cases, casesOver, noImage, allGiven}
 use Rattle.plain.specs.TurnedBack.{turnedBackCases}
 use Rattle.plain.specs.StillClean.{stillClean}
-use Rattle.plain.proofs.CaseLaws.{starred-cases, turned-back, still-clean}
+use Rattle.plain.specs.OverGaps.{overGaps}
+use Rattle.plain.proofs.CaseLaws.{starred-cases, turned-back, still-clean, over-gaps}
 use Rattle.plain.proofs.TwoListsLaws.{two-lists}
 use Rattle.plain.proofs.RewoundLaws.{rewound-restored}
 use Rattle.plain.proofs.KeptLaws.{holds-fresh, holds-after, frames-suffice, next-write, next-rewind}
@@ -28,6 +29,10 @@ claim-turned-back = turned-back
 -- every roll of "Still clean?" gets its answers
 pub claim-still-clean : allGiven stillClean ≡ true
 claim-still-clean = still-clean
+
+-- every roll of "Unmapping over gaps" gets its answers
+pub claim-over-gaps : allGiven overGaps ≡ true
+claim-over-gaps = over-gaps
 
 -- two lists tell a rewound sandbox the same
 pub claim-two-lists : (g : Given) → TwoLists g

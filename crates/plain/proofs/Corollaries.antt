@@ -22,7 +22,7 @@ unfolding after
 refused-changes-nothing g p q e = rw e
 
 -- a sandbox put back as it was
-put-same : (s : ℕ) (p : Plain) → put s (p s) p ≡ p
+pub put-same : (s : ℕ) (p : Plain) → put s (p s) p ≡ p
 put-same s p = fun-ext λ t. by-cases (eqb s t) (λ e. rw (e, eqb-true s t e)) (λ e. rw e)
 
 -- an accepted request that changes no field

@@ -7,3 +7,4 @@ pub mod ReadLaws
 pub mod CleanLaws
 pub mod Claims
 pub mod Corollaries
+pub mod OverGapsLaws

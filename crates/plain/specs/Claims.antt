@@ -11,11 +11,13 @@ use Rattle.basics.specs.Ranges.{count}
 use Rattle.interface.specs.declared.request.Request.{Request}
 use Rattle.interface.specs.Answers.{Answered}
 use Rattle.interface.specs.Requests.{_is_, Open, Read, Write, Snapshot, Rewind, Report, Compare, pageOf, offsetOf}
-use Rattle.interface.specs.Slots.{isMapped, isCommitted, isUncommitted, rightsAt, backingAt, areas, mappedPages, chargeOf, copied}
+use Rattle.interface.specs.Slots.{Slots, isMapped, isCommitted, isUncommitted, rightsAt, backingAt, areas, mappedPages, allAre, chargeOf, copied}
 use Rattle.interface.specs.Limits.{within}
 use Rattle.interface.specs.Refusals.{isTaken}
 use Rattle.interface.specs.Examples.{ok, refused, call, inSandbox}
-use Rattle.plain.specs.Machine.{Given, Core, Kept, Plain, fresh, closed, copySlots, copyBytes, backingByte, shares, numberAt, answer, answers, after}
+use Rattle.interface.specs.Gaps.{Unmaps, mappedAlone, allOk}
+use Rattle.plain.specs.Machine.{Given, Core, Kept, Plain, fresh, closed, copySlots, copyBytes, backingByte, shares, viewOf}
+use Rattle.plain.specs.Machine.{numberAt, answer, answers, after, afterAll}
 use Rattle.plain.specs.Lists.{upTo, Then, naming, toldLater, Rewound}
 
 -- "two lists .. : up to and with an accepted snapshot of the sandbox they are the same; each goes on with calls of its own up to an accepted rewind of
@@ -147,3 +149,25 @@ abbrev pub CleanReadsCopy : Given → Type 0
 CleanReadsCopy g =
     (p : Plain) (s : ℕ) → answer g p (compareOf s) ≡ ok 64
     → (q : Request) → (q is Read) ≡ true → q .sandbox ≡ s → within (length (g .image) / 256) q ≡ true → answer g p q ≡ copyAnswer (p s .core) q
+
+-- ---- request A2, "Unmapping over gaps": of an unmap within its limits, of an open sandbox, after every list
+
+abbrev pub UnmapsAfter : Given → List Request → Request → Type 0
+UnmapsAfter g qs q = Unmaps (viewOf g (shares (upTo g qs)) (upTo g qs (q .sandbox) .core)) q
+
+-- the slots of the sandbox that it names
+abbrev pub slotsBefore : Given → List Request → Request → Slots
+slotsBefore g qs q = upTo g qs (q .sandbox) .core .pages .slots
+
+-- "a range with none mapped is accepted and changes nothing"
+abbrev pub UnmapOfNothing : Given → Type 0
+UnmapOfNothing g =
+    (qs : List Request) (q : Request) → UnmapsAfter g qs q → allAre false (slotsBefore g qs q) (q .p1) (q .p2) ≡ true
+    → (answer g (upTo g qs) q ≡ ok 0) × (after g (upTo g qs) q ≡ upTo g qs)
+
+-- "Unmap now passes over unmapped pages": where it is accepted, so are the unmaps of its mapped pages alone, and they leave the same
+abbrev pub UnmapsAlone : Given → Type 0
+UnmapsAlone g =
+    (qs : List Request) (q : Request) → UnmapsAfter g qs q → numberAt g (upTo g qs) q ≡ 0
+    → let alone = mappedAlone q (slotsBefore g qs q) in
+    (answers g (upTo g qs) alone ≡ allOk alone) × (afterAll g (upTo g qs) alone ≡ after g (upTo g qs) q)
