@@ -1,9 +1,10 @@
 //! The plain machine of "Rewinding sandboxes: pages, frames and the call roll",
 //! and the player of its roll.
 //!
-//! Sentences in quotation marks are the document's, or those of the request that added call
-//! 10; MACHINE and a number is a clause of docs/MACHINE.md, which states both whole. The machine knows no frames:
-//! where a program holds a frame, it keeps a front or a back mark on a page.
+//! Sentences in quotation marks are the document's, or those of the requests that added call 10
+//! and let unmap pass over gaps; MACHINE and a number is a clause of docs/MACHINE.md, which
+//! states all of them whole. The machine knows no frames: where a program holds a frame, it
+//! keeps a front or a back mark on a page.
 //!
 //! Read in this order:
 //! - `page`: one page, and how pages run together into areas;

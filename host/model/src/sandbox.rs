@@ -63,7 +63,7 @@ impl Sandbox {
 
     // Questions about pages.
 
-    /// MACHINE 6, row 9: whether no page of these is unmapped.
+    /// MACHINE 6, row 9, of protect: whether no page of these is unmapped.
     pub fn all_mapped(&self, pages: Range<usize>) -> bool {
         self.pages[pages].iter().all(|page| page.mapped)
     }
@@ -117,9 +117,10 @@ impl Sandbox {
         }
     }
 
-    /// MACHINE 9.8: "Unmap takes away mapping, mark and front mark."
+    /// MACHINE 9.8 and 4.8: "Unmap takes away mapping, mark and front mark", and "passes over
+    /// unmapped pages": such a page stays as it is. A back mark stays: it is the snapshot's.
     pub fn unmap(&mut self, pages: Range<usize>) {
-        for page in &mut self.pages[pages] {
+        for page in self.pages[pages].iter_mut().filter(|page| page.mapped) {
             page.mapped = false;
             page.committed = false;
             page.front = false;

@@ -166,11 +166,11 @@ fn row_9_meets_an_unmapped_page() {
     let mut machine = after(&["1 0 8"]);
     assert_eq!(refusal(&mut machine, "5 0 16383"), 9);
     accept(&mut machine, &["2 0 2 2 0 0 3", "2 0 5 1 0 0 3"]);
-    for text in
-        ["3 0 1 2", "3 0 2 4", "4 0 1 2 1", "4 0 2 4 1", "5 0 511", "5 0 1024", "6 0 1024 1"]
-    {
+    for text in ["4 0 1 2 1", "4 0 2 4 1", "4 0 7 1 3", "5 0 511", "5 0 1024", "6 0 1024 1"] {
         assert_eq!(refusal(&mut machine, text), 9, "{text}");
     }
+    // "Refusal 9 remains for protect, read and write": unmap passes over the same pages.
+    accept(&mut machine, &["3 0 7 1", "3 0 1 2", "3 0 3 3"]);
 }
 
 #[test]
@@ -261,7 +261,8 @@ fn the_lowest_number_is_answered() {
         ("2 0 64 61 0 0 3", 11),
         ("2 0 64 60 0 0 3", 13),
         ("3 0 3 62", 6),
-        ("3 0 3 2", 9),
+        ("4 0 3 62 3", 6),
+        ("4 0 3 2 3", 9),
     ] {
         assert_eq!(refusal(&mut machine, text), number, "{text}");
     }
@@ -271,4 +272,12 @@ fn the_lowest_number_is_answered() {
         accept(&mut machine, &[&format!("2 0 {page} 1 0 0 3")]);
     }
     assert_eq!(refusal(&mut machine, "2 0 16 1 0 0 3"), 13);
+    // A protect that would make a ninth area, with an unmapped page in its range: 9 before 14.
+    accept(&mut machine, &["1 1 16"]);
+    for page in (0..=14).step_by(2) {
+        accept(&mut machine, &[&format!("2 1 {page} 1 0 0 3")]);
+    }
+    accept(&mut machine, &["2 1 15 1 0 0 3"]);
+    assert_eq!(refusal(&mut machine, "4 1 15 1 1"), 14);
+    assert_eq!(refusal(&mut machine, "4 1 15 2 1"), 9);
 }
