@@ -177,7 +177,8 @@ class Machine:
         return self.answer(2, sandbox, place, pages, *backing, rights)
 
     def unmap(self, sandbox, first, pages=1):
-        """Unmap so many pages. Their frames are freed and cleared."""
+        """Unmap so many pages. Their frames are freed and cleared. Pages that are not mapped are passed over, so that a whole range can be released
+        whatever is in it; where none is mapped, nothing changes."""
         self.answer(3, sandbox, first, pages)
 
     def protect(self, sandbox, first, pages, rights):

@@ -52,7 +52,30 @@ class Calls(unittest.TestCase):
         machine.protect(0, 2, 1, Rights.READ_WRITE)
         machine.write(0, address(2, 0), 1)
         machine.unmap(0, 2)
-        self.refused(Refusal.NOT_MAPPED, machine.unmap, 0, 2)
+        self.refused(Refusal.NOT_MAPPED, machine.protect, 0, 2, 1, Rights.READ)
+        self.refused(Refusal.NOT_MAPPED, machine.write, 0, address(2, 0), 1)
+
+    def test_unmap_passes_over_gaps(self):
+        machine = Machine(frames=16)
+        machine.open(0, 16)
+        for page in (2, 5, 9):
+            machine.map(0, 2, at=page)
+            machine.write(0, address(page, 0), page)
+        machine.snapshot(0)
+        memory = (machine.state, machine.pool, machine.table)
+        for first, pages in ((0, 2), (4, 1), (7, 2), (11, 53)):
+            self.assertEqual(machine.answer(3, 0, first, pages), 0)
+            self.assertEqual((machine.state, machine.pool, machine.table), memory)
+            self.refused(Refusal.NOT_MAPPED, machine.protect, 0, first, pages, Rights.READ)
+        machine.unmap(0, 3, 7)
+        for page in (3, 4, 5, 6, 9):
+            self.refused(Refusal.NOT_MAPPED, machine.read, 0, address(page, 0))
+        self.assertEqual((machine.read(0, address(2, 0)), machine.read(0, address(10, 0))), (2, 0))
+        machine.unmap(0, 0, 64)
+        self.assertEqual(machine.report(0), 3)
+        machine.unmap(0, 0, 64)
+        machine.rewind(0)
+        self.assertEqual((machine.state, machine.pool, machine.table), memory)
 
     def test_still_clean(self):
         machine = Machine(frames=8)

@@ -39,7 +39,8 @@ enum gazhuppin_code {
     GAZHUPPIN_MAP = 2,      /* p1 first page, or GAZHUPPIN_LOWEST_GAP; p2 pages, 1 to 64; p3
                                backing; p4 first image page (0 when anonymous); p5 rights.
                                Value: first page */
-    GAZHUPPIN_UNMAP = 3,    /* p1 first page; p2 pages, 1 to 64 */
+    GAZHUPPIN_UNMAP = 3,    /* p1 first page; p2 pages, 1 to 64. Pages that are not mapped are
+                               passed over: where none is mapped, nothing changes */
     GAZHUPPIN_PROTECT = 4,  /* p1 first page; p2 pages, 1 to 64; p3 rights */
     GAZHUPPIN_READ = 5,     /* p1 address. Value: the byte */
     GAZHUPPIN_WRITE = 6,    /* p1 address; p2 byte */
@@ -68,7 +69,7 @@ enum gazhuppin_refusal {
                                        pages past the image, an unused parameter not 0 */
     GAZHUPPIN_SNAPSHOT_TAKEN = 7,   /* a second snapshot */
     GAZHUPPIN_NO_SNAPSHOT = 8,      /* rewind or compare without a snapshot */
-    GAZHUPPIN_NOT_MAPPED = 9,       /* unmap, protect, read or write meets an unmapped page */
+    GAZHUPPIN_NOT_MAPPED = 9,       /* protect, read or write meets an unmapped page */
     GAZHUPPIN_ALREADY_MAPPED = 10,  /* map at a named page meets a mapped page */
     GAZHUPPIN_NO_GAP = 11,          /* map at the lowest gap, and none is long enough */
     GAZHUPPIN_NOT_WRITABLE = 12,    /* write to a page without the write right */

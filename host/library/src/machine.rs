@@ -102,7 +102,9 @@ impl Machine {
         self.answer(&Call::map(sandbox, place, pages, backing, rights)).map(|page| page as u8)
     }
 
-    /// Unmap pages. Their frames are freed and cleared.
+    /// Unmap pages. Their frames are freed and cleared. Pages that are not mapped are passed
+    /// over, so that a whole range can be released whatever is in it; where none is mapped,
+    /// nothing changes.
     ///
     /// ```
     /// # use gazhuppin::{Address, Backing, Machine, Place, Rights};
@@ -111,6 +113,8 @@ impl Machine {
     /// machine.map(0, Place::At(0), 4, Backing::Anonymous, Rights::Read)?;
     /// machine.unmap(0, 1..3)?;
     /// assert!(machine.read(0, Address::of(1, 0)).is_err());
+    /// machine.unmap(0, 0..64)?; // pages 0 and 3, and 62 that are not mapped
+    /// assert!(machine.read(0, Address::of(3, 0)).is_err());
     /// # Ok::<(), gazhuppin::Refusal>(())
     /// ```
     pub fn unmap(&mut self, sandbox: u16, pages: Range<u8>) -> Result<(), Refusal> {

@@ -31,7 +31,7 @@ pub enum Refusal {
     SnapshotTaken = 7,
     /// Rewind or compare without a snapshot.
     NoSnapshot = 8,
-    /// Unmap, protect, read or write meets an unmapped page.
+    /// Protect, read or write meets an unmapped page. (Unmap passes over it.)
     NotMapped = 9,
     /// Map at a named page meets a mapped page.
     AlreadyMapped = 10,

@@ -75,6 +75,41 @@ fn each_method_is_its_call() {
     assert_eq!(told, expected);
 }
 
+/// "Unmap now passes over unmapped pages, and a range with none mapped is accepted and changes
+/// nothing. Refusal 9 remains for protect, read and write."
+#[test]
+fn unmap_passes_over_gaps() {
+    let mut machine = Machine::start([], 16).expect("right lengths");
+    machine.open(0, 16).expect("open");
+    let nothing_mapped = machine.clone();
+    assert_eq!(machine.unmap(0, 0..64), Ok(()));
+    assert!(machine == nothing_mapped, "an unmap of nothing changed something");
+    for page in [2, 5, 9] {
+        let place = Place::At(page);
+        assert_eq!(machine.map(0, place, 2, Backing::Anonymous, Rights::ReadWrite), Ok(page));
+        assert_eq!(machine.write(0, Address::of(page, 0), page), Ok(()));
+    }
+    assert_eq!(machine.snapshot(0), Ok(6));
+    let clean = machine.clone();
+    for gap in [0..2, 4..5, 7..9, 11..64] {
+        assert_eq!(machine.unmap(0, gap.clone()), Ok(()), "{gap:?}");
+        assert!(machine == clean, "an unmap of {gap:?} changed something");
+        assert_eq!(machine.protect(0, gap.clone(), Rights::Read), Err(Refusal::NotMapped));
+    }
+    assert_eq!(machine.protect(0, 3..10, Rights::Read), Err(Refusal::NotMapped));
+    assert_eq!(machine.unmap(0, 3..10), Ok(()));
+    for page in 0..64 {
+        let mapped = [2, 10].contains(&page);
+        let read = machine.read(0, Address::of(page, 255));
+        assert_eq!(read, if mapped { Ok(0) } else { Err(Refusal::NotMapped) }, "page {page}");
+    }
+    assert_eq!(machine.report(0), Ok(3), "the backs of pages 2, 5 and 9");
+    assert_eq!(machine.unmap(0, 3..10), Ok(()));
+    assert_eq!(machine.report(0), Ok(3), "the same");
+    machine.rewind(0).expect("a snapshot is taken");
+    assert!(machine == clean, "the rewound machine is another");
+}
+
 #[test]
 fn what_has_no_number_is_outside_the_limits() {
     let mut machine = Machine::start([], 8).expect("right lengths");

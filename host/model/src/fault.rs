@@ -102,11 +102,39 @@ pub enum Fault {
     CompareLooksAtUnmappedBytes,
     /// Compare frees the fronts of pages that agree.
     CompareFreesAgreeingFronts,
+
+    // Slips near MACHINE 4.8 and row 9: unmap passes over unmapped pages, and no other call does.
+    /// An unmap that meets an unmapped page is refused 9, as it was before the request.
+    UnmapRefusedOverGap,
+    /// Only an unmap with none mapped is refused 9.
+    UnmapOfNothingRefused,
+    /// An unmap is refused 9 where its first page is unmapped.
+    UnmapLooksAtFirstPage,
+    /// An unmap is refused 9 where it meets a page that was unmapped since the snapshot.
+    UnmapTwiceRefused,
+    /// An unmap stops at the first unmapped page.
+    UnmapStopsAtGap,
+    /// Of the runs of mapped pages only the last is unmapped.
+    UnmapTakesLastRun,
+    /// All mapped pages are unmapped, but fronts are freed only as far as the first gap.
+    UnmapLeavesFrontsBehindGap,
+    /// The back of a page that is passed over is freed.
+    UnmapFreesBackInGap,
+    /// The value is how many pages were unmapped.
+    UnmapCountsPages,
+    /// Refusal 14 counts a range with an unmapped page as a hole that makes one area more.
+    UnmapOverGapNeedsArea,
+    /// Protect passes over unmapped pages too.
+    ProtectPassesOverGaps,
+    /// A read of an unmapped page is accepted and gives 0.
+    ReadPassesOverGap,
+    /// A write to an unmapped page is accepted and does nothing.
+    WritePassesOverGap,
 }
 
 impl Fault {
     /// Every fault, without `None`.
-    pub const ALL: [Fault; 43] = [
+    pub const ALL: [Fault; 56] = [
         Fault::HandsOutRewoundPlace,
         Fault::SearchesPastRewoundPlace,
         Fault::DropsSnapshotFrame,
@@ -150,5 +178,18 @@ impl Fault {
         Fault::CompareForgetsUnmapped,
         Fault::CompareLooksAtUnmappedBytes,
         Fault::CompareFreesAgreeingFronts,
+        Fault::UnmapRefusedOverGap,
+        Fault::UnmapOfNothingRefused,
+        Fault::UnmapLooksAtFirstPage,
+        Fault::UnmapTwiceRefused,
+        Fault::UnmapStopsAtGap,
+        Fault::UnmapTakesLastRun,
+        Fault::UnmapLeavesFrontsBehindGap,
+        Fault::UnmapFreesBackInGap,
+        Fault::UnmapCountsPages,
+        Fault::UnmapOverGapNeedsArea,
+        Fault::ProtectPassesOverGaps,
+        Fault::ReadPassesOverGap,
+        Fault::WritePassesOverGap,
     ];
 }

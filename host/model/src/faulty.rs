@@ -5,6 +5,7 @@
 
 use crate::fault::Fault;
 use crate::faulty_compare::{free_agreeing_fronts, wrong_difference};
+use crate::faulty_gaps::{accept_unmapped, wrong_unmap};
 use crate::machine::{Answering, Machine, Refusal, Reply, SANDBOXES};
 use crate::page::{count_areas, Backing, Page, PAGES, PAGE_BYTES};
 use crate::roll::Call;
@@ -105,6 +106,9 @@ impl Faulty {
                 let nothing = [Page::FRESH; PAGES];
                 return (0, sandbox.lowest_difference(&nothing) as u32);
             }
+            _ if number == Refusal::MeetsUnmapped as u16 => {
+                return accept_unmapped(self.fault, call, sandbox);
+            }
             _ => return (number, 0),
         }
         (0, 0)
@@ -143,10 +147,9 @@ impl Faulty {
                     }
                 }
             }
-            (Fault::UnmapFreesBack, 3) => {
-                for page in sandbox.pages.iter_mut().filter(|page| !page.mapped) {
-                    page.back = false;
-                }
+            (fault, 3) => {
+                let wrong = wrong_unmap(fault, call, &before, sandbox);
+                return wrong.unwrap_or_else(|refusal| refuse(sandbox, before, refusal));
             }
             (Fault::ReadTakesFrame, 5) => {
                 sandbox.pages[usize::from(call.parameters[0]) / PAGE_BYTES].front = true;

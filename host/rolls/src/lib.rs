@@ -4,13 +4,17 @@
 //! - `prng`: the numbers, all drawn from a seed;
 //! - `steering`: the next call, chosen with the machine's state in view, so that
 //!   rolls reach deep states;
+//! - `mood`: what a whole roll tends to;
 //! - `put_back`: calls that undo what was changed since the snapshot;
+//! - `gaps`: ranges that meet unmapped pages;
 //! - `spoil`: calls at and past the limits, and malformed lines;
 //! - `case`: a roll with its image and its number of frames;
 //! - `shrink`: a smaller case that still fails;
 //! - `pair`: two lists alike but for what came between a snapshot and a rewind.
 
 mod case;
+mod gaps;
+mod mood;
 mod pair;
 mod prng;
 mod put_back;

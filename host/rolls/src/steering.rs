@@ -3,9 +3,11 @@
 //! Calls drawn blindly would nearly all be refused. Here most are accepted, or are
 //! refused by one of the later rows of the table.
 
+use crate::gaps::{around, over_gaps, unmapped_or_inside};
+use crate::mood::Mood;
 use crate::prng::Prng;
 use crate::put_back::{map_alike, put_back};
-use model::{Backing, Call, Machine, Page, Sandbox, PAGES, PAGE_BYTES, SANDBOXES};
+use model::{Backing, Call, Machine, Page, Sandbox, AREAS, PAGES, PAGE_BYTES, SANDBOXES};
 
 /// Offsets met again and again, so that reads meet what was written.
 const OFFSETS: [usize; 4] = [0, 1, 44, 255];
@@ -14,21 +16,6 @@ const OFFSETS: [usize; 4] = [0, 1, 44, 255];
 const COMPARE: u16 = 10;
 /// No call's code: whatever brings the sandbox nearer to its snapshot.
 const PUT_BACK: u16 = 0;
-
-/// What a whole roll tends to.
-#[derive(Clone, Debug)]
-struct Mood {
-    /// The sandboxes that calls mostly name: this many, from 0.
-    sandboxes: usize,
-    /// Single pages apart from each other and changing rights: many areas.
-    scattered: bool,
-    /// Percentage of maps that are backed by the image.
-    image: usize,
-    /// Percentage of maps at 64.
-    lowest_gap: usize,
-    /// Small shares are soon filled.
-    share: usize,
-}
 
 #[derive(Clone, Debug)]
 pub struct Steering {
@@ -48,6 +35,10 @@ pub(crate) fn new_call(code: u16, sandbox: usize, parameters: [usize; 5]) -> Cal
     Call { code, sandbox: sandbox as u16, parameters }
 }
 
+fn unmap_of(number: usize, [first, count]: [usize; 2]) -> Call {
+    new_call(3, number, [first, count, 0, 0, 0])
+}
+
 /// Whether calls are still to be spent on this sandbox; then there is one less.
 fn one_less(spent_on: &mut Option<(usize, usize)>, sandbox: usize) -> bool {
     let still = matches!(spent_on, Some((at, _)) if *at == sandbox);
@@ -59,13 +50,7 @@ fn one_less(spent_on: &mut Option<(usize, usize)>, sandbox: usize) -> bool {
 
 impl Steering {
     pub fn new(mut prng: Prng) -> Steering {
-        let mood = Mood {
-            sandboxes: prng.weighted(&[(4, 1), (3, 2), (2, 3), (2, 4)]),
-            scattered: prng.chance(30),
-            image: prng.pick(&[0, 30, 60, 90]),
-            lowest_gap: prng.pick(&[20, 50, 80]),
-            share: prng.pick(&[3, 8, 16, 32, 64, 128]),
-        };
+        let mood = Mood::random(&mut prng);
         Steering { prng, mood, looking: None, comparing: None, gone: None }
     }
 
@@ -97,6 +82,9 @@ impl Steering {
                 (0..3, _) => return self.map_at(machine, number, page, 1),
                 (3..6, Some(copy)) => {
                     return map_alike(&mut self.prng, machine, number, page, &copy[page])
+                }
+                (6..9, _) if !sandbox.pages[page].mapped => {
+                    return unmap_of(number, around(&mut self.prng, sandbox, page));
                 }
                 _ => {}
             }
@@ -141,11 +129,11 @@ impl Steering {
             return self.prng.within(1..=10) as u16;
         }
         if mapped == 0 && self.prng.chance(85) {
-            return self.prng.weighted(&[(8, 2), (1, 7), (if taken { 4 } else { 0 }, 8)]);
+            return self.prng.weighted(&[(16, 2), (2, 7), (1, 3), (if taken { 8 } else { 0 }, 8)]);
         }
         let too_much_for_snapshot = !taken && 2 * mapped > sandbox.share;
         let map = if sandbox.charge() < sandbox.share { 20 } else { 4 };
-        let unmap = if too_much_for_snapshot { 18 } else { 10 };
+        let unmap = if too_much_for_snapshot { 16 } else { 8 };
         let snapshot = if taken || too_much_for_snapshot { 1 } else { 7 };
         let rewind = if taken { 9 } else { 1 };
         let compare = if taken { 7 } else { 1 };
@@ -175,7 +163,11 @@ impl Steering {
         let sandbox = machine.sandbox(number);
         let few = if self.mood.scattered { 1 } else { 3 };
         let most = self.prng.weighted(&[(14, few), (4, 8), (1, PAGES)]);
-        let count = self.prng.within(1..=most);
+        let mut count = self.prng.within(1..=most);
+        if sandbox.areas() == AREAS && self.prng.chance(20) {
+            // One page too many for the share: where it makes an area more, rows 13 and 14 apply.
+            count = (sandbox.share - sandbox.charge() + 1).min(PAGES);
+        }
         let place = if self.prng.chance(self.mood.lowest_gap) {
             PAGES
         } else {
@@ -241,16 +233,23 @@ impl Steering {
     }
 
     fn unmap(&mut self, sandbox: &Sandbox, number: usize) -> Call {
+        if let Some(pages) = unmapped_or_inside(&mut self.prng, sandbox) {
+            return unmap_of(number, pages);
+        }
         let committed = self.prng.chance(60) && sandbox.pages.iter().any(|page| page.committed);
         let first = self.page(sandbox, |page| page.mapped && (page.committed || !committed));
         let count = self.count(sandbox, first);
         self.gone = Some((number, first)).filter(|_| sandbox.pages[first].committed);
-        new_call(3, number, [first, count, 0, 0, 0])
+        unmap_of(number, [first, count])
     }
 
     fn protect(&mut self, sandbox: &Sandbox, number: usize) -> Call {
-        let first = self.page(sandbox, |page| page.mapped);
-        let count = self.count(sandbox, first);
+        let [first, count] = if self.prng.chance(8) {
+            over_gaps(&mut self.prng, sandbox)
+        } else {
+            let first = self.page(sandbox, |page| page.mapped);
+            [first, self.count(sandbox, first)]
+        };
         let other = if sandbox.pages[first].rights == 3 { 1 } else { 3 };
         let rights = self.prng.weighted(&[(4, other), (1, 3)]);
         new_call(4, number, [first, count, rights, 0, 0])

@@ -93,9 +93,20 @@ fn every_state_is_sound_and_every_refusal_changes_nothing() {
     assert!(refused > 1_000, "{refused}");
 }
 
+/// "Unmap takes away mapping, mark and front mark", and "passes over unmapped pages".
+fn check_unmapped(call: &Call, before: &Sandbox, after: &Sandbox) {
+    let [first, pages, ..] = call.parameters.map(usize::from);
+    let mut expected = before.clone();
+    for page in expected.pages[first..first + pages].iter_mut().filter(|page| page.mapped) {
+        *page = Page { mapped: false, committed: false, front: false, ..*page };
+    }
+    assert!(*after == expected, "{call:?}");
+}
+
 fn check_accepted(call: &Call, before: &Sandbox, after: &Sandbox) {
     check(after);
     match call.code {
+        3 => check_unmapped(call, before, after),
         5 | 9 | 10 => assert!(after == before, "a read, a report or a compare changed something"),
         8 => check_rewound(before, after),
         _ => {}

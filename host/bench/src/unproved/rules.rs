@@ -41,10 +41,8 @@ pub fn decide(
             refuse_if(charge > usize::from(sandbox.share), Refusal::ShareExceeded)?;
             changed(present.changed(first, pages, Change::Map(new_page(q))), Some(first))
         }
-        3 => {
-            refuse_if(!present.all_mapped(first, pages), Refusal::NotMapped)?;
-            changed(present.changed(first, pages, Change::Unmap), None)
-        }
+        // "Unmap now passes over unmapped pages".
+        3 => changed(present.changed(first, pages, Change::Unmap), None),
         4 => {
             refuse_if(!present.all_mapped(first, pages), Refusal::NotMapped)?;
             changed(present.changed(first, pages, Change::Protect(q.p3 as u8)), None)

@@ -1,6 +1,7 @@
 //! How deep the random rolls reach: a roll that never gets anywhere tells nothing.
 
 mod compare;
+mod gaps;
 
 use model::{parse_line, Answering, Backing, Call, Machine, Sandbox, CODES, LINE_BYTES, SANDBOXES};
 use rolls::Case;
@@ -147,7 +148,7 @@ fn possible_answers() -> Vec<(u16, u16)> {
         &[1, 2],
         &[0, 3, 4, 5, 6, 13],
         &[0, 3, 4, 6, 10, 11, 13, 14],
-        &[0, 3, 4, 6, 9, 14],
+        &[0, 3, 4, 6, 14],
         &[0, 3, 4, 6, 9, 14],
         &[0, 3, 4, 6, 9],
         &[0, 3, 4, 6, 9, 12],
