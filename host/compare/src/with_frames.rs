@@ -24,6 +24,10 @@ pub enum MemoryFault {
     RewindLeavesBytes,
     /// An unmap clears a front's frame but leaves the entry.
     UnmapLeavesEntry,
+    /// An unmap frees all its fronts, but clears frames only as far as the first gap.
+    UnmapLeavesBytesBehindGap,
+    /// An unmap clears the back frame of a page that it passes over.
+    UnmapClearsBackInGap,
     /// A snapshot enters the front's frame as back, but leaves it as front as well.
     SnapshotLeavesFront,
     /// The first write to a committed page goes into its back frame.
@@ -36,13 +40,15 @@ pub enum MemoryFault {
 
 impl MemoryFault {
     /// Every fault, without `None`.
-    pub const ALL: [MemoryFault; 10] = [
+    pub const ALL: [MemoryFault; 12] = [
         MemoryFault::StartLeavesPool,
         MemoryFault::StartLeavesLastEntry,
         MemoryFault::WrongLengthClears,
         MemoryFault::UnmapLeavesBytes,
         MemoryFault::RewindLeavesBytes,
         MemoryFault::UnmapLeavesEntry,
+        MemoryFault::UnmapLeavesBytesBehindGap,
+        MemoryFault::UnmapClearsBackInGap,
         MemoryFault::SnapshotLeavesFront,
         MemoryFault::WritesIntoBack,
         MemoryFault::RewindForgetsLastByte,
@@ -120,6 +126,10 @@ impl WithFrames {
                 let left = match self.fault {
                     MemoryFault::UnmapLeavesBytes => call.code == 3,
                     MemoryFault::RewindLeavesBytes => call.code == 8,
+                    MemoryFault::UnmapLeavesBytesBehindGap => {
+                        let first = usize::from(call.parameters[0]);
+                        call.code == 3 && !before.all_mapped(first..at)
+                    }
                     _ => false,
                 };
                 if !left {
@@ -127,6 +137,12 @@ impl WithFrames {
                 }
                 if self.fault != MemoryFault::UnmapLeavesEntry || call.code != 3 {
                     self.table[front] = 0;
+                }
+            } else if self.fault == MemoryFault::UnmapClearsBackInGap && call.code == 3 {
+                let [first, count, ..] = call.parameters.map(usize::from);
+                let passed_over = (first..first + count).contains(&at) && !was.mapped;
+                if passed_over && self.table[back] != 0 {
+                    self.frame(self.table[back]).fill(0);
                 }
             }
         }

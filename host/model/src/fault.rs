@@ -104,12 +104,13 @@ pub enum Fault {
     CompareFreesAgreeingFronts,
 
     // Slips near MACHINE 4.8 and row 9: unmap passes over unmapped pages, and no other call does.
-    /// An unmap that meets an unmapped page is refused 9, as it was before the request.
+    /// An unmap with mapped and unmapped pages is refused 9; one with none mapped is accepted.
     UnmapRefusedOverGap,
-    /// Only an unmap with none mapped is refused 9.
+    /// An unmap with none mapped is refused 9; one with mapped and unmapped pages is accepted.
     UnmapOfNothingRefused,
-    /// An unmap is refused 9 where its first page is unmapped.
-    UnmapLooksAtFirstPage,
+    /// Gaps are passed over behind a mapped page: to begin in one, with a mapped page behind it,
+    /// is refused 9.
+    UnmapMustBeginMapped,
     /// An unmap is refused 9 where it meets a page that was unmapped since the snapshot.
     UnmapTwiceRefused,
     /// An unmap stops at the first unmapped page.
@@ -122,10 +123,12 @@ pub enum Fault {
     UnmapFreesBackInGap,
     /// The value is how many pages were unmapped.
     UnmapCountsPages,
-    /// Refusal 14 counts a range with an unmapped page as a hole that makes one area more.
+    /// Refusal 14 counts a range with mapped and unmapped pages as a hole: one area more.
     UnmapOverGapNeedsArea,
-    /// Protect passes over unmapped pages too.
+    /// Protect passes over unmapped pages too, where some are mapped.
     ProtectPassesOverGaps,
+    /// Protect is accepted, and does nothing, where none is mapped.
+    ProtectOfNothingAccepted,
     /// A read of an unmapped page is accepted and gives 0.
     ReadPassesOverGap,
     /// A write to an unmapped page is accepted and does nothing.
@@ -134,7 +137,7 @@ pub enum Fault {
 
 impl Fault {
     /// Every fault, without `None`.
-    pub const ALL: [Fault; 56] = [
+    pub const ALL: [Fault; 57] = [
         Fault::HandsOutRewoundPlace,
         Fault::SearchesPastRewoundPlace,
         Fault::DropsSnapshotFrame,
@@ -180,7 +183,7 @@ impl Fault {
         Fault::CompareFreesAgreeingFronts,
         Fault::UnmapRefusedOverGap,
         Fault::UnmapOfNothingRefused,
-        Fault::UnmapLooksAtFirstPage,
+        Fault::UnmapMustBeginMapped,
         Fault::UnmapTwiceRefused,
         Fault::UnmapStopsAtGap,
         Fault::UnmapTakesLastRun,
@@ -189,6 +192,7 @@ impl Fault {
         Fault::UnmapCountsPages,
         Fault::UnmapOverGapNeedsArea,
         Fault::ProtectPassesOverGaps,
+        Fault::ProtectOfNothingAccepted,
         Fault::ReadPassesOverGap,
         Fault::WritePassesOverGap,
     ];

@@ -24,22 +24,22 @@ pub fn wrong_unmap(
     let named = named_pages(call);
     let were = &before.pages[named.clone()];
     let mapped = were.iter().filter(|page| page.mapped).count();
-    let has_gap = mapped < were.len();
+    let (none, some) = (mapped == 0, 0 < mapped && mapped < were.len());
     let unmapped_since = |at: usize| {
         let in_snapshot = before.copy.as_ref().is_some_and(|copy| copy[at].mapped);
         in_snapshot && !before.pages[at].mapped
     };
     let meets_unmapped = match fault {
-        Fault::UnmapRefusedOverGap => has_gap,
-        Fault::UnmapOfNothingRefused => mapped == 0,
-        Fault::UnmapLooksAtFirstPage => !were[0].mapped,
+        Fault::UnmapRefusedOverGap => some,
+        Fault::UnmapOfNothingRefused => none,
+        Fault::UnmapMustBeginMapped => some && !were[0].mapped,
         Fault::UnmapTwiceRefused => named.clone().any(unmapped_since),
         _ => false,
     };
     if meets_unmapped {
         return Err(Refusal::MeetsUnmapped);
     }
-    if fault == Fault::UnmapOverGapNeedsArea && has_gap && before.areas() + 1 > AREAS {
+    if fault == Fault::UnmapOverGapNeedsArea && some && before.areas() + 1 > AREAS {
         return Err(Refusal::TooManyAreas);
     }
     spoil_pages(fault, &mut sandbox.pages[named], were);
@@ -70,7 +70,7 @@ fn spoil_pages(fault: Fault, pages: &mut [Page], were: &[Page]) {
 /// that the right machine refuses so.
 pub fn accept_unmapped(fault: Fault, call: &Call, sandbox: &mut Sandbox) -> Reply {
     match (fault, call.code) {
-        (Fault::ProtectPassesOverGaps, 4) => {
+        (Fault::ProtectPassesOverGaps, 4) if !sandbox.none_mapped(named_pages(call)) => {
             let mut after = sandbox.clone();
             for page in after.pages[named_pages(call)].iter_mut().filter(|page| page.mapped) {
                 page.rights = call.parameters[2];
@@ -81,6 +81,7 @@ pub fn accept_unmapped(fault: Fault, call: &Call, sandbox: &mut Sandbox) -> Repl
             *sandbox = after;
             (0, 0)
         }
+        (Fault::ProtectOfNothingAccepted, 4) if sandbox.none_mapped(named_pages(call)) => (0, 0),
         (Fault::ReadPassesOverGap, 5) | (Fault::WritePassesOverGap, 6) => (0, 0),
         _ => (Refusal::MeetsUnmapped as u16, 0),
     }
