@@ -80,7 +80,7 @@ fn a_read_that_fails() {
 #[test]
 fn without_permission() {
     let folder = Folder::with_image(Some(&[0; 256]));
-    fs::set_permissions(folder.image(), Permissions::from_mode(0)).expect("its owner may");
+    fs::set_permissions(folder.image(), Permissions::from_mode(0o000)).expect("its owner may");
     if File::open(folder.image()).is_ok() {
         println!("not tried: this user reads files without permission");
         return;
