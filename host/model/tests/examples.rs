@@ -1,7 +1,7 @@
 //! The rolls of `examples/`, whose answers were written from the documents: the model gives the
 //! same. (`../test-examples` and the tests of `library` play them on the proved machine.)
 
-use model::{play, LINE_BYTES};
+use model::{play, play_on, Fault, Faulty, LINE_BYTES};
 use std::fs;
 use std::path::{Path, PathBuf};
 
@@ -25,6 +25,23 @@ fn the_model_answers_as_the_examples_say() {
             assert_eq!(played, expected, "{}, line {}", roll.display(), line + 1);
         }
         assert_eq!(played.len(), expected.len(), "{}", roll.display());
+    }
+}
+
+/// The example of the request tells every wrong machine near it.
+#[test]
+fn over_gaps_tells_every_slip_of_unmapping_over_gaps() {
+    let over_gaps = |roll: &PathBuf| roll.file_stem().is_some_and(|name| name == "over-gaps");
+    let roll = example_rolls().into_iter().find(over_gaps).expect("the example");
+    let read = |extension| fs::read(roll.with_extension(extension)).expect("a file of the example");
+    let (lines, image, answers) = (read("roll"), read("image"), read("answers"));
+    let place = |wanted| Fault::ALL.iter().position(|&fault| fault == wanted).expect("a fault");
+    let slips = place(Fault::UnmapRefusedOverGap)..=place(Fault::WritePassesOverGap);
+    for fault in Fault::ALL[slips].iter().copied().chain([Fault::UnmapFreesBack]) {
+        let played = play_on(&lines, &mut Faulty::fresh(&image, 128, fault));
+        let line = played.chunks(19).zip(answers.chunks(19)).position(|(a, b)| a != b);
+        println!("{fault:?}: line {:?}", line.map(|line| line + 1));
+        assert!(line.is_some(), "{fault:?}");
     }
 }
 

@@ -260,13 +260,13 @@ fn refusal_9_remains_for_protect_read_and_write() {
     }
 }
 
-/// Every range there is, before and after a snapshot.
+/// Every range there is, before and after a snapshot, beside another sandbox.
 #[test]
 fn every_range_over_three_areas() {
     let before = after(&THREE_AREAS);
     let mut since = after(&THREE_AREAS);
     accept(&mut since, &["6 0 512 1", "6 0 2560 2", "7 0", "6 0 513 3", "3 0 10 1"]);
-    accept(&mut since, &["2 0 20 2 0 0 3", "6 0 5120 4"]);
+    accept(&mut since, &["2 0 20 2 0 0 3", "6 0 5120 4", "1 1 8", "2 1 0 8 0 0 3", "6 1 512 9"]);
     let mapped_in = |machine: &Machine, first: usize, pages: usize| -> Vec<usize> {
         (first..first + pages).filter(|&at| machine.sandbox(0).pages[at].mapped).collect()
     };
@@ -292,13 +292,4 @@ fn what_compare_and_a_next_map_see() {
     assert_eq!(value(&mut machine, "10 0"), 6, "the lowest of the pages unmapped");
     // The range is one gap now: pages 4 to 10.
     assert_eq!(value(&mut machine, "2 0 64 7 0 0 3"), 4);
-}
-
-#[test]
-fn other_sandboxes_stay() {
-    let mut machine = after(&THREE_AREAS);
-    accept(&mut machine, &["1 1 8", "2 1 0 8 0 0 3", "6 1 512 9", "7 0"]);
-    // `unmapped` looks at the others.
-    assert_eq!(unmapped(&mut machine, "3 0 0 64"), [2, 3, 6, 9, 10, 11]);
-    assert_eq!(value(&mut machine, "5 1 512"), 9);
 }
