@@ -1,5 +1,5 @@
--- THE THEOREMS: the statements of specs/Demands, specs/TurnedBack and specs/StillClean, of every image and pool that a start accepts and of every list of
--- requests.
+-- THE THEOREMS: the statements of specs/Demands, specs/TurnedBack, specs/StillClean and specs/OverGaps, of every image and pool that a start accepts and of
+-- every list of requests.
 use mathlib.Core.List.{List}
 use Prim.Native.Nat.{ℕ}
 use Rattle.interface.specs.declared.request.Request.{Request}
@@ -10,15 +10,18 @@ use Rattle.plain.specs.Machine.{Given}
 use Rattle.plain.specs.Cases.{casesOver, noImage, cases}
 use Rattle.plain.specs.TurnedBack.{turnedBackCases}
 use Rattle.plain.specs.StillClean.{stillClean}
+use Rattle.plain.specs.OverGaps.{overGaps}
 use Rattle.claims.specs.Demands.{StartsLists, Lent, EveryListRuns, Demand1, Demand2, Demand3}
 use Rattle.claims.specs.TurnedBack.{AllGet, WrongLength, AllGetLent, StrayEntry}
 use Rattle.claims.specs.StillClean.{BacksCannotAlter, StillClean}
+use Rattle.claims.specs.OverGaps.{PassesOverGaps}
 use Rattle.claims.proofs.Demand1Laws.{demand-1}
 use Rattle.claims.proofs.Runs.{starts-lists, every-list-runs, demand-2}
 use Rattle.claims.proofs.Demand3Laws.{demand-3}
-use Rattle.claims.proofs.TurnedBackLaws.{cases-get, turned-back-get, still-clean-get, wrong-length, lendings-get, stray-entry}
+use Rattle.claims.proofs.TurnedBackLaws.{cases-get, turned-back-get, still-clean-get, over-gaps-get, wrong-length, lendings-get, stray-entry}
 use Rattle.claims.proofs.BacksLaws.{backs-cannot-alter}
 use Rattle.claims.proofs.StillCleanLaws.{still-clean}
+use Rattle.claims.proofs.OverGapsLaws.{over-gaps}
 
 -- a start that is not refused leaves the world from which lists start
 pub claim-start : StartsLists
@@ -70,3 +73,11 @@ claim-still-clean = still-clean
 -- every run over the table of "Still clean?" has the table's answers
 pub claim-still-clean-cases : AllGet stillClean
 claim-still-clean-cases = still-clean-get
+
+-- an unmap passes over unmapped pages: of nothing it changes nothing, and else it does what unmaps of its mapped pages alone do: of any sound state
+pub claim-over-gaps : (image : List ℕ) → PassesOverGaps image
+claim-over-gaps = over-gaps
+
+-- every run over the table of "Unmapping over gaps" has the table's answers
+pub claim-over-gaps-cases : AllGet overGaps
+claim-over-gaps-cases = over-gaps-get

@@ -17,4 +17,5 @@ pub mod Roll
 pub mod TurnedBackLaws
 pub mod BacksLaws
 pub mod StillCleanLaws
+pub mod OverGapsLaws
 pub mod Claims

@@ -35,7 +35,8 @@ use Rattle.plain.specs.Machine.{Given, fresh, closed, valueAt, coreValue, held,
 use Rattle.plain.specs.Cases.{Case, casesOver, noImage, cases, sameAnswer, sameAnswers, allGiven}
 use Rattle.plain.specs.TurnedBack.{turnedBackCases}
 use Rattle.plain.specs.StillClean.{stillClean}
-use Rattle.plain.proofs.Claims.{claim-cases, claim-turned-back, claim-still-clean}
+use Rattle.plain.specs.OverGaps.{overGaps}
+use Rattle.plain.proofs.Claims.{claim-cases, claim-turned-back, claim-still-clean, claim-over-gaps}
 use Rattle.claims.specs.Demands.{Lent}
 use Rattle.claims.specs.TurnedBack.{AllGet, AllGetLent, strayEntry, StrayEntry}
 use Rattle.claims.proofs.StepLaws.{number-is, refused-leaves}
@@ -86,6 +87,10 @@ turned-back-get = all-get turnedBackCases refl claim-turned-back
 pub still-clean-get : AllGet stillClean
 unfolding lentb
 still-clean-get = all-get stillClean refl claim-still-clean
+
+pub over-gaps-get : AllGet overGaps
+unfolding lentb
+over-gaps-get = all-get overGaps refl claim-over-gaps
 
 -- ---- row 3
 

@@ -1,24 +1,23 @@
 -- Unmapping over gaps, of the plain machine: its laws of unmapping, and with them what is claimed (specs/Claims).
 use Prim.Native.Nat.{ℕ, zero, suc, _+_, _≤_}
-use mathlib.Core.Path.{_≡_, refl, sym, ap, ap₂, _∙_, fun-ext}
-use mathlib.Core.Bool.{Bool, true, false, _&&_}
-use mathlib.Core.List.{List, [], _∷_}
+use mathlib.Core.Path.{_≡_, refl, sym, ap, _∙_, fun-ext}
+use mathlib.Core.Bool.{true, false}
+use mathlib.Core.List.{List, _∷_}
 use native.Mathlib.Omega.{arith}
-use lib.Dec.{leb, eqb}
-use borrow.Author.Tests.{le-leb, eqb-true, eq-eqb}
+use lib.Dec.{eqb}
+use borrow.Author.Tests.{le-leb, eq-eqb}
 use Rattle.basics.specs.Ranges.{inside, over}
-use Rattle.basics.proofs.TestLaws.{by-cases, never, same-true}
-use Rattle.basics.proofs.LoopLaws.{every-at}
+use Rattle.basics.proofs.TestLaws.{by-cases, never}
 use Rattle.basics.proofs.RangeLaws.{inside-first, inside-end, over-in, over-out, over-join}
 use Rattle.interface.specs.declared.page.Slot.the-variants.{Unmapped}
 use Rattle.interface.specs.declared.request.Request.{Request}
 use Rattle.interface.specs.Answers.{Answered}
-use Rattle.interface.specs.Slots.{Slots, isMapped, areas, copied}
+use Rattle.interface.specs.Slots.{Slots, isMapped, areas}
 use Rattle.interface.specs.Limits.{within}
 use Rattle.interface.specs.Outcome.{slotsAfter, copyAfter}
 use Rattle.interface.specs.Settled.{Settled}
 use Rattle.interface.specs.Examples.{ok}
-use Rattle.interface.specs.Gaps.{Unmaps, unmapOf, mappedAlone, allOk}
+use Rattle.interface.specs.Gaps.{Unmaps, unmapOf, allOk}
 use Rattle.interface.proofs.GapLaws.{without, none-in, without-none, unmap-fits, unmap-then, unmap-accepted}
 use Rattle.interface.proofs.AcceptedLaws.{accepted}
 use Rattle.interface.proofs.AloneLaws.{Unmapping, alone}

@@ -1,0 +1,231 @@
+-- Unmapping over gaps, of the machine that runs: its laws of unmapping, and with them what is claimed (specs/OverGaps).
+use mathlib.Core.Path.{_≡_, refl, sym, ap, _∙_}
+use mathlib.Core.Bool.{true, false, false≢true}
+use mathlib.Core.List.{List, [], _∷_}
+use Prim.Native.Nat.{ℕ, zero, suc, _+_, _≤_, _<_}
+use native.Mathlib.Omega.{arith}
+use lib.Dec.{ltb, eqb}
+use lib.ListN.{length, set}
+use lib.Seq.{getD-set-same, set-getD, set-set}
+use borrow.Author.Tests.{le-leb}
+use Rattle.basics.specs.Ranges.{inside}
+use Rattle.basics.proofs.TestLaws.{by-cases, and-right}
+use Rattle.basics.proofs.RangeLaws.{inside-first, inside-end, inside-yes, over-join}
+use Rattle.interface.specs.declared.page.Slot.the-variants.{Unmapped}
+use Rattle.interface.specs.declared.request.Request.{Request}
+use Rattle.interface.specs.Answers.{Answered}
+use Rattle.interface.specs.Slots.{Slots, isMapped, areas}
+use Rattle.interface.specs.Limits.{within}
+use Rattle.interface.specs.Outcome.{slotsAfter}
+use Rattle.interface.specs.Refusals.{slotsThen, refusal}
+use Rattle.interface.specs.Settled.{Settled}
+use Rattle.interface.specs.Examples.{ok}
+use Rattle.interface.specs.Gaps.{Unmaps, unmapOf, allOk}
+use Rattle.interface.proofs.GapLaws.{without, none-in, without-none, unmap-fits, unmap-then, unmap-number, unmap-accepted, unmap-over-gap}
+use Rattle.interface.proofs.AcceptedLaws.{accepted}
+use Rattle.interface.proofs.AloneLaws.{Unmapping, alone}
+use Rattle.table.specs.Store.{entry, frontOf, freeTo}
+use Rattle.table.proofs.FreeLaws.{freeTo-join, freeTo-none}
+use Rattle.areas.specs.declared.pack.Change.the-variants.{Unmap}
+use Rattle.areas.specs.Areas.{slots}
+use Rattle.areas.specs.Pack.{pack}
+use Rattle.areas.proofs.PackLaws.{areas-fit}
+use Rattle.areas.proofs.KeptLaws.{repack-slots}
+use Rattle.areas.proofs.FewAreas.{few-areas}
+use Rattle.areas.proofs.ToldLaws.{pack-slots}
+use Rattle.state.specs.declared.sandbox.Sandbox.{Sandbox}
+use Rattle.state.specs.World.{World, sandboxAt, withPresent, closedSandbox, pagesIn, viewAt}
+use Rattle.state.specs.Sound.{SoundAt, Sound}
+use Rattle.state.proofs.SettledLaws.{settled}
+use Rattle.rules.specs.After.{packedAfter, takenAfter, snapshotAfter}
+use Rattle.memory.specs.Memory.{storeAfter, valueAt}
+use Rattle.machine.specs.Step.{numberAt, step, takes, Outcome, Stepped}
+use Rattle.claims.specs.Demands.{Run, none, more}
+use Rattle.claims.specs.OverGaps.{pagesOf, PassesOverGaps}
+use Rattle.claims.proofs.StepLaws.{number-is, accepted-leaves}
+use Rattle.claims.proofs.AnySound.{stays-sound}
+use Rattle.claims.proofs.Demand1Laws.{demand-1}
+
+-- ---- runs taken apart
+
+run-nil : {image : List ℕ} {w v : World} {as′ : List Answered} → Run image w [] as′ v → (as′ ≡ []) × (v ≡ w)
+run-nil none = (refl, refl)
+
+-- the first call of a run, and the run behind it
+record First (image : List ℕ) (w v : World) (q : Request) (qs : List Request) (as′ : List Answered) : Type 0 where
+  outcome : Outcome
+  rest : List Answered
+  stepped : Stepped image w q outcome
+  behind : Run image (outcome .world) qs rest v
+  told : as′ ≡ outcome .answer ∷ rest
+
+run-cons : {image : List ℕ} {w v : World} {q : Request} {qs : List Request} {as′ : List Answered} → Run image w (q ∷ qs) as′ v → First image w v q qs as′
+run-cons (more {o = o} {as′ = rest} s r) = record { outcome = o; rest = rest; stepped = s; behind = r; told = refl }
+
+-- ---- the world with n pages of sandbox s from a on unmapped
+
+module _ (image : List ℕ) (s : ℕ) (row : s ≤ 3) where
+  abbrev pagesIn-s : World → Slots
+  pagesIn-s w = slots (sandboxAt w s .present)
+
+  record Good (w : World) : Type 0 where
+    sound : Sound image w
+    opened : sandboxAt w s .opened ≡ true
+
+  abbrev unmappedAt : World → ℕ → ℕ → World
+  unmappedAt w a n = record {
+    sandboxes = set (w .sandboxes) s (withPresent (pack (without a n (pagesIn-s w)) .areas) (sandboxAt w s));
+    store = freeTo 256 (frontOf s a) (w .store) n;
+  }
+
+  module _ (w : World) (G : Good w) where
+    own : SoundAt (pagesIn (length image)) (w .store) s (sandboxAt w s)
+    own = G .sound .each s (omega arith)
+
+    unmapped-none : (a n : ℕ) → a + n ≤ 64 → ((i : ℕ) → inside a n i ≡ true → isMapped (pagesIn-s w i) ≡ false) → unmappedAt w a n ≡ w
+    unmapped-none a n l u =
+        let present : pack (without a n (pagesIn-s w)) .areas ≡ sandboxAt w s .present =
+        ap (λ (f : Slots). pack f .areas) (without-none (pagesIn-s w) a n u) ∙ pack-slots _ (sandboxAt w s .present) (own .present) in
+        let sandboxes : set (w .sandboxes) s (withPresent (pack (without a n (pagesIn-s w)) .areas) (sandboxAt w s)) ≡ w .sandboxes =
+        rw present (set-getD (w .sandboxes) s closedSandbox) in
+        let store : freeTo 256 (frontOf s a) (w .store) n ≡ w .store =
+        freeTo-none 256 (frontOf s a) (w .store) n (λ i b. no-front a n i l b u) in
+        λ j. record { sandboxes = sandboxes j; store = store j }
+      where
+        no-front : (a n i : ℕ) → a + n ≤ 64 → i < n → ((i : ℕ) → inside a n i ≡ true → isMapped (pagesIn-s w i) ≡ false)
+            → entry (w .store) (frontOf s a + i) ≡ 0
+        no-front a n i l b u =
+            let place : frontOf s a + i ≡ frontOf s (a + i) = omega arith in
+            rw place (own .fronts (a + i) (omega arith) (u (a + i) (inside-yes a n (a + i) (omega arith) (omega arith))))
+
+    module _ (a n : ℕ) (l : a + n ≤ 64) (few : areas (without a n (pagesIn-s w)) ≤ 8) where
+      here : sandboxAt (unmappedAt w a n) s ≡ withPresent (pack (without a n (pagesIn-s w)) .areas) (sandboxAt w s)
+      here =
+          getD-set-same (w .sandboxes) s (withPresent (pack (without a n (pagesIn-s w)) .areas) (sandboxAt w s)) closedSandbox
+          (omega (arith, G .sound .row))
+
+      packed-slots : slots (pack (without a n (pagesIn-s w)) .areas) ≡ without a n (pagesIn-s w)
+      packed-slots = repack-slots _ (sandboxAt w s .present) (own .present) a n Unmap (areas-fit (without a n (pagesIn-s w)) few) l
+
+      unmapped-slots : pagesIn-s (unmappedAt w a n) ≡ without a n (pagesIn-s w)
+      unmapped-slots = ap (λ (b : Sandbox). slots (b .present)) here ∙ packed-slots
+
+      unmapped-join : (m : ℕ) → unmappedAt (unmappedAt w a n) (a + n) m ≡ unmappedAt w a (n + m)
+      unmapped-join m =
+          let place : frontOf s (a + n) ≡ frontOf s a + n = omega arith in
+          rw (here, packed-slots, over-join a n m (λ i. Unmapped) (pagesIn-s w), place, freeTo-join 256 (frontOf s a) (w .store) n m)
+          (λ j. record {
+            sandboxes = set-set (w .sandboxes) s (withPresent (pack (without a n (pagesIn-s w)) .areas) (sandboxAt w s))
+                (withPresent (pack (without a (n + m) (pagesIn-s w)) .areas) (sandboxAt w s)) j;
+            store = freeTo 256 (frontOf s a) (w .store) (n + m);
+          })
+
+-- ---- one unmap
+
+module _ (image : List ℕ) (w : World) (q : Request) (o : Outcome) (S : Sound image w) (u : Unmaps (viewAt image w (q .sandbox)) q) (t : Stepped image w q o) where
+  view-settled : Settled (viewAt image w (q .sandbox))
+  view-settled = settled image w S (q .sandbox) (omega (arith, u .row))
+
+  number-told : numberAt image w q ≡ refusal (viewAt image w (q .sandbox)) q
+  number-told = sym (number-is image w q o t) ∙ demand-1 image w q o t .table (rw (u .called) (omega arith, omega arith)) S
+
+  answer-told : o .answer ≡ record { number = refusal (viewAt image w (q .sandbox)) q; value = 0 }
+  unfolding step valueAt
+  answer-told = rw (t .equals, number-told) (by-cases (eqb (refusal (viewAt image w (q .sandbox)) q) 0) (λ e. rw (e, u .called)) (λ e. rw e))
+
+  abbrev left : World
+  left = unmappedAt image (q .sandbox) (u .row) w (q .p1) (q .p2)
+
+  accepted-leaves-it : refusal (viewAt image w (q .sandbox)) q ≡ 0 → o .world ≡ left
+  unfolding packedAfter takenAfter snapshotAfter storeAfter slotsAfter
+  accepted-leaves-it n = accepted-leaves image w q o t (number-told ∙ n) ∙ rw (u .called, u .opened)
+
+  accepted-answers : refusal (viewAt image w (q .sandbox)) q ≡ 0 → o .answer ≡ ok 0
+  accepted-answers n = answer-told ∙ rw n
+
+-- ---- the laws of unmapping
+
+module _ (image : List ℕ) (s : ℕ) (row : s ≤ 3) where
+  abbrev Leading : World → List Request → World → Type 0
+  Leading w qs r = (as′ : List Answered) (v : World) → Run image w qs as′ v → (as′ ≡ allOk qs) × (v ≡ r)
+
+  module _ (w : World) (G : Good image s row w) (a n : ℕ) (l : a + suc n ≤ 64) (few : areas (without a (suc n) (pagesIn-s image s row w)) ≤ 8) where
+    abbrev q : Request
+    q = unmapOf s a (suc n)
+
+    unmaps : Unmaps (viewAt image w s) q
+    unfolding within
+    unmaps = record {
+      called = refl;
+      row = row;
+      opened = G .opened;
+      limits = rw (le-leb a 63 (omega arith), le-leb 1 (suc n) (omega arith), le-leb (suc n) 64 (omega arith), le-leb (a + suc n) 64 l);
+    }
+
+    taken : refusal (viewAt image w s) q ≡ 0
+    taken = unmap-accepted _ q (settled image w (G .sound) s (omega arith)) unmaps few
+
+    -- the one outcome: an unmap takes no frame
+    stepped : Stepped image w q (step image 0 w q)
+    unfolding takes
+    stepped = record { frame = 0; free = λ t. absurd (false≢true (and-right (eqb (numberAt image w q) 0) false t)); equals = refl }
+
+    good-after : Good image s row (unmappedAt image s row w a (suc n))
+    good-after = record {
+      sound = rw (← accepted-leaves-it image w q (step image 0 w q) (G .sound) unmaps stepped taken) (stays-sound image w (G .sound) q (step image 0 w q) stepped);
+      opened = ap (λ (b : Sandbox). b .opened) (here image s row w G a (suc n) l few) ∙ G .opened;
+    }
+
+    cons-after : (r : World) (rest : List Request) → Leading (unmappedAt image s row w a (suc n)) rest r → Leading w (q ∷ rest) r
+    cons-after r rest led as′ v run =
+        let f = run-cons run in
+        let gone = accepted-leaves-it image w q (f .outcome) (G .sound) unmaps (f .stepped) taken in
+        let done = led (f .rest) v (rw gone at (f .behind)) in
+        (f .told ∙ (λ j. accepted-answers image w q (f .outcome) (G .sound) unmaps (f .stepped) taken j ∷ done .0 j), done .1)
+
+  fits-after : (w : World) → Good image s row w → (a n : ℕ) → a + n ≤ 64 → areas (without a n (pagesIn-s image s row w)) ≤ 8
+      → Good image s row (unmappedAt image s row w a n)
+  fits-after w G a zero l few =
+      rw (unmapped-none image s row w G a 0 l (λ i t. absurd (omega (arith, inside-first a 0 i t, inside-end a 0 i t)))) G
+  fits-after w G a (suc n) l few = good-after w G a n l few
+
+  unmapping : Unmapping World s
+  unmapping = record {
+    slotsOf = pagesIn-s image s row;
+    Good = Good image s row;
+    unmapped = unmappedAt image s row;
+    Leads = Leading;
+    few = λ w G. few-areas _ (sandboxAt w s .present) (own image s row w G .present);
+    none = unmapped-none image s row;
+    nil = λ w as′ v run. run-nil run;
+    fits = fits-after;
+    slots = unmapped-slots image s row;
+    join = λ w G a n m l few. unmapped-join image s row w G a n l few m;
+    cons = λ w r G a n l few rest. cons-after w G a n l few r rest;
+  }
+
+-- ---- the claim
+
+pub over-gaps : (image : List ℕ) → PassesOverGaps image
+unfolding unmapping
+over-gaps image w q o S u t =
+    let v = view-settled image w q o S u t in
+    let f = pagesOf w q in
+    let told = answer-told image w q o S u t in
+    let good : Good image (q .sandbox) (u .row) w = record { sound = S; opened = u .opened } in
+    record {
+      answered = told ∙ rw (unmap-number _ q v u) (by-cases (ltb 8 (areas (slotsThen (viewAt image w (q .sandbox)) q))) (λ e. rw e) (λ e. rw e));
+      gap = λ i b m. told ∙ rw (unmap-over-gap _ q v u i b m);
+      nothing = λ clear.
+          let idle = none-in f (q .p1) (q .p2) clear in
+          let n = unmap-accepted _ q v u (rw (without-none f (q .p1) (q .p2) idle) (v .few)) in
+          (
+            accepted-answers image w q o S u t n,
+            accepted-leaves-it image w q o S u t n ∙ unmapped-none image (q .sandbox) (u .row) w good (q .p1) (q .p2) (unmap-fits _ q v u) idle,
+          );
+      alone = λ n as′ r run.
+          let taken = sym (ap (λ (a : Answered). a .number) told) ∙ n in
+          let few = rw (unmap-then _ q v u) at (accepted _ q taken .inAreas) in
+          let done = alone (q .sandbox) (unmapping image (q .sandbox) (u .row)) w good (q .p1) (q .p2) (unmap-fits _ q v u) few as′ r run in
+          (done .0, done .1 ∙ sym (accepted-leaves-it image w q o S u t taken));
+    }
