@@ -20,7 +20,7 @@ use Rattle.interface.specs.Outcome.{slotsAfter}
 use Rattle.interface.specs.Refusals.{slotsThen, refusal}
 use Rattle.interface.specs.Settled.{Settled}
 use Rattle.interface.specs.Examples.{ok}
-use Rattle.interface.specs.Gaps.{Unmaps, unmapOf, allOk}
+use Rattle.interface.specs.Gaps.{Unmaps, unmapOf, mappedAlone, allOk}
 use Rattle.interface.proofs.GapLaws.{without, none-in, without-none, unmap-fits, unmap-then, unmap-number, unmap-accepted, unmap-over-gap}
 use Rattle.interface.proofs.AcceptedLaws.{accepted}
 use Rattle.interface.proofs.AloneLaws.{Unmapping, alone}
@@ -45,6 +45,7 @@ use Rattle.claims.specs.OverGaps.{pagesOf, PassesOverGaps}
 use Rattle.claims.proofs.StepLaws.{number-is, accepted-leaves}
 use Rattle.claims.proofs.AnySound.{stays-sound}
 use Rattle.claims.proofs.Demand1Laws.{demand-1}
+use Rattle.claims.proofs.Runs.{sound-runs}
 
 -- ---- runs taken apart
 
@@ -206,8 +207,20 @@ module _ (image : List ℕ) (s : ℕ) (row : s ≤ 3) where
 
 -- ---- the claim
 
-pub over-gaps : (image : List ℕ) → PassesOverGaps image
+-- where an unmap is accepted, every run of the unmaps of its mapped pages alone
+every-run : (image : List ℕ) (w : World) (q : Request) (o : Outcome) → Sound image w → Unmaps (viewAt image w (q .sandbox)) q → Stepped image w q o
+    → o .answer .number ≡ 0 → (as′ : List Answered) (v : World) → Run image w (mappedAlone q (pagesOf w q)) as′ v
+    → (as′ ≡ allOk (mappedAlone q (pagesOf w q))) × (v ≡ o .world)
 unfolding unmapping
+every-run image w q o S u t n as′ r run =
+    let v = view-settled image w q o S u t in
+    let taken = sym (ap (λ (a : Answered). a .number) (answer-told image w q o S u t)) ∙ n in
+    let few = rw (unmap-then _ q v u) at (accepted _ q taken .inAreas) in
+    let done = alone (q .sandbox) (unmapping image (q .sandbox) (u .row)) w (record { sound = S; opened = u .opened }) (q .p1) (q .p2)
+    (unmap-fits _ q v u) few as′ r run in
+    (done .0, done .1 ∙ sym (accepted-leaves-it image w q o S u t taken))
+
+pub over-gaps : (image : List ℕ) → PassesOverGaps image
 over-gaps image w q o S u t =
     let v = view-settled image w q o S u t in
     let f = pagesOf w q in
@@ -223,9 +236,9 @@ over-gaps image w q o S u t =
             accepted-answers image w q o S u t n,
             accepted-leaves-it image w q o S u t n ∙ unmapped-none image (q .sandbox) (u .row) w good (q .p1) (q .p2) (unmap-fits _ q v u) idle,
           );
-      alone = λ n as′ r run.
-          let taken = sym (ap (λ (a : Answered). a .number) told) ∙ n in
-          let few = rw (unmap-then _ q v u) at (accepted _ q taken .inAreas) in
-          let done = alone (q .sandbox) (unmapping image (q .sandbox) (u .row)) w good (q .p1) (q .p2) (unmap-fits _ q v u) few as′ r run in
-          (done .0, done .1 ∙ sym (accepted-leaves-it image w q o S u t taken));
+      alone = λ n.
+          let some = sound-runs image w S (mappedAlone q f) in
+          let one = every-run image w q o S u t n (some .0) (some .1 .0) (some .1 .1) in
+          rw (one .0, one .1) at (some .1 .1);
+      only = every-run image w q o S u t;
     }

@@ -28,17 +28,17 @@ starts-lists pool table image ok =
 
 -- ---- every list has a run
 
-ran : (image : List ℕ) (w : World) → Sound image w → (qs : List Request) → (as′ : List Answered) × ((v : World) × Run image w qs as′ v)
-ran image w S [] = ([], (w, none))
-ran image w S (q ∷ qs) =
+pub sound-runs : (image : List ℕ) (w : World) → Sound image w → (qs : List Request) → (as′ : List Answered) × ((v : World) × Run image w qs as′ v)
+sound-runs image w S [] = ([], (w, none))
+sound-runs image w S (q ∷ qs) =
     let f = some-frame image w S q in
     let o : Outcome = step image (f .0) w q in
     let s : Stepped image w q o = record { frame = f .0; free = f .1; equals = refl } in
-    let rest = ran image (o .world) (stays-sound image w S q o s) qs in
+    let rest = sound-runs image (o .world) (stays-sound image w S q o s) qs in
     (o .answer ∷ rest .0, (rest .1 .0, more {v = rest .1 .0} {q = q} {o = o} {qs = qs} {as′ = rest .0} s (rest .1 .1)))
 
 pub every-list-runs : (g : Given) → Lent g → EveryListRuns g
-every-list-runs g L qs = ran (g .image) (started (g .frames)) (agrees-sound {C = Unit {0}} g (started (g .frames)) fresh (started-agrees g L) L) qs
+every-list-runs g L qs = sound-runs (g .image) (started (g .frames)) (agrees-sound {C = Unit {0}} g (started (g .frames)) fresh (started-agrees g L) L) qs
 
 -- ---- and keeps the agreement
 

@@ -30,8 +30,10 @@ pub record OverGaps (image : List ℕ) (w : World) (q : Request) (o : Outcome) :
   pub gap : (i : ℕ) → inside (q .p1) (q .p2) i ≡ true → isMapped (pagesOf w q i) ≡ false → o .answer ≡ ok 0
   -- "a range with none mapped is accepted and changes nothing": state, pool and table
   pub nothing : allAre false (pagesOf w q) (q .p1) (q .p2) ≡ true → (o .answer ≡ ok 0) × (o .world ≡ w)
-  -- "Unmap now passes over unmapped pages": where it is accepted, so are the unmaps of its mapped pages alone, and they leave the same state, pool and table
-  pub alone : o .answer .number ≡ 0 → (as′ : List Answered) (v : World) → Run image w (mappedAlone q (pagesOf w q)) as′ v
+  -- "Unmap now passes over unmapped pages": where it is accepted, so are the unmaps of its mapped pages alone, and they leave the same state, pool and table,
+  -- in this run of them and in every other
+  pub alone : o .answer .number ≡ 0 → Run image w (mappedAlone q (pagesOf w q)) (allOk (mappedAlone q (pagesOf w q))) (o .world)
+  pub only : o .answer .number ≡ 0 → (as′ : List Answered) (v : World) → Run image w (mappedAlone q (pagesOf w q)) as′ v
       → (as′ ≡ allOk (mappedAlone q (pagesOf w q))) × (v ≡ o .world)
 
 -- of every unmap within its limits, of an open sandbox

@@ -21,17 +21,23 @@ use Rattle.machine.specs.Step.{Stepped}
 use Rattle.plain.specs.Machine.{fresh}
 use Rattle.claims.specs.Demands.{Run, RunFrom, Lent}
 use Rattle.claims.specs.Demands.Run.{none, more}
-use Rattle.claims.proofs.Claims.{claim-start, claim-runs, claim-1, claim-2, claim-3}
+use Rattle.claims.proofs.Claims.{claim-start, claim-runs, claim-1, claim-2, claim-3, claim-over-gaps}
 use Rattle.claims.proofs.SoundLaws.{agrees-sound, started-agrees}
 use Rattle.stepwise.specs.declared.Told.{Told}
 use Rattle.stepwise.specs.Calls.{Handed, handed, handsOf, worldIn, startNumber, startHands, Calls}
-use Rattle.stepwise.specs.HostClaims.{givenBy, HostDemand1, CallsAreRuns, HostClaims, HostStarts}
+use Rattle.stepwise.specs.HostClaims.{givenBy, HostDemand1, HostOverGaps, CallsAreRuns, HostClaims, HostStarts}
 use Rattle.stepwise.proofs.CallLaws.{world-again, hands-again, called}
 
 -- ---- of any bytes that are a state's
 
 pub host-demand-1 : HostDemand1
 host-demand-1 image h l q t c y = claim-1 image (worldIn h) q _ (c .stepped y .0)
+
+pub host-over-gaps : HostOverGaps
+host-over-gaps image h l q t c bytes y S u =
+    let stepped = c .stepped y in
+    let over = claim-over-gaps image (worldIn h) q _ S u (stepped .0) in
+    (over, λ none. stepped .1 ∙ ap handsOf (over .nothing none .1) ∙ sym (hands-again h bytes y))
 
 -- what hands its own world over
 calls-run : (image : List ℕ) (h l : Handed) (qs : List Request) (as′ : List Answered) → h ≡ handsOf (worldIn h) → Calls image h qs as′ l

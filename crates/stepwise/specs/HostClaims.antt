@@ -1,19 +1,23 @@
 -- WHAT A HOST GETS that keeps the state as bytes and makes a call at a time: the demands, of what it hands over and gets back. proofs/HostClaims proves them.
 use mathlib.Core.Path.{_≡_}
-use mathlib.Core.Bool.{true}
+use mathlib.Core.Bool.{true, false}
 use mathlib.Core.List.{List, [], _∷_, _++_}
 use Prim.Native.Nat.{ℕ, _<_}
 use lib.ListN.{length}
 use Rattle.interface.specs.declared.request.Request.{Request}
 use Rattle.interface.specs.Answers.{Answered}
 use Rattle.interface.specs.Requests.{Snapshot, Rewind}
+use Rattle.interface.specs.Slots.{allAre}
+use Rattle.interface.specs.Gaps.{Unmaps}
 use Rattle.pages.specs.Parts.{zeros}
-use Rattle.state.specs.World.{pagesIn, lengthsOk}
+use Rattle.state.specs.World.{pagesIn, lengthsOk, viewAt}
+use Rattle.state.specs.Sound.{Sound}
 use Rattle.encoding.specs.Rows.{Bytes}
 use Rattle.encoding.specs.Layout.{stateSize, isState}
 use Rattle.plain.specs.Machine.{Given, fresh, answers}
 use Rattle.plain.specs.Lists.{naming, toldLater, Rewound}
 use Rattle.claims.specs.Demands.{Run, RunFrom, Demand1, AsSnapshot, Frames, Promise, Took}
+use Rattle.claims.specs.OverGaps.{pagesOf, OverGaps}
 use Rattle.stepwise.specs.declared.Told.{Told}
 use Rattle.stepwise.specs.Calls.{Handed, handed, handsOf, worldIn, outcomeIn, startNumber, startHands, Called, Calls}
 
@@ -33,6 +37,14 @@ abbrev pub CallsAreRuns : Type 0
 CallsAreRuns =
     (image : List ℕ) (h l : Handed) (qs : List Request) (as′ : List Answered) → Bytes (h .state) → isState (h .state) ≡ true → Calls image h qs as′ l
     → Run image (worldIn h) qs as′ (worldIn l) × (l ≡ handsOf (worldIn l))
+
+-- request A2 of each unmap of an open sandbox of a sound state, within its limits: "Unmap now passes over unmapped pages, and a range with none mapped is
+-- accepted and changes nothing", not a byte
+abbrev pub HostOverGaps : Type 0
+HostOverGaps =
+    (image : List ℕ) (h l : Handed) (q : Request) (t : Told) → Called image h q t l → Bytes (h .state) → isState (h .state) ≡ true
+    → Sound image (worldIn h) → Unmaps (viewAt image (worldIn h) (q .sandbox)) q
+    → OverGaps image (worldIn h) q (outcomeIn t l) × (allAre false (pagesOf (worldIn h) q) (q .p1) (q .p2) ≡ true → l ≡ h)
 
 -- ---- of a host whose start answered 0, whatever memory it lent and whatever it calls
 
