@@ -66,7 +66,8 @@ over-join-at {ℓ} : {A : Type ℓ} (a n m : ℕ) (g f : ℕ → A) (i : ℕ) �
     → over (a + n) m g (over a n g f) i ≡ over a (n + m) g f i
 unfolding over
 over-join-at a n m g f i (yes x) y z = rw (inside-below (a + n) m i (omega arith), inside-below a n i x, inside-below a (n + m) i x)
-over-join-at a n m g f i (no x) (yes y) z = rw (inside-below (a + n) m i y, inside-yes a n i (omega arith) y, inside-yes a (n + m) i (omega arith) (omega arith))
+over-join-at a n m g f i (no x) (yes y) z =
+    rw (inside-below (a + n) m i y, inside-yes a n i (omega arith) y, inside-yes a (n + m) i (omega arith) (omega arith))
 over-join-at a n m g f i (no x) (no y) (yes z) = rw (inside-yes (a + n) m i (omega arith) z, inside-yes a (n + m) i (omega arith) (omega arith))
 over-join-at a n m g f i (no x) (no y) (no z) =
     rw (inside-past (a + n) m i (omega arith), inside-past a n i (omega arith), inside-past a (n + m) i (omega arith))

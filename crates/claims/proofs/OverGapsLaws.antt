@@ -123,7 +123,8 @@ module _ (image : List ℕ) (s : ℕ) (row : s ≤ 3) where
 
 -- ---- one unmap
 
-module _ (image : List ℕ) (w : World) (q : Request) (o : Outcome) (S : Sound image w) (u : Unmaps (viewAt image w (q .sandbox)) q) (t : Stepped image w q o) where
+module _ (image : List ℕ) (w : World) (q : Request) (o : Outcome) (S : Sound image w) (u : Unmaps (viewAt image w (q .sandbox)) q)
+    (t : Stepped image w q o) where
   view-settled : Settled (viewAt image w (q .sandbox))
   view-settled = settled image w S (q .sandbox) (omega (arith, u .row))
 
@@ -173,7 +174,9 @@ module _ (image : List ℕ) (s : ℕ) (row : s ≤ 3) where
 
     good-after : Good image s row (unmappedAt image s row w a (suc n))
     good-after = record {
-      sound = rw (← accepted-leaves-it image w q (step image 0 w q) (G .sound) unmaps stepped taken) (stays-sound image w (G .sound) q (step image 0 w q) stepped);
+      sound =
+          rw (← accepted-leaves-it image w q (step image 0 w q) (G .sound) unmaps stepped taken)
+          (stays-sound image w (G .sound) q (step image 0 w q) stepped);
       opened = ap (λ (b : Sandbox). b .opened) (here image s row w G a (suc n) l few) ∙ G .opened;
     }
 
@@ -231,8 +234,7 @@ over-gaps image w q o S u t =
       gap = λ i b m. told ∙ rw (unmap-over-gap _ q v u i b m);
       nothing = λ clear.
           let idle = none-in f (q .p1) (q .p2) clear in
-          let n = unmap-accepted _ q v u (rw (without-none f (q .p1) (q .p2) idle) (v .few)) in
-          (
+          let n = unmap-accepted _ q v u (rw (without-none f (q .p1) (q .p2) idle) (v .few)) in (
             accepted-answers image w q o S u t n,
             accepted-leaves-it image w q o S u t n ∙ unmapped-none image (q .sandbox) (u .row) w good (q .p1) (q .p2) (unmap-fits _ q v u) idle,
           );

@@ -2,17 +2,19 @@
 -- one that runs.
 use Prim.Native.Nat.{ℕ, zero, suc, _+_, _-_, _≤_}
 use mathlib.Core.Path.{_≡_, refl, sym, ap, _∙_}
-use mathlib.Core.Bool.{true, false}
+use mathlib.Core.Bool.{true, false, _&&_, _||_}
 use mathlib.Core.List.{List, [], _∷_}
 use native.Mathlib.Omega.{arith}
 use native.Mathlib.Nat.{add-zero, zero-add}
+use lib.Dec.{eqb}
+use borrow.Author.Tests.{eqb-true, eqb-false}
 use Rattle.basics.specs.Ranges.{inside}
-use Rattle.basics.proofs.TestLaws.{when-cases, never}
-use Rattle.basics.proofs.RangeLaws.{inside-first, inside-end, inside-past, over-out, over-join}
+use Rattle.basics.proofs.TestLaws.{by-cases, when-cases, never, both-ways}
+use Rattle.basics.proofs.RangeLaws.{inside-first, inside-end, inside-yes, inside-below, inside-past, over-out, over-join}
 use Rattle.interface.specs.declared.page.Slot.the-variants.{Unmapped}
 use Rattle.interface.specs.declared.request.Request.{Request}
 use Rattle.interface.specs.Slots.{Slots, isMapped, areas}
-use Rattle.interface.specs.Gaps.{unmapOf, withRun, unmapsFrom}
+use Rattle.interface.specs.Gaps.{unmapOf, withRun, unmapsFrom, named, NamesMapped}
 use Rattle.interface.proofs.GapLaws.{without, without-none, fewer-before}
 
 -- a machine whose sandbox s is unmapped page by page
@@ -93,7 +95,8 @@ module _ {X : Type 0} (s : ℕ) (U : Unmapping X s) where
   alone-from : (f : Slots) (n m a : ℕ) (x : X) → U .Good x → ((j : ℕ) → a + m ≤ j → U .slotsOf x j ≡ f j) → a + m + n ≤ 64
       → areas (without a (m + n) (U .slotsOf x)) ≤ 8 → U .Leads x (unmapsFrom s f m (a + m) n) (U .unmapped x a (m + n))
   unfolding unmapsFrom
-  alone-from f zero m a x g same l few = rw (add-zero m) (first m a x (U .unmapped x a m) g (omega arith) (rw (add-zero m) at few) [] (U .nil (U .unmapped x a m)))
+  alone-from f zero m a x g same l few =
+      rw (add-zero m) (first m a x (U .unmapped x a m) g (omega arith) (rw (add-zero m) at few) [] (U .nil (U .unmapped x a m)))
   alone-from f (suc n) m a x g same l few =
       when-cases (λ (qs : List Request). U .Leads x qs (U .unmapped x a (m + suc n))) (isMapped (f (a + m)))
       (λ t. let place : suc (a + m) ≡ a + suc m = omega arith in
@@ -114,3 +117,62 @@ module _ {X : Type 0} (s : ℕ) (U : Unmapping X s) where
       → U .Leads x (unmapsFrom s (U .slotsOf x) 0 a n) (U .unmapped x a n)
   alone x g a n l few =
       rw (add-zero a, zero-add n) at (alone-from (U .slotsOf x) n 0 a x g (λ j b. refl) (omega arith) (rw (zero-add n) few))
+
+-- ---- the pages that they name
+
+inside-none : (a i : ℕ) → inside a 0 i ≡ false
+inside-none a i = by-cases (inside a 0 i) (λ t. absurd (omega (arith, inside-first a 0 i t, inside-end a 0 i t))) (λ t. t)
+
+-- a page that is not the first, or not the last, is as much inside without that page
+inside-behind : (a n i : ℕ) → (i ≡ a → ⊥) → inside (suc a) n i ≡ inside a (suc n) i
+inside-behind a n i d =
+    both-ways (inside (suc a) n i) (inside a (suc n) i)
+    (λ t. inside-yes a (suc n) i (omega (arith, inside-first (suc a) n i t)) (omega (arith, inside-end (suc a) n i t)))
+    (λ t. inside-yes (suc a) n i (omega (arith, inside-first a (suc n) i t, d)) (omega (arith, inside-end a (suc n) i t)))
+
+inside-shorter : (a m i : ℕ) → (i ≡ a + m → ⊥) → inside a (suc m) i ≡ inside a m i
+inside-shorter a m i d =
+    both-ways (inside a (suc m) i) (inside a m i)
+    (λ t. inside-yes a m i (inside-first a (suc m) i t) (omega (arith, inside-end a (suc m) i t, d)))
+    (λ t. inside-yes a (suc m) i (inside-first a m i t) (omega (arith, inside-end a m i t)))
+
+-- the page behind the m pages from a on goes on with their run, or is in none
+module _ (f : Slots) (a m n i : ℕ) where
+  in-run : isMapped (f (a + m)) ≡ true
+      → (inside a (suc m) i || (inside (suc (a + m)) n i && isMapped (f i))) ≡ (inside a m i || (inside (a + m) (suc n) i && isMapped (f i)))
+  in-run t =
+      by-cases (eqb i (a + m))
+      (λ e. let same = eqb-true i (a + m) e in
+      let mapped : isMapped (f i) ≡ true = rw same t in
+      let here = inside-yes (a + m) (suc n) i (omega arith) (omega arith) in
+      rw (mapped, inside-yes a (suc m) i (omega arith) (omega arith), inside-past a m i (omega arith), here))
+      (λ e. rw (inside-shorter a m i (eqb-false i (a + m) e), inside-behind (a + m) n i (eqb-false i (a + m) e)))
+
+  in-none : isMapped (f (a + m)) ≡ false → (inside (suc (a + m)) n i && isMapped (f i)) ≡ (inside (a + m) (suc n) i && isMapped (f i))
+  in-none t =
+      by-cases (eqb i (a + m))
+      (λ e. let same = eqb-true i (a + m) e in
+      let gap : isMapped (f i) ≡ false = rw same t in
+      rw (gap, inside-below (suc (a + m)) n i (omega arith), inside-yes (a + m) (suc n) i (omega arith) (omega arith)))
+      (λ e. rw (inside-behind (a + m) n i (eqb-false i (a + m) e)))
+
+module _ (s : ℕ) (f : Slots) where
+  named-first : (m a : ℕ) (rest : List Request) (i : ℕ) → named (withRun s m (a + m) rest) i ≡ (inside a m i || named rest i)
+  named-first zero a rest i = rw (inside-none a i)
+  named-first (suc m) a rest i = let start : a + suc m - suc m ≡ a = omega arith in rw start
+
+  named-from : (n m a i : ℕ) → named (unmapsFrom s f m (a + m) n) i ≡ (inside a m i || (inside (a + m) n i && isMapped (f i)))
+  unfolding unmapsFrom
+  named-from zero m a i = named-first m a [] i ∙ rw (inside-none (a + m) i)
+  named-from (suc n) m a i =
+      let place : suc (a + m) ≡ a + suc m = omega arith in
+      let all = inside a m i || (inside (a + m) (suc n) i && isMapped (f i)) in
+      when-cases (λ (qs : List Request). named qs i ≡ all) (isMapped (f (a + m)))
+      (λ t. let left = rw (← place) at (named-from n (suc m) a i) in left ∙ in-run f a m n i t)
+      (λ t. let left = rw (add-zero (suc (a + m)), inside-none (suc (a + m)) i) at (named-from n 0 (suc (a + m)) i) in
+      named-first m a (unmapsFrom s f 0 (suc (a + m)) n) i ∙ rw (left, in-none f a m n i t))
+
+pub names-mapped : NamesMapped
+names-mapped q f i =
+    let from = named-from (q .sandbox) f (q .p2) 0 (q .p1) i in
+    rw (add-zero (q .p1), inside-none (q .p1) i) at from

@@ -67,8 +67,9 @@ module _ (f : Slots) (a n : ℕ) where
   previous-same : (i : ℕ) → (i ≡ a + n → ⊥) → inside a n i ≡ false → previous (without a n f) i ≡ previous f i
   previous-same zero d t = refl
   previous-same (suc i) d t =
-      over-out a n (λ i. Unmapped) f i
-      (by-cases (inside a n i) (λ y. absurd (never _ (inside-yes a n (suc i) (omega (arith, inside-first a n i y)) (omega (arith, inside-end a n i y, d))) t)) (λ y. y))
+      over-out a n (λ i. Unmapped) f i (by-cases (inside a n i)
+      (λ y. never _ (inside-yes a n (suc i) (omega (arith, inside-first a n i y)) (omega (arith, inside-end a n i y, d))) t)
+      (λ y. y))
 
   -- no area starts in the range; elsewhere, but for the page behind it, only where one did
   starts-kept : (i : ℕ) → (i ≡ a + n → ⊥) → startsArea (without a n f) i ≡ true → startsArea f i ≡ true
@@ -87,7 +88,8 @@ module _ (f : Slots) (a n : ℕ) where
       count-le (startsArea (without a n f)) (startsArea f) 64
       (λ i e. by-cases (eqb i (a + n))
       (λ t. let x : startsArea (without a n f) (a + n) ≡ true = rw (eqb-true i (a + n) t) at e in
-      rw (eqb-true i (a + n) t) (h (rw (over-out a n (λ i. Unmapped) f (a + n) (inside-past a n (a + n) (omega arith))) at (and-left (isMapped (without a n f (a + n))) _ x))))
+      let outside = over-out a n (λ i. Unmapped) f (a + n) (inside-past a n (a + n) (omega arith)) in
+      rw (eqb-true i (a + n) t) (h (rw outside at (and-left (isMapped (without a n f (a + n))) _ x))))
       (λ t. starts-kept i (eqb-false i (a + n) t) e))
 
   -- nor where an area starts in the range

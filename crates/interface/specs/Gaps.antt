@@ -1,9 +1,10 @@
 -- Request A2, "Unmapping over gaps": an unmap that only row 14 can refuse, and the mapped pages of its range as unmaps that name these alone.
 use Prim.Native.Nat.{ℕ, zero, suc, _-_, _≤_}
 use mathlib.Core.Path.{_≡_}
-use mathlib.Core.Bool.{true}
+use mathlib.Core.Bool.{Bool, true, false, _&&_, _||_}
 use mathlib.Core.List.{List, [], _∷_}
 use Rattle.basics.specs.Choice.{_when_else_}
+use Rattle.basics.specs.Ranges.{inside}
 use Rattle.interface.specs.declared.request.Request.{Request}
 use Rattle.interface.specs.Answers.{Answered}
 use Rattle.interface.specs.Requests.{Unmap}
@@ -39,7 +40,16 @@ unmapsFrom s f m i (suc n) = unmapsFrom s f (suc m) (suc i) n when isMapped (f i
 abbrev pub mappedAlone : Request → Slots → List Request
 mappedAlone q f = unmapsFrom (q .sandbox) f 0 (q .p1) (q .p2)
 
--- and what each is to answer: accepted, with value 0
+-- whether one of the requests names page i
+abbrev pub named : List Request → ℕ → Bool
+named [] i = false
+named (q ∷ qs) i = inside (q .p1) (q .p2) i || named qs i
+
+-- they name the mapped pages of the range, and no other (proved in proofs/AloneLaws)
+abbrev pub NamesMapped : Type 0
+NamesMapped = (q : Request) (f : Slots) (i : ℕ) → named (mappedAlone q f) i ≡ (inside (q .p1) (q .p2) i && isMapped (f i))
+
+-- what each is to answer: accepted, with value 0
 abbrev pub allOk : List Request → List Answered
 allOk [] = []
 allOk (q ∷ qs) = ok 0 ∷ allOk qs

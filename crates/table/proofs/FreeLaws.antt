@@ -63,7 +63,8 @@ getD-clear l k =
 put-kept : (size k : ℕ) (s : Store) → Ranged size (s .pool) (s .table) → (f : ℕ) → entry s k ≡ suc f → Kept size s (put size s k 0 f 0 (zeros size))
 unfolding put
 put-kept size k s g f e =
-    let same : length (setFrame size (s .pool) f (zeros size)) ≡ length (s .pool) = length-setFrame size (s .pool) f (zeros size) (length-zeros size) (room-of size s g k f e) in
+    let same : length (setFrame size (s .pool) f (zeros size)) ≡ length (s .pool) =
+    length-setFrame size (s .pool) f (zeros size) (length-zeros size) (room-of size s g k f e) in
     let at : (j : ℕ) → j ≡ k → getD (set (s .table) k 0) j 0 ≡ 0 = λ j m. ap (λ (x : ℕ). getD (set (s .table) k 0) x 0) m ∙ getD-clear (s .table) k in
     record {
       pool = same;
@@ -71,7 +72,8 @@ put-kept size k s g f e =
       ranged = record {
         entries = simp length-set (g .entries);
         few = λ j. ⊎-elim (λ m. let z = at j m in omega arith) (λ m. rw (getD-set-other (s .table) k j 0 0 m) (g .few j)) (same-or j k);
-        room = λ j. ⊎-elim (λ m. let z = at j m in rw (z, same) (zero-times size (length (s .pool)))) (λ m. rw (getD-set-other (s .table) k j 0 0 m, same) (g .room j)) (same-or j k);
+        room = λ j. ⊎-elim (λ m. let z = at j m in rw (z, same) (zero-times size (length (s .pool))))
+            (λ m. rw (getD-set-other (s .table) k j 0 0 m, same) (g .room j)) (same-or j k);
       };
     }
 
