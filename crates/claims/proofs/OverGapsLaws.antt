@@ -7,7 +7,6 @@ use native.Mathlib.Omega.{arith}
 use lib.Dec.{ltb, eqb}
 use lib.ListN.{length, set}
 use lib.Seq.{getD-set-same, set-getD, set-set}
-use borrow.Author.Tests.{le-leb}
 use Rattle.basics.specs.Ranges.{inside}
 use Rattle.basics.proofs.TestLaws.{by-cases, and-right}
 use Rattle.basics.proofs.RangeLaws.{inside-first, inside-end, inside-yes, over-join}
@@ -15,13 +14,12 @@ use Rattle.interface.specs.declared.page.Slot.the-variants.{Unmapped}
 use Rattle.interface.specs.declared.request.Request.{Request}
 use Rattle.interface.specs.Answers.{Answered}
 use Rattle.interface.specs.Slots.{Slots, isMapped, areas}
-use Rattle.interface.specs.Limits.{within}
 use Rattle.interface.specs.Outcome.{slotsAfter}
 use Rattle.interface.specs.Refusals.{slotsThen, refusal}
 use Rattle.interface.specs.Settled.{Settled}
 use Rattle.interface.specs.Examples.{ok}
 use Rattle.interface.specs.Gaps.{Unmaps, unmapOf, mappedAlone, allOk}
-use Rattle.interface.proofs.GapLaws.{without, none-in, without-none, unmap-fits, unmap-then, unmap-number, unmap-accepted, unmap-over-gap}
+use Rattle.interface.proofs.GapLaws.{without, none-in, without-none, unmap-fits, unmap-then, unmap-number, unmap-accepted, unmap-over-gap, unmaps-of}
 use Rattle.interface.proofs.AcceptedLaws.{accepted}
 use Rattle.interface.proofs.AloneLaws.{Unmapping, alone}
 use Rattle.table.specs.Store.{entry, frontOf, freeTo}
@@ -66,8 +64,8 @@ run-cons (more {o = o} {as′ = rest} s r) = record { outcome = o; rest = rest; 
 -- ---- the world with n pages of sandbox s from a on unmapped
 
 module _ (image : List ℕ) (s : ℕ) (row : s ≤ 3) where
-  abbrev pagesIn-s : World → Slots
-  pagesIn-s w = slots (sandboxAt w s .present)
+  abbrev slotsIn : World → Slots
+  slotsIn w = slots (sandboxAt w s .present)
 
   record Good (w : World) : Type 0 where
     sound : Sound image w
@@ -75,7 +73,7 @@ module _ (image : List ℕ) (s : ℕ) (row : s ≤ 3) where
 
   abbrev unmappedAt : World → ℕ → ℕ → World
   unmappedAt w a n = record {
-    sandboxes = set (w .sandboxes) s (withPresent (pack (without a n (pagesIn-s w)) .areas) (sandboxAt w s));
+    sandboxes = set (w .sandboxes) s (withPresent (pack (without a n (slotsIn w)) .areas) (sandboxAt w s));
     store = freeTo 256 (frontOf s a) (w .store) n;
   }
 
@@ -83,41 +81,41 @@ module _ (image : List ℕ) (s : ℕ) (row : s ≤ 3) where
     own : SoundAt (pagesIn (length image)) (w .store) s (sandboxAt w s)
     own = G .sound .each s (omega arith)
 
-    unmapped-none : (a n : ℕ) → a + n ≤ 64 → ((i : ℕ) → inside a n i ≡ true → isMapped (pagesIn-s w i) ≡ false) → unmappedAt w a n ≡ w
+    unmapped-none : (a n : ℕ) → a + n ≤ 64 → ((i : ℕ) → inside a n i ≡ true → isMapped (slotsIn w i) ≡ false) → unmappedAt w a n ≡ w
     unmapped-none a n l u =
-        let present : pack (without a n (pagesIn-s w)) .areas ≡ sandboxAt w s .present =
-        ap (λ (f : Slots). pack f .areas) (without-none (pagesIn-s w) a n u) ∙ pack-slots _ (sandboxAt w s .present) (own .present) in
-        let sandboxes : set (w .sandboxes) s (withPresent (pack (without a n (pagesIn-s w)) .areas) (sandboxAt w s)) ≡ w .sandboxes =
+        let present : pack (without a n (slotsIn w)) .areas ≡ sandboxAt w s .present =
+        ap (λ (f : Slots). pack f .areas) (without-none (slotsIn w) a n u) ∙ pack-slots _ (sandboxAt w s .present) (own .present) in
+        let sandboxes : set (w .sandboxes) s (withPresent (pack (without a n (slotsIn w)) .areas) (sandboxAt w s)) ≡ w .sandboxes =
         rw present (set-getD (w .sandboxes) s closedSandbox) in
         let store : freeTo 256 (frontOf s a) (w .store) n ≡ w .store =
         freeTo-none 256 (frontOf s a) (w .store) n (λ i b. no-front a n i l b u) in
         λ j. record { sandboxes = sandboxes j; store = store j }
       where
-        no-front : (a n i : ℕ) → a + n ≤ 64 → i < n → ((i : ℕ) → inside a n i ≡ true → isMapped (pagesIn-s w i) ≡ false)
+        no-front : (a n i : ℕ) → a + n ≤ 64 → i < n → ((i : ℕ) → inside a n i ≡ true → isMapped (slotsIn w i) ≡ false)
             → entry (w .store) (frontOf s a + i) ≡ 0
         no-front a n i l b u =
             let place : frontOf s a + i ≡ frontOf s (a + i) = omega arith in
             rw place (own .fronts (a + i) (omega arith) (u (a + i) (inside-yes a n (a + i) (omega arith) (omega arith))))
 
-    module _ (a n : ℕ) (l : a + n ≤ 64) (few : areas (without a n (pagesIn-s w)) ≤ 8) where
-      here : sandboxAt (unmappedAt w a n) s ≡ withPresent (pack (without a n (pagesIn-s w)) .areas) (sandboxAt w s)
+    module _ (a n : ℕ) (l : a + n ≤ 64) (few : areas (without a n (slotsIn w)) ≤ 8) where
+      here : sandboxAt (unmappedAt w a n) s ≡ withPresent (pack (without a n (slotsIn w)) .areas) (sandboxAt w s)
       here =
-          getD-set-same (w .sandboxes) s (withPresent (pack (without a n (pagesIn-s w)) .areas) (sandboxAt w s)) closedSandbox
+          getD-set-same (w .sandboxes) s (withPresent (pack (without a n (slotsIn w)) .areas) (sandboxAt w s)) closedSandbox
           (omega (arith, G .sound .row))
 
-      packed-slots : slots (pack (without a n (pagesIn-s w)) .areas) ≡ without a n (pagesIn-s w)
-      packed-slots = repack-slots _ (sandboxAt w s .present) (own .present) a n Unmap (areas-fit (without a n (pagesIn-s w)) few) l
+      packed-slots : slots (pack (without a n (slotsIn w)) .areas) ≡ without a n (slotsIn w)
+      packed-slots = repack-slots _ (sandboxAt w s .present) (own .present) a n Unmap (areas-fit (without a n (slotsIn w)) few) l
 
-      unmapped-slots : pagesIn-s (unmappedAt w a n) ≡ without a n (pagesIn-s w)
+      unmapped-slots : slotsIn (unmappedAt w a n) ≡ without a n (slotsIn w)
       unmapped-slots = ap (λ (b : Sandbox). slots (b .present)) here ∙ packed-slots
 
       unmapped-join : (m : ℕ) → unmappedAt (unmappedAt w a n) (a + n) m ≡ unmappedAt w a (n + m)
       unmapped-join m =
           let place : frontOf s (a + n) ≡ frontOf s a + n = omega arith in
-          rw (here, packed-slots, over-join a n m (λ i. Unmapped) (pagesIn-s w), place, freeTo-join 256 (frontOf s a) (w .store) n m)
+          rw (here, packed-slots, over-join a n m (λ i. Unmapped) (slotsIn w), place, freeTo-join 256 (frontOf s a) (w .store) n m)
           (λ j. record {
-            sandboxes = set-set (w .sandboxes) s (withPresent (pack (without a n (pagesIn-s w)) .areas) (sandboxAt w s))
-                (withPresent (pack (without a (n + m) (pagesIn-s w)) .areas) (sandboxAt w s)) j;
+            sandboxes = set-set (w .sandboxes) s (withPresent (pack (without a n (slotsIn w)) .areas) (sandboxAt w s))
+                (withPresent (pack (without a (n + m) (slotsIn w)) .areas) (sandboxAt w s)) j;
             store = freeTo 256 (frontOf s a) (w .store) (n + m);
           })
 
@@ -138,12 +136,12 @@ module _ (image : List ℕ) (w : World) (q : Request) (o : Outcome) (S : Sound i
   abbrev left : World
   left = unmappedAt image (q .sandbox) (u .row) w (q .p1) (q .p2)
 
-  accepted-leaves-it : refusal (viewAt image w (q .sandbox)) q ≡ 0 → o .world ≡ left
+  unmap-leaves : refusal (viewAt image w (q .sandbox)) q ≡ 0 → o .world ≡ left
   unfolding packedAfter takenAfter snapshotAfter storeAfter slotsAfter
-  accepted-leaves-it n = accepted-leaves image w q o t (number-told ∙ n) ∙ rw (u .called, u .opened)
+  unmap-leaves n = accepted-leaves image w q o t (number-told ∙ n) ∙ rw (u .called, u .opened)
 
-  accepted-answers : refusal (viewAt image w (q .sandbox)) q ≡ 0 → o .answer ≡ ok 0
-  accepted-answers n = answer-told ∙ rw n
+  unmap-answers : refusal (viewAt image w (q .sandbox)) q ≡ 0 → o .answer ≡ ok 0
+  unmap-answers n = answer-told ∙ rw n
 
 -- ---- the laws of unmapping
 
@@ -151,18 +149,12 @@ module _ (image : List ℕ) (s : ℕ) (row : s ≤ 3) where
   abbrev Leading : World → List Request → World → Type 0
   Leading w qs r = (as′ : List Answered) (v : World) → Run image w qs as′ v → (as′ ≡ allOk qs) × (v ≡ r)
 
-  module _ (w : World) (G : Good image s row w) (a n : ℕ) (l : a + suc n ≤ 64) (few : areas (without a (suc n) (pagesIn-s image s row w)) ≤ 8) where
+  module _ (w : World) (G : Good image s row w) (a n : ℕ) (l : a + suc n ≤ 64) (few : areas (without a (suc n) (slotsIn image s row w)) ≤ 8) where
     abbrev q : Request
     q = unmapOf s a (suc n)
 
     unmaps : Unmaps (viewAt image w s) q
-    unfolding within
-    unmaps = record {
-      called = refl;
-      row = row;
-      opened = G .opened;
-      limits = rw (le-leb a 63 (omega arith), le-leb 1 (suc n) (omega arith), le-leb (suc n) 64 (omega arith), le-leb (a + suc n) 64 l);
-    }
+    unmaps = unmaps-of (viewAt image w s) s a n row (G .opened) l
 
     taken : refusal (viewAt image w s) q ≡ 0
     taken = unmap-accepted _ q (settled image w (G .sound) s (omega arith)) unmaps few
@@ -175,7 +167,7 @@ module _ (image : List ℕ) (s : ℕ) (row : s ≤ 3) where
     good-after : Good image s row (unmappedAt image s row w a (suc n))
     good-after = record {
       sound =
-          rw (← accepted-leaves-it image w q (step image 0 w q) (G .sound) unmaps stepped taken)
+          rw (← unmap-leaves image w q (step image 0 w q) (G .sound) unmaps stepped taken)
           (stays-sound image w (G .sound) q (step image 0 w q) stepped);
       opened = ap (λ (b : Sandbox). b .opened) (here image s row w G a (suc n) l few) ∙ G .opened;
     }
@@ -183,11 +175,11 @@ module _ (image : List ℕ) (s : ℕ) (row : s ≤ 3) where
     cons-after : (r : World) (rest : List Request) → Leading (unmappedAt image s row w a (suc n)) rest r → Leading w (q ∷ rest) r
     cons-after r rest led as′ v run =
         let f = run-cons run in
-        let gone = accepted-leaves-it image w q (f .outcome) (G .sound) unmaps (f .stepped) taken in
+        let gone = unmap-leaves image w q (f .outcome) (G .sound) unmaps (f .stepped) taken in
         let done = led (f .rest) v (rw gone at (f .behind)) in
-        (f .told ∙ (λ j. accepted-answers image w q (f .outcome) (G .sound) unmaps (f .stepped) taken j ∷ done .0 j), done .1)
+        (f .told ∙ (λ j. unmap-answers image w q (f .outcome) (G .sound) unmaps (f .stepped) taken j ∷ done .0 j), done .1)
 
-  fits-after : (w : World) → Good image s row w → (a n : ℕ) → a + n ≤ 64 → areas (without a n (pagesIn-s image s row w)) ≤ 8
+  fits-after : (w : World) → Good image s row w → (a n : ℕ) → a + n ≤ 64 → areas (without a n (slotsIn image s row w)) ≤ 8
       → Good image s row (unmappedAt image s row w a n)
   fits-after w G a zero l few =
       rw (unmapped-none image s row w G a 0 l (λ i t. absurd (omega (arith, inside-first a 0 i t, inside-end a 0 i t)))) G
@@ -195,7 +187,7 @@ module _ (image : List ℕ) (s : ℕ) (row : s ≤ 3) where
 
   unmapping : Unmapping World s
   unmapping = record {
-    slotsOf = pagesIn-s image s row;
+    slotsOf = slotsIn image s row;
     Good = Good image s row;
     unmapped = unmappedAt image s row;
     Leads = Leading;
@@ -221,7 +213,7 @@ every-run image w q o S u t n as′ r run =
     let few = rw (unmap-then _ q v u) at (accepted _ q taken .inAreas) in
     let done = alone (q .sandbox) (unmapping image (q .sandbox) (u .row)) w (record { sound = S; opened = u .opened }) (q .p1) (q .p2)
     (unmap-fits _ q v u) few as′ r run in
-    (done .0, done .1 ∙ sym (accepted-leaves-it image w q o S u t taken))
+    (done .0, done .1 ∙ sym (unmap-leaves image w q o S u t taken))
 
 pub over-gaps : (image : List ℕ) → PassesOverGaps image
 over-gaps image w q o S u t =
@@ -235,8 +227,8 @@ over-gaps image w q o S u t =
       nothing = λ clear.
           let idle = none-in f (q .p1) (q .p2) clear in
           let n = unmap-accepted _ q v u (rw (without-none f (q .p1) (q .p2) idle) (v .few)) in (
-            accepted-answers image w q o S u t n,
-            accepted-leaves-it image w q o S u t n ∙ unmapped-none image (q .sandbox) (u .row) w good (q .p1) (q .p2) (unmap-fits _ q v u) idle,
+            unmap-answers image w q o S u t n,
+            unmap-leaves image w q o S u t n ∙ unmapped-none image (q .sandbox) (u .row) w good (q .p1) (q .p2) (unmap-fits _ q v u) idle,
           );
       alone = λ n.
           let some = sound-runs image w S (mappedAlone q f) in

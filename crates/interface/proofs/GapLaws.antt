@@ -5,7 +5,7 @@ use mathlib.Core.Bool.{Bool, true, false, _||_, false≢true}
 use mathlib.Core.List.{[], _∷_}
 use native.Mathlib.Omega.{arith}
 use lib.Dec.{ltb, eqb}
-use borrow.Author.Tests.{leb-true, le-ltb, eqb-true, eqb-false}
+use borrow.Author.Tests.{leb-true, le-leb, le-ltb, eqb-true, eqb-false}
 use Rattle.basics.specs.Choice.{_when_else_, same}
 use Rattle.basics.specs.Ranges.{inside, over}
 use Rattle.basics.proofs.TestLaws.{by-cases, and-left, and-right, never, same-true}
@@ -21,7 +21,7 @@ use Rattle.interface.specs.Outcome.{slotsAfter}
 use Rattle.interface.specs.Refusals.{View, allMapped, slotsThen, refusal}
 use Rattle.interface.specs.Settled.{Settled}
 use Rattle.interface.specs.Examples.{call₂, inSandbox}
-use Rattle.interface.specs.Gaps.{Unmaps, unmapsFrom, mappedAlone}
+use Rattle.interface.specs.Gaps.{Unmaps, unmapOf, unmapsFrom, mappedAlone}
 use Rattle.interface.specs.Edges.{full, eight}
 use Rattle.interface.proofs.SlotLaws.{unmapped}
 use Rattle.interface.proofs.KindLaws.{kind}
@@ -152,6 +152,16 @@ module _ (v : View) (q : Request) (s : Settled v) (u : Unmaps v q) where
   -- and not that where the range has an unmapped page
   pub unmap-over-gap : (i : ℕ) → inside (q .p1) (q .p2) i ≡ true → isMapped (v .slots i) ≡ false → refusal v q ≡ 0
   unmap-over-gap i t m = unmap-accepted (omega (arith, s .few, fewer-over-gap (v .slots) (q .p1) (q .p2) i t m unmap-fits))
+
+-- pages of an open sandbox, none past page 63
+pub unmaps-of : (v : View) (s a n : ℕ) → s ≤ 3 → v .opened ≡ true → a + suc n ≤ 64 → Unmaps v (unmapOf s a (suc n))
+unfolding within
+unmaps-of v s a n row opened l = record {
+  called = refl;
+  row = row;
+  opened = opened;
+  limits = rw (le-leb a 63 (omega arith), le-leb 1 (suc n) (omega arith), le-leb (suc n) 64 (omega arith), le-leb (a + suc n) 64 l);
+}
 
 -- ---- the mapped pages of a range, by computation
 

@@ -5,7 +5,7 @@ use mathlib.Core.Bool.{true, false}
 use mathlib.Core.List.{List, _∷_}
 use native.Mathlib.Omega.{arith}
 use lib.Dec.{eqb}
-use borrow.Author.Tests.{le-leb, eq-eqb}
+use borrow.Author.Tests.{eq-eqb}
 use Rattle.basics.specs.Ranges.{inside, over}
 use Rattle.basics.proofs.TestLaws.{by-cases, never}
 use Rattle.basics.proofs.RangeLaws.{inside-first, inside-end, over-in, over-out, over-join}
@@ -13,12 +13,11 @@ use Rattle.interface.specs.declared.page.Slot.the-variants.{Unmapped}
 use Rattle.interface.specs.declared.request.Request.{Request}
 use Rattle.interface.specs.Answers.{Answered}
 use Rattle.interface.specs.Slots.{Slots, isMapped, areas}
-use Rattle.interface.specs.Limits.{within}
 use Rattle.interface.specs.Outcome.{slotsAfter, copyAfter}
 use Rattle.interface.specs.Settled.{Settled}
 use Rattle.interface.specs.Examples.{ok}
-use Rattle.interface.specs.Gaps.{Unmaps, unmapOf, allOk}
-use Rattle.interface.proofs.GapLaws.{without, none-in, without-none, unmap-fits, unmap-then, unmap-accepted}
+use Rattle.interface.specs.Gaps.{unmapOf, allOk}
+use Rattle.interface.proofs.GapLaws.{without, none-in, without-none, unmap-fits, unmap-then, unmap-accepted, unmaps-of}
 use Rattle.interface.proofs.AcceptedLaws.{accepted}
 use Rattle.interface.proofs.AloneLaws.{Unmapping, alone}
 use Rattle.plain.specs.Machine.{Given, Kept, Plain, shares, viewOf, put, numberAt, answer, answers, after, afterAll, coreValue}
@@ -84,17 +83,8 @@ module _ (g : Given) (s : ℕ) (row : s ≤ 3) where
     unmapped-join a n m = rw (eq-eqb s s refl, kept-join g s (p s) a n m) (put-put _ _ p)
 
     module _ (a n : ℕ) (l : a + suc n ≤ 64) (few : areas (without a (suc n) (slotsIn p)) ≤ 8) where
-      unmaps : Unmaps (viewOf g (shares p) (p s .core)) (unmapOf s a (suc n))
-      unfolding within
-      unmaps = record {
-        called = refl;
-        row = row;
-        opened = G .opened;
-        limits = rw (le-leb a 63 (omega arith), le-leb 1 (suc n) (omega arith), le-leb (suc n) 64 (omega arith), le-leb (a + suc n) 64 l);
-      }
-
       number : numberAt g p (unmapOf s a (suc n)) ≡ 0
-      number = unmap-accepted _ _ settled unmaps few
+      number = unmap-accepted _ _ settled (unmaps-of (viewOf g (shares p) (p s .core)) s a n row (G .opened) l) few
 
       leaves : after g p (unmapOf s a (suc n)) ≡ unmappedAt p a (suc n)
       unfolding after
