@@ -1,7 +1,7 @@
 -- Laws of counts and sums below a bound.
 use Prim.Native.Nat.{ℕ, zero, suc, _+_, _≤_, _<_}
 use mathlib.Core.Path.{_≡_, refl}
-use mathlib.Core.Bool.{Bool, true, false, _||_}
+use mathlib.Core.Bool.{Bool, true, false}
 use native.Mathlib.Omega.{arith}
 use lib.Dec.{eqb}
 use borrow.Author.Tests.{eqb-true, eqb-false, ne-eqb}
@@ -39,16 +39,6 @@ count-less p q (suc n) k h l a b =
     rw (x, y) (omega (arith, count-le p q n h)))
     (λ t. omega (arith, one-le (p n) (q n) (h n), count-less p q n k h (omega (arith, eqb-false k n t)) a b))
 
--- what passes one of two tests
-pub count-either : (p q : ℕ → Bool) (n : ℕ) → count (λ i. p i || q i) n ≤ count p n + count q n
-unfolding count
-count-either p q zero = omega arith
-count-either p q (suc n) = omega (arith, count-either p q n, one-either (p n) (q n))
-  where
-    one-either : (a b : Bool) → one (a || b) ≤ one a + one b
-    one-either true b = omega arith
-    one-either false b = omega arith
-
 -- the same numbers pass
 pub count-equal : (p q : ℕ → Bool) (n : ℕ) → ((i : ℕ) → i < n → p i ≡ q i) → count p n ≡ count q n
 unfolding count
@@ -60,6 +50,13 @@ pub count-split : (p q r : ℕ → Bool) (n : ℕ) → ((i : ℕ) → one (p i) 
 unfolding count
 count-split p q r zero h = refl
 count-split p q r (suc n) h = omega (arith, h n, count-split p q r n h)
+
+-- two tests and two others, number by number as many
+pub count-pairs : (p q r s : ℕ → Bool) (n : ℕ) → ((i : ℕ) → one (p i) + one (q i) ≡ one (r i) + one (s i))
+    → count p n + count q n ≡ count r n + count s n
+unfolding count
+count-pairs p q r s zero h = refl
+count-pairs p q r s (suc n) h = omega (arith, h n, count-pairs p q r s n h)
 
 pub count-none : (n : ℕ) → count (λ i. false) n ≡ 0
 unfolding count

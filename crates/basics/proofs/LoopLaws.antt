@@ -1,8 +1,8 @@
 -- A loop that tests the numbers from i to e - 1 in turn: what its next turn, its early end and its end say of `every` and `lowest`,
 -- and what these two say of each number.
 use Prim.Native.Nat.{ℕ, zero, suc, _+_, _-_, _≤_, _<_}
-use mathlib.Core.Path.{_≡_, refl}
-use mathlib.Core.Bool.{Bool, true, false, _&&_}
+use mathlib.Core.Path.{_≡_, refl, sym}
+use mathlib.Core.Bool.{Bool, true, false, _&&_, false≢true}
 use native.Mathlib.Omega.{arith}
 use native.Mathlib.Decide.{ℕ-discrete}
 use native.Mathlib.Nat.{add-zero}
@@ -66,12 +66,22 @@ module _ (P : ℕ → Bool) where
   every-of i zero h = refl
   every-of i (suc n) h = and-of (h i (omega arith) (omega arith)) (every-of (i + 1) n (λ p a b. h p (omega arith) (omega arith)))
 
+  -- one does not pass
+  pub every-fails : (i n : ℕ) → every P i n ≡ false → (p : ℕ) × (i ≤ p) × (p < i + n) × (P p ≡ false)
+  unfolding every
+  every-fails i zero h = absurd (false≢true (sym h))
+  every-fails i (suc n) h =
+      by-cases (P i)
+      (λ t. let r = every-fails (i + 1) n (rw t at h) in (r .0, omega (arith, r .1), omega (arith, r .2), r .3))
+      (λ t. (i, omega arith, omega arith, t))
+
   -- one number more at the end
   pub every-last : (n : ℕ) → every P 0 (n + 1) ≡ (every P 0 n && P n)
   every-last n =
       both-ways _ _
       (λ h. and-of (every-of 0 n (λ p a b. every-at 0 (n + 1) h p a (omega arith))) (every-at 0 (n + 1) h n (omega arith) (omega arith)))
-      (λ h. every-of 0 (n + 1) (λ p a b. next (λ p. P p ≡ true) n p b (and-right (every P 0 n) (P n) h) (λ c. every-at 0 n (and-left (every P 0 n) (P n) h) p a (omega arith))))
+      (λ h. every-of 0 (n + 1) (λ p a b. next (λ p. P p ≡ true) n p b (and-right (every P 0 n) (P n) h)
+      (λ c. every-at 0 n (and-left (every P 0 n) (P n) h) p a (omega arith))))
     where
       next : (Q : ℕ → Type 0) (n p : ℕ) → p < 0 + (n + 1) → Q n → (p < n → Q p) → Q p
       next Q n p b l m = go (ℕ-discrete p n)
@@ -94,7 +104,8 @@ module _ (P : ℕ → Bool) where
   lowest-least a zero i h k = absurd (omega arith)
   lowest-least a (suc n) i h k =
       by-cases (P a) (λ e. absurd (omega (arith, rw (e, lowest) at k)))
-      (λ e. next (λ p. P p ≡ false) (lowest P (a + 1) n) a i h (omega (arith, rw (e, lowest) at k)) (λ t. rw t e) (λ c d. lowest-least (a + 1) n i c (rw (e, lowest) at k)))
+      (λ e. next (λ p. P p ≡ false) (lowest P (a + 1) n) a i h (omega (arith, rw (e, lowest) at k)) (λ t. rw t e)
+      (λ c d. lowest-least (a + 1) n i c (rw (e, lowest) at k)))
 
   -- it passes, where it is not the end
   pub lowest-passes : (a n : ℕ) → lowest P a n < a + n → P (lowest P a n) ≡ true

@@ -1,10 +1,10 @@
 -- Unmapping over gaps, of the machine that runs: its laws of unmapping, and with them what is claimed (specs/OverGaps).
 use mathlib.Core.Path.{_≡_, refl, sym, ap, _∙_}
-use mathlib.Core.Bool.{true, false, false≢true}
+use mathlib.Core.Bool.{true, false, _&&_, false≢true}
 use mathlib.Core.List.{List, [], _∷_}
 use Prim.Native.Nat.{ℕ, zero, suc, _+_, _≤_, _<_}
 use native.Mathlib.Omega.{arith}
-use lib.Dec.{ltb, eqb}
+use lib.Dec.{eqb}
 use lib.ListN.{length, set}
 use lib.Seq.{getD-set-same, set-getD, set-set}
 use Rattle.basics.specs.Ranges.{inside}
@@ -15,11 +15,11 @@ use Rattle.interface.specs.declared.request.Request.{Request}
 use Rattle.interface.specs.Answers.{Answered}
 use Rattle.interface.specs.Slots.{Slots, isMapped, areas}
 use Rattle.interface.specs.Outcome.{slotsAfter}
-use Rattle.interface.specs.Refusals.{slotsThen, refusal}
+use Rattle.interface.specs.Refusals.{refusal}
 use Rattle.interface.specs.Settled.{Settled}
 use Rattle.interface.specs.Examples.{ok}
-use Rattle.interface.specs.Gaps.{Unmaps, unmapOf, mappedAlone, allOk}
-use Rattle.interface.proofs.GapLaws.{without, none-in, without-none, unmap-fits, unmap-then, unmap-number, unmap-accepted, unmap-over-gap, unmaps-of}
+use Rattle.interface.specs.Gaps.{Unmaps, isHole, unmapOf, mappedAlone, allOk}
+use Rattle.interface.proofs.GapLaws.{without, none-in, without-none, unmap-fits, unmap-then, unmap-accepted, unmap-hole, unmap-over-gap, unmaps-of}
 use Rattle.interface.proofs.AcceptedLaws.{accepted}
 use Rattle.interface.proofs.AloneLaws.{Unmapping, alone}
 use Rattle.table.specs.Store.{entry, frontOf, freeTo}
@@ -34,6 +34,7 @@ use Rattle.areas.proofs.ToldLaws.{pack-slots}
 use Rattle.state.specs.declared.sandbox.Sandbox.{Sandbox}
 use Rattle.state.specs.World.{World, sandboxAt, withPresent, closedSandbox, pagesIn, viewAt}
 use Rattle.state.specs.Sound.{SoundAt, Sound}
+use Rattle.state.proofs.TestLaws.{slots-inside}
 use Rattle.state.proofs.SettledLaws.{settled}
 use Rattle.rules.specs.After.{packedAfter, takenAfter, snapshotAfter}
 use Rattle.memory.specs.Memory.{storeAfter, valueAt}
@@ -222,7 +223,9 @@ over-gaps image w q o S u t =
     let told = answer-told image w q o S u t in
     let good : Good image (q .sandbox) (u .row) w = record { sound = S; opened = u .opened } in
     record {
-      answered = told ∙ rw (unmap-number _ q v u) (by-cases (ltb 8 (areas (slotsThen (viewAt image w (q .sandbox)) q))) (λ e. rw e) (λ e. rw e));
+      answered =
+          told ∙ rw (unmap-hole _ q v u (slots-inside _ (sandboxAt w (q .sandbox) .present) (own image (q .sandbox) (u .row) w good .present)))
+          (by-cases (eqb (areas f) 8 && isHole f (q .p1) (q .p2)) (λ e. rw e) (λ e. rw e));
       gap = λ i b m. told ∙ rw (unmap-over-gap _ q v u i b m);
       nothing = λ clear.
           let idle = none-in f (q .p1) (q .p2) clear in

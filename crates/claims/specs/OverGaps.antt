@@ -1,17 +1,16 @@
 -- Request A2, "Unmapping over gaps", of the machine that runs: of any sound state, and so after every list (demand 3: the state is sound).
 use mathlib.Core.Path.{_≡_}
-use mathlib.Core.Bool.{true, false}
+use mathlib.Core.Bool.{true, false, _&&_}
 use mathlib.Core.List.{List}
 use Prim.Native.Nat.{ℕ}
-use lib.Dec.{ltb}
+use lib.Dec.{eqb}
 use Rattle.basics.specs.Choice.{_when_else_}
 use Rattle.basics.specs.Ranges.{inside}
 use Rattle.interface.specs.declared.request.Request.{Request}
 use Rattle.interface.specs.Answers.{Answered}
 use Rattle.interface.specs.Slots.{Slots, isMapped, areas, allAre}
-use Rattle.interface.specs.Refusals.{slotsThen}
 use Rattle.interface.specs.Examples.{ok, refused}
-use Rattle.interface.specs.Gaps.{Unmaps, mappedAlone, allOk}
+use Rattle.interface.specs.Gaps.{Unmaps, isHole, mappedAlone, allOk}
 use Rattle.areas.specs.Areas.{slots}
 use Rattle.state.specs.World.{World, sandboxAt, viewAt}
 use Rattle.state.specs.Sound.{Sound}
@@ -24,9 +23,9 @@ pagesOf w q = slots (sandboxAt w (q .sandbox) .present)
 
 -- from the world w, the unmap q has the outcome o
 pub record OverGaps (image : List ℕ) (w : World) (q : Request) (o : Outcome) : Type 0 where
-  -- "Refusal 9 remains for protect, read and write": it is refused where more than 8 areas would result, and by no other row
-  pub answered : o .answer ≡ (refused 14 when ltb 8 (areas (slotsThen (viewAt image w (q .sandbox)) q)) else ok 0)
-  -- and not so where its range has an unmapped page
+  -- "Refusal 9 remains for protect, read and write", and "more than 8 areas would result" of an unmap that is a hole in one of eight areas alone
+  pub answered : o .answer ≡ (refused 14 when eqb (areas (pagesOf w q)) 8 && isHole (pagesOf w q) (q .p1) (q .p2) else ok 0)
+  -- so it is not refused where its range has an unmapped page
   pub gap : (i : ℕ) → inside (q .p1) (q .p2) i ≡ true → isMapped (pagesOf w q i) ≡ false → o .answer ≡ ok 0
   -- "a range with none mapped is accepted and changes nothing": state, pool and table
   pub nothing : allAre false (pagesOf w q) (q .p1) (q .p2) ≡ true → (o .answer ≡ ok 0) × (o .world ≡ w)

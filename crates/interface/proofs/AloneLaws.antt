@@ -9,7 +9,7 @@ use native.Mathlib.Nat.{add-zero, zero-add}
 use lib.Dec.{eqb}
 use borrow.Author.Tests.{eqb-true, eqb-false}
 use Rattle.basics.specs.Ranges.{inside}
-use Rattle.basics.proofs.TestLaws.{by-cases, when-cases, never, both-ways}
+use Rattle.basics.proofs.TestLaws.{by-cases, when-cases, both-ways}
 use Rattle.basics.proofs.RangeLaws.{inside-first, inside-end, inside-yes, inside-below, inside-past, over-out, over-join}
 use Rattle.interface.specs.declared.page.Slot.the-variants.{Unmapped}
 use Rattle.interface.specs.declared.request.Request.{Request}
@@ -52,7 +52,7 @@ module _ {X : Type 0} (s : ℕ) (U : Unmapping X s) where
   -- page a + m, behind m pages, is a gap
   module _ (a m : ℕ) (x : X) (g : U .Good x) (l : a + m + 1 ≤ 64) (gap : isMapped (U .slotsOf x (a + m)) ≡ false) where
     few-first : areas (without a m (U .slotsOf x)) ≤ 8
-    few-first = omega (arith, U .few x g, fewer-before (U .slotsOf x) a m (λ t. never (isMapped (U .slotsOf x (a + m))) t gap))
+    few-first = omega (arith, U .few x g, fewer-before (U .slotsOf x) a m gap)
 
     abbrev next : X
     next = U .unmapped x a m

@@ -1,29 +1,30 @@
 -- An unmap over gaps: the areas that it leaves, and its number.
 use Prim.Native.Nat.{ℕ, zero, suc, _+_, _-_, _≤_, _<_}
 use mathlib.Core.Path.{_≡_, refl, sym, _∙_, fun-ext}
-use mathlib.Core.Bool.{Bool, true, false, _||_, false≢true}
+use mathlib.Core.Bool.{Bool, true, false, not, _&&_, false≢true}
 use mathlib.Core.List.{[], _∷_}
 use native.Mathlib.Omega.{arith}
 use lib.Dec.{ltb, eqb}
-use borrow.Author.Tests.{leb-true, le-leb, le-ltb, eqb-true, eqb-false}
+use borrow.Author.Tests.{leb-true, le-leb, le-ltb, lt-ltb, eqb-true, eqb-false}
 use Rattle.basics.specs.Choice.{_when_else_, same}
-use Rattle.basics.specs.Ranges.{inside, over}
+use Rattle.basics.specs.Ranges.{one, count, every, inside, over}
 use Rattle.basics.proofs.TestLaws.{by-cases, and-left, and-right, never, same-true}
-use Rattle.basics.proofs.LoopLaws.{every-at}
-use Rattle.basics.proofs.RangeLaws.{inside-first, inside-end, inside-yes, inside-past, over-in, over-out}
-use Rattle.basics.proofs.CountLaws.{count-le, count-less, count-either}
-use Rattle.interface.specs.declared.page.Slot.the-variants.{Unmapped}
+use Rattle.basics.proofs.LoopLaws.{every-at, every-fails}
+use Rattle.basics.proofs.RangeLaws.{inside-first, inside-end, inside-yes, inside-below, over-in, over-out}
+use Rattle.basics.proofs.CountLaws.{count-le, count-less, count-equal, count-pairs, count-none}
+use Rattle.interface.specs.declared.page.Slot.{Slot}
+use Rattle.interface.specs.declared.page.Slot.the-variants.{Unmapped, Mapped}
 use Rattle.interface.specs.declared.request.Request.{Request}
 use Rattle.interface.specs.Requests.{Unmap}
-use Rattle.interface.specs.Slots.{Slots, isMapped, joins, previous, startsArea, areas, allAre}
+use Rattle.interface.specs.Slots.{Slots, isMapped, follows, joins, previous, startsArea, areas, allAre}
 use Rattle.interface.specs.Limits.{within}
 use Rattle.interface.specs.Outcome.{slotsAfter}
 use Rattle.interface.specs.Refusals.{View, allMapped, slotsThen, refusal}
 use Rattle.interface.specs.Settled.{Settled}
 use Rattle.interface.specs.Examples.{call₂, inSandbox}
-use Rattle.interface.specs.Gaps.{Unmaps, unmapOf, unmapsFrom, mappedAlone}
+use Rattle.interface.specs.Gaps.{Unmaps, isHole, unmapOf, unmapsFrom, mappedAlone}
 use Rattle.interface.specs.Edges.{full, eight}
-use Rattle.interface.proofs.SlotLaws.{unmapped}
+use Rattle.interface.proofs.SlotLaws.{unmapped, Inside}
 use Rattle.interface.proofs.KindLaws.{kind}
 use Rattle.interface.proofs.ChargeLaws.{inside-part}
 use Rattle.interface.proofs.RowLaws.{row-13}
@@ -47,23 +48,61 @@ without-none f a n h =
 
 -- ---- areas
 
--- a mapped page right behind an unmapped one starts an area
-starts-behind : (f : Slots) (i j : ℕ) → j ≡ suc i → isMapped (f i) ≡ false → isMapped (f j) ≡ true → startsArea f j ≡ true
-unfolding joins
-starts-behind f i j e u m = let next = rw e at m in rw (e, next, unmapped (f i) u)
+and-true : (b : Bool) → (b && true) ≡ b
+and-true true = refl
+and-true false = refl
 
--- behind an unmapped page, some page up to a mapped one starts an area
-starts-between : (f : Slots) (j d : ℕ) → isMapped (f j) ≡ false → isMapped (f (j + suc d)) ≡ true
-    → (k : ℕ) × (j < k) × (k ≤ j + suc d) × (startsArea f k ≡ true)
-starts-between f j zero u m =
-    (j + 1, omega arith, omega arith, starts-behind f j (j + 1) (omega arith) u m)
-starts-between f j (suc d) u m =
-    by-cases (isMapped (f (j + suc d)))
-    (λ t. let r = starts-between f j d u t in (r .0, r .1, omega (arith, r .2), r .3))
-    (λ t. (j + suc (suc d), omega arith, omega arith, starts-behind f (j + suc d) (j + suc (suc d)) (omega arith) t m))
+and-false : (b : Bool) → (b && false) ≡ false
+and-false true = refl
+and-false false = refl
+
+-- whether page i goes on with the area of the page before it
+abbrev goesOn : Slots → ℕ → Bool
+goesOn f i = joins (previous f i) (f i)
+
+-- then it is mapped
+goes-mapped : (x y : Slot) → joins x y ≡ true → isMapped y ≡ true
+unfolding joins
+goes-mapped Unmapped y e = absurd (false≢true e)
+goes-mapped (Mapped s) Unmapped e = e
+goes-mapped (Mapped s) (Mapped t) e = refl
+
+-- behind an unmapped page none does
+behind-gap : (f : Slots) (i : ℕ) → isMapped (f i) ≡ false → goesOn f (suc i) ≡ false
+unfolding joins
+behind-gap f i u = rw (unmapped (f i) u)
+
+-- a hole ends before a mapped page
+hole-end : (f : Slots) (a n : ℕ) → isHole f a n ≡ true → isMapped (f (a + n)) ≡ true
+unfolding isHole
+hole-end f a n h = goes-mapped (previous f (a + n)) (f (a + n)) (every-at (goesOn f) a (suc n) h (a + n) (omega arith) (omega arith))
+
+-- and has no unmapped page
+gap-no-hole : (f : Slots) (a n i : ℕ) → inside a n i ≡ true → isMapped (f i) ≡ false → isHole f a n ≡ false
+unfolding isHole
+gap-no-hole f a n i t u =
+    by-cases (every (goesOn f) a (suc n))
+    (λ h. let low = inside-first a n i t in
+    let high = inside-end a n i t in
+    never _ (goes-mapped (previous f i) (f i) (every-at (goesOn f) a (suc n) h i low (omega arith))) u)
+    (λ h. h)
+
+-- a mapped page goes on, or starts an area
+starts-else : (m g : Bool) → (g ≡ true → m ≡ true) → one (m && true) ≡ one (m && not g) + one g
+starts-else true true h = refl
+starts-else true false h = refl
+starts-else false true h = absurd (false≢true (h refl))
+starts-else false false h = refl
 
 module _ (f : Slots) (a n : ℕ) where
-  -- the page before is as it was, but for the first page behind the range
+  -- the areas that start in the range, and the page behind it, if it goes on with an area: there one starts afterwards
+  abbrev startsIn : ℕ → Bool
+  startsIn i = inside a n i && startsArea f i
+
+  abbrev cutOff : ℕ → Bool
+  cutOff i = inside (a + n) 1 i && goesOn f i
+
+  -- outside the range, the page before is as it was, but for the first page behind it
   previous-same : (i : ℕ) → (i ≡ a + n → ⊥) → inside a n i ≡ false → previous (without a n f) i ≡ previous f i
   previous-same zero d t = refl
   previous-same (suc i) d t =
@@ -71,61 +110,104 @@ module _ (f : Slots) (a n : ℕ) where
       (λ y. never _ (inside-yes a n (suc i) (omega (arith, inside-first a n i y)) (omega (arith, inside-end a n i y, d))) t)
       (λ y. y))
 
-  -- no area starts in the range; elsewhere, but for the page behind it, only where one did
-  starts-kept : (i : ℕ) → (i ≡ a + n → ⊥) → startsArea (without a n f) i ≡ true → startsArea f i ≡ true
-  starts-kept i d e =
+  previous-gone : (i j : ℕ) → i ≡ suc j → inside a n j ≡ true → previous (without a n f) i ≡ Unmapped
+  previous-gone i j e t = rw e (over-in a n (λ i. Unmapped) f j t)
+
+  not-behind : (i : ℕ) → (i ≡ a + n → ⊥) → inside (a + n) 1 i ≡ false
+  not-behind i d =
+      by-cases (inside (a + n) 1 i) (λ y. absurd (omega (arith, d, inside-first (a + n) 1 i y, inside-end (a + n) 1 i y))) (λ y. y)
+
+  -- page by page, the areas that start
+  starts-at : 0 < n → (i : ℕ) → one (startsArea (without a n f) i) + one (startsIn i) ≡ one (startsArea f i) + one (cutOff i)
+  unfolding joins
+  starts-at some i =
       by-cases (inside a n i)
-      (λ t. absurd (false≢true (sym (rw (over-in a n (λ i. Unmapped) f i t)) ∙ e)))
-      (λ t. rw (previous-same i d t, over-out a n (λ i. Unmapped) f i t) at e)
+      (λ t. rw (over-in a n (λ i. Unmapped) f i t, t, inside-below (a + n) 1 i (inside-end a n i t)) (omega arith))
+      (λ t. by-cases (eqb i (a + n))
+      (λ e. let same = eqb-true i (a + n) e in
+      let gone = previous-gone i (a + n - 1) (omega arith) (inside-yes a n (a + n - 1) (omega arith) (omega arith)) in
+      rw (t, over-out a n (λ i. Unmapped) f i t, gone, inside-yes (a + n) 1 i (omega arith) (omega arith))
+      (omega (arith, starts-else (isMapped (f i)) (goesOn f i) (goes-mapped (previous f i) (f i)))))
+      (λ e. let d = eqb-false i (a + n) e in rw (t, over-out a n (λ i. Unmapped) f i t, previous-same i d t, not-behind i d)))
 
-  starts-none : (i : ℕ) → inside a n i ≡ true → startsArea (without a n f) i ≡ false
-  starts-none i t = rw (over-in a n (λ i. Unmapped) f i t)
-
-  -- so, where the page behind the range is unmapped or starts an area, there are no more areas than before
-  pub fewer-before : (isMapped (f (a + n)) ≡ true → startsArea f (a + n) ≡ true) → areas (without a n f) ≤ areas f
+  -- the areas that are left
+  areas-left : 0 < n → areas (without a n f) + count startsIn 64 ≡ areas f + count cutOff 64
   unfolding areas
-  fewer-before h =
-      count-le (startsArea (without a n f)) (startsArea f) 64
-      (λ i e. by-cases (eqb i (a + n))
-      (λ t. let x : startsArea (without a n f) (a + n) ≡ true = rw (eqb-true i (a + n) t) at e in
-      let outside = over-out a n (λ i. Unmapped) f (a + n) (inside-past a n (a + n) (omega arith)) in
-      rw (eqb-true i (a + n) t) (h (rw outside at (and-left (isMapped (without a n f (a + n))) _ x))))
-      (λ t. starts-kept i (eqb-false i (a + n) t) e))
+  areas-left some = count-pairs (startsArea (without a n f)) startsIn (startsArea f) cutOff 64 (starts-at some)
+
+  cut-few : count cutOff 64 ≤ 1
+  cut-few = omega (arith, count-le cutOff (inside (a + n) 1) 64 (λ i. and-left (inside (a + n) 1 i) (goesOn f i)), inside-part (a + n) 1 64)
+
+  -- what is cut off is the page behind the range
+  cut-is : (g : Bool) → goesOn f (a + n) ≡ g → (i : ℕ) → cutOff i ≡ (inside (a + n) 1 i && g)
+  cut-is g e i =
+      by-cases (inside (a + n) 1 i)
+      (λ t. let same : i ≡ a + n = omega (arith, inside-first (a + n) 1 i t, inside-end (a + n) 1 i t) in rw (t, same, e))
+      (λ t. rw t)
+
+  -- no more areas are left than there were where the page behind the range starts an area or is unmapped
+  fewer-not : 0 < n → goesOn f (a + n) ≡ false → areas (without a n f) ≤ areas f
+  fewer-not some e =
+      let none = count-le cutOff (λ i. false) 64 (λ i t. and-right (inside (a + n) 1 i) false (sym (cut-is false e i) ∙ t)) in
+      omega (arith, areas-left some, none, count-none 64)
 
   -- nor where an area starts in the range
-  pub fewer-within : (k : ℕ) → k < 64 → inside a n k ≡ true → startsArea f k ≡ true → areas (without a n f) ≤ areas f
-  unfolding areas
-  fewer-within k l t s =
-      let r : ℕ → Bool = λ i. startsArea f i || inside (a + n) 1 i in
-      omega (
-        arith,
-        count-less (startsArea (without a n f)) r 64 k more l (starts-none k t) (rw s),
-        count-either (startsArea f) (inside (a + n) 1) 64,
-        inside-part (a + n) 1 64,
-      )
-    where
-      more : (i : ℕ) → startsArea (without a n f) i ≡ true → (startsArea f i || inside (a + n) 1 i) ≡ true
-      more i e =
-          by-cases (startsArea f i) (λ y. rw y)
-          (λ y. rw y (by-cases (eqb i (a + n))
-          (λ z. inside-yes (a + n) 1 i (omega (arith, eqb-true i (a + n) z)) (omega (arith, eqb-true i (a + n) z)))
-          (λ z. absurd (never _ (starts-kept i (eqb-false i (a + n) z) e) y))))
+  fewer-start : a + n ≤ 64 → (k : ℕ) → inside a n k ≡ true → startsArea f k ≡ true → areas (without a n f) ≤ areas f
+  fewer-start l k t s =
+      let high = inside-end a n k t in
+      let low = inside-first a n k t in
+      let one-there = count-less (λ i. false) startsIn 64 k (λ i e. absurd (false≢true e)) (omega arith) refl (rw (t, s)) in
+      omega (arith, areas-left (omega arith), cut-few, one-there, count-none 64)
 
-  -- a range with an unmapped page in it leaves no more areas than there were
-  pub fewer-over-gap : (i : ℕ) → inside a n i ≡ true → isMapped (f i) ≡ false → a + n ≤ 64 → areas (without a n f) ≤ areas f
-  fewer-over-gap i t u l =
-      let low = inside-first a n i t in
-      let high = inside-end a n i t in
-      let last : ℕ = a + n - 1 in
-      by-cases (isMapped (f last))
-      (λ m. let on : i + suc (last - suc i) ≡ last = omega (arith, apart last m) in
-      let k = starts-between f i (last - suc i) u (rw on m) in
-      fewer-within (k .0) (omega (arith, k .2)) (inside-yes a n (k .0) (omega (arith, k .1)) (omega (arith, k .2))) (k .3))
-      (λ m. fewer-before (starts-behind f last (a + n) (omega arith) m))
-    where
-      -- a mapped page is another one
-      apart : (j : ℕ) → isMapped (f j) ≡ true → i ≡ j → ⊥
-      apart j m e = never (isMapped (f j)) m (rw e at u)
+  -- one of the two is so where some page of the range, or the page behind it, does not go on with an area
+  fewer-from : a + n ≤ 64 → 0 < n → (d k : ℕ) → k + d ≡ a + n → a ≤ k → goesOn f k ≡ false → areas (without a n f) ≤ areas f
+  fewer-from l some zero k e low h = let same : k ≡ a + n = omega arith in fewer-not some (rw same at h)
+  fewer-from l some (suc d) k e low h =
+      by-cases (isMapped (f k))
+      (λ m. fewer-start l k (inside-yes a n k low (omega arith)) (rw (m, h)))
+      (λ m. fewer-from l some d (suc k) (omega arith) (omega arith) (behind-gap f k m))
+
+  -- so an unmap that is no hole leaves no more areas
+  fewer-unless-hole : a + n ≤ 64 → 0 < n → isHole f a n ≡ false → areas (without a n f) ≤ areas f
+  unfolding isHole
+  fewer-unless-hole l some h =
+      let k = every-fails (goesOn f) a (suc n) h in
+      fewer-from l some (a + n - k .0) (k .0) (omega (arith, k .1, k .2)) (k .1) (k .3)
+
+  -- and a hole one more
+  one-more : 0 < n → a + n < 64 → isHole f a n ≡ true → areas (without a n f) ≡ areas f + 1
+  unfolding isHole
+  one-more some l h =
+      let all = every-at (goesOn f) a (suc n) h in
+      let no-start = count-le startsIn (λ i. false) 64
+      (λ i t. let range = and-left (inside a n i) (startsArea f i) t in
+      let goes = all i (inside-first a n i range) (omega (arith, inside-end a n i range)) in
+      let starts = and-right (inside a n i) (startsArea f i) t in
+      rw goes at (and-right (isMapped (f i)) (not (goesOn f i)) starts)) in
+      let cut = count-equal cutOff (inside (a + n) 1) 64
+      (λ i b. cut-is true (all (a + n) (omega arith) (omega arith)) i ∙ and-true (inside (a + n) 1 i)) in
+      omega (arith, areas-left some, no-start, count-none 64, cut, inside-part (a + n) 1 64)
+
+-- behind the range lies an unmapped page
+pub fewer-before : (f : Slots) (a n : ℕ) → isMapped (f (a + n)) ≡ false → areas (without a n f) ≤ areas f
+fewer-before f a zero u = rw (without-none f a 0 (λ i t. absurd (omega (arith, inside-first a 0 i t, inside-end a 0 i t)))) (omega arith)
+fewer-before f a (suc n) u =
+    fewer-not f a (suc n) (omega arith)
+    (by-cases (goesOn f (a + suc n)) (λ t. never _ (goes-mapped (previous f (a + suc n)) (f (a + suc n)) t) u) (λ t. t))
+
+-- "more than 8 areas would result": an unmap of at most eight areas is a hole in one of eight
+pub hole-areas : (f : Slots) → Inside f → areas f ≤ 8 → (a n : ℕ) → 0 < n → a + n ≤ 64
+    → ltb 8 (areas (without a n f)) ≡ (eqb (areas f) 8 && isHole f a n)
+hole-areas f within-64 few a n some l =
+    by-cases (isHole f a n)
+    (λ h. let end = within-64 (a + n) (hole-end f a n h) in
+    rw (h, one-more f a n some end h, and-true (eqb (areas f) 8)) (nine (areas f) few))
+    (λ h. rw (h, and-false (eqb (areas f) 8)) (le-ltb 8 (areas (without a n f)) (omega (arith, fewer-unless-hole f a n l some h))))
+  where
+    nine : (m : ℕ) → m ≤ 8 → ltb 8 (m + 1) ≡ eqb m 8
+    nine m h =
+        by-cases (eqb m 8) (λ e. rw e (lt-ltb 8 (m + 1) (omega (arith, eqb-true m 8 e))))
+        (λ e. rw e (le-ltb 8 (m + 1) (omega (arith, eqb-false m 8 e))))
 
 -- ---- the number
 
@@ -141,6 +223,10 @@ module _ (v : View) (q : Request) (s : Settled v) (u : Unmaps v q) where
   unfolding within
   unmap-fits = let w = rw (u .called) at (u .limits) in leb-true (q .p1 + q .p2) 64 (search (and-left, and-right))
 
+  unmap-some : 0 < q .p2
+  unfolding within
+  unmap-some = let w = rw (u .called) at (u .limits) in leb-true 1 (q .p2) (search (and-left, and-right))
+
   -- what would result
   pub unmap-then : slotsThen v q ≡ without (q .p1) (q .p2) (v .slots)
   unfolding slotsAfter
@@ -149,9 +235,14 @@ module _ (v : View) (q : Request) (s : Settled v) (u : Unmaps v q) where
   pub unmap-accepted : areas (without (q .p1) (q .p2) (v .slots)) ≤ 8 → refusal v q ≡ 0
   unmap-accepted few = unmap-number ∙ rw (unmap-then, le-ltb 8 (areas (without (q .p1) (q .p2) (v .slots))) few)
 
-  -- and not that where the range has an unmapped page
+  -- and that where it is a hole in one of eight areas
+  pub unmap-hole : Inside (v .slots) → refusal v q ≡ (14 when eqb (areas (v .slots)) 8 && isHole (v .slots) (q .p1) (q .p2) else 0)
+  unmap-hole inner = unmap-number ∙ rw (unmap-then, hole-areas (v .slots) inner (s .few) (q .p1) (q .p2) unmap-some unmap-fits)
+
+  -- and not where it has an unmapped page
   pub unmap-over-gap : (i : ℕ) → inside (q .p1) (q .p2) i ≡ true → isMapped (v .slots i) ≡ false → refusal v q ≡ 0
-  unmap-over-gap i t m = unmap-accepted (omega (arith, s .few, fewer-over-gap (v .slots) (q .p1) (q .p2) i t m unmap-fits))
+  unmap-over-gap i t m =
+      unmap-accepted (omega (arith, s .few, fewer-unless-hole (v .slots) (q .p1) (q .p2) unmap-fits unmap-some (gap-no-hole (v .slots) (q .p1) (q .p2) i t m)))
 
 -- pages of an open sandbox, none past page 63
 pub unmaps-of : (v : View) (s a n : ℕ) → s ≤ 3 → v .opened ≡ true → a + suc n ≤ 64 → Unmaps v (unmapOf s a (suc n))
@@ -174,3 +265,14 @@ pub alone-cases :
     × (mappedAlone (call₂ Unmap 7 9) full ≡ call₂ Unmap 7 9 ∷ [])
 unfolding unmapsFrom inside over
 alone-cases = (refl, refl, refl, refl, refl)
+
+-- of all 64 pages mapped and of pages 0, 2 .. 14: a page in the middle of an area, the first and the last, all but these, a whole area, a gap
+pub hole-cases :
+    (isHole full 5 1 ≡ true)
+    × (isHole full 0 1 ≡ false)
+    × (isHole full 63 1 ≡ false)
+    × (isHole full 1 62 ≡ true)
+    × (isHole eight 2 1 ≡ false)
+    × (isHole eight 3 1 ≡ false)
+unfolding isHole every inside over joins follows
+hole-cases = (refl, refl, refl, refl, refl, refl)

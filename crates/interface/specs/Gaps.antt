@@ -4,11 +4,11 @@ use mathlib.Core.Path.{_≡_}
 use mathlib.Core.Bool.{Bool, true, false, _&&_, _||_}
 use mathlib.Core.List.{List, [], _∷_}
 use Rattle.basics.specs.Choice.{_when_else_}
-use Rattle.basics.specs.Ranges.{inside}
+use Rattle.basics.specs.Ranges.{every, inside}
 use Rattle.interface.specs.declared.request.Request.{Request}
 use Rattle.interface.specs.Answers.{Answered}
 use Rattle.interface.specs.Requests.{Unmap}
-use Rattle.interface.specs.Slots.{Slots, isMapped}
+use Rattle.interface.specs.Slots.{Slots, isMapped, joins, previous}
 use Rattle.interface.specs.Limits.{within}
 use Rattle.interface.specs.Refusals.{View}
 use Rattle.interface.specs.Examples.{ok, call₂, inSandbox}
@@ -19,6 +19,10 @@ pub record Unmaps (v : View) (q : Request) : Type 0 where
   pub row : q .sandbox ≤ 3
   pub opened : v .opened ≡ true
   pub limits : within (v .imagePages) q ≡ true
+
+-- the n pages from a on are a hole in an area: each of them, and the page behind them, goes on with the area of the page before it
+unfoldable pub isHole : Slots → ℕ → ℕ → Bool
+isHole f a n = every (λ i. joins (previous f i) (f i)) a (suc n)
 
 -- ---- "Unmap now passes over unmapped pages"
 
