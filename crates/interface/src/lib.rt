@@ -2,6 +2,5 @@
 // It promises document 01's number and value for each answer, and one table of refusals (specs/Refusals) that every machine decides by.
 // It stands on `basics` alone.
 pub mod answer;
-pub mod limits;
 pub mod page;
 pub mod request;

@@ -1,4 +1,3 @@
 pub mod FitLaws
 pub mod ShareLaws
 pub mod PackedLaws
-pub mod DecideLaws

@@ -21,8 +21,7 @@ use Rattle.interface.proofs.RowLaws.{row-13}
 use Rattle.areas.specs.Areas.{slots}
 use Rattle.state.specs.declared.sandbox.Sandbox.{Sandbox}
 use Rattle.state.specs.World.{copyOf}
-use Rattle.rules.specs.Ready.{Ready, Passed}
-use Rattle.rules.specs.Decision.{viewFrom}
+use Rattle.rules.specs.Ready.{Ready, Passed, viewFrom}
 
 module _ (frames images shares : ℕ) (b : Sandbox) (q : Request) where
   abbrev pub view : View

@@ -1,4 +1,3 @@
 -- In reading order.
 pub mod After
 pub mod Ready
-pub mod Decision

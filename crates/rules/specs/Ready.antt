@@ -41,3 +41,15 @@ pub record Passed (v : View) (q : Request) : Type 0 where
   pub taken : q .code ≡ Rewind → isTaken (v .copy) ≡ true
   pub fits : q .code ≡ Map → firstOf (v .slots) q + q .p2 ≤ 64
   pub free : q .code ≡ Map → allAre false (v .slots) (firstOf (v .slots) q) (q .p2) ≡ true
+
+-- the view of a sandbox, with the frames of the pool, the pages of the image, and the shares of all
+abbrev pub viewFrom : ℕ → ℕ → ℕ → Sandbox → View
+viewFrom frames images shares b = record {
+  frames = frames;
+  imagePages = images;
+  shares = shares;
+  opened = b .opened;
+  share = b .share;
+  slots = slots (b .present);
+  copy = copyOf b;
+}

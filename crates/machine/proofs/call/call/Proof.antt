@@ -17,10 +17,11 @@ use Rattle.state.specs.Sound.{Sound}
 use Rattle.state.specs.Test.{soundb}
 use Rattle.state.proofs.SharesLaws.{zeroSandbox}
 use Rattle.state.proofs.SettledLaws.{settled}
-use Rattle.rules.specs.declared.decide.Verdict.the-variants.{Accepted}
-use Rattle.rules.specs.declared.decide.Decision.{Decision}
+use Rattle.decision.specs.declared.Verdict.the-variants.{Accepted}
+use Rattle.decision.specs.declared.Decision.{Decision}
 use Rattle.rules.specs.After.{presentAfter}
-use Rattle.rules.specs.Decision.{verdictNumber, viewFrom, Decided}
+use Rattle.rules.specs.Ready.{viewFrom}
+use Rattle.decision.specs.Decision.{verdictNumber, Decided}
 use Rattle.machine.specs.Step.{numberAt}
 use Rattle.machine.proofs.CallLaws.{stepped-refused, number-two, number-three, number-four, number-rest, stepped, ready, asked, sound-of-test}
 use borrow.Author.Needs.{needs}

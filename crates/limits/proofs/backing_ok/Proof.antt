@@ -1,7 +1,7 @@
 use borrow.Author.Tests.{eq-eqb, ne-eqb}
 use borrow.Author.Needs.{needs}
-use Rattle.interface.proofs.limits.backing_ok.Statement.{statement}
-use Rattle.interface.proofs.limits.backing_ok.Tie as tie
+use Rattle.limits.proofs.backing_ok.Statement.{statement}
+use Rattle.limits.proofs.backing_ok.Tie as tie
 
 returns : tie.Need-returns
 returns c = rw (eq-eqb _ _ (c .before .if1 .taken))

@@ -24,12 +24,12 @@ use Rattle.areas.specs.Areas.{slots}
 use Rattle.areas.proofs.PackLaws.{pack-fits}
 use Rattle.state.specs.declared.sandbox.Sandbox.{Sandbox}
 use Rattle.state.specs.World.{copyOf}
-use Rattle.rules.specs.declared.decide.Verdict.the-variants.{Accepted, Refused}
-use Rattle.rules.specs.declared.decide.Decision.{Decision}
+use Rattle.decision.specs.declared.Verdict.the-variants.{Accepted, Refused}
+use Rattle.decision.specs.declared.Decision.{Decision}
 use Rattle.rules.specs.After.{changes, packedAfter}
-use Rattle.rules.specs.Ready.{Fit, Passed}
-use Rattle.rules.specs.Decision.{Decided, viewFrom}
+use Rattle.rules.specs.Ready.{Fit, Passed, viewFrom}
+use Rattle.decision.specs.Decision.{Decided}
 use Rattle.rules.proofs.FitLaws.{fit}
 
 -- ---- the rows that do not apply, each with those before it
 

@@ -1,21 +1,23 @@
-// The decision: the rows of "Turned back" from 4 on, in their order.
+// The decision: the rows of "Turned back" from 4 on, in their order. No lent memory is touched here.
+// It promises: `decide` gives the number of `interface`'s one table of refusals, for any request of a sandbox in a sound state, and the areas afterwards.
+// It stands on `rules` for the tests of the rows and for what results, and on `limits` for row 6.
 ghost use mathlib.Core.Path.{_≡_};
 ghost use mathlib.Core.Bool.{true};
 ghost use Prim.Native.Nat.{_≤_};
 ghost use Rattle.interface.specs.Requests.{isCall};
 ghost use Rattle.interface.specs.Settled.{Settled};
-ghost use Rattle.rules.specs.Ready.{Ready};
-ghost use Rattle.rules.specs.Decision.{viewFrom, Decided};
-use crate::after::packed_after;
-use crate::rows::all_mapped;
-use crate::rows::exceeds;
-use crate::rows::lacks_gap;
-use crate::rows::lacks_right;
-use crate::rows::meets_mapped;
+ghost use Rattle.rules.specs.Ready.{Ready, viewFrom};
+ghost use Rattle.decision.specs.Decision.{Decided};
 use areas::area::Areas;
 use interface::answer::Refusal;
-use interface::limits::within_limits;
 use interface::request::Request;
+use limits::within_limits;
+use rules::after::packed_after;
+use rules::rows::all_mapped;
+use rules::rows::exceeds;
+use rules::rows::lacks_gap;
+use rules::rows::lacks_right;
+use rules::rows::meets_mapped;
 use state::sandbox::Sandbox;
 
 // Whether a request is accepted, or why it is refused.

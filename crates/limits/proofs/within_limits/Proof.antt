@@ -1,9 +1,9 @@
 -- The limits of each call's parameters: the row of the table by the tests so far.
 use borrow.Author.Tests.{ne-eqb}
 use Rattle.interface.specs.Limits.{within}
 use borrow.Author.Needs.{needs}
-use Rattle.interface.proofs.limits.within_limits.Statement.{statement}
-use Rattle.interface.proofs.limits.within_limits.Tie as tie
+use Rattle.limits.proofs.within_limits.Statement.{statement}
+use Rattle.limits.proofs.within_limits.Tie as tie
 
 is-between-requires : tie.Need-is-between-requires
 is-between-requires c κs = search needs

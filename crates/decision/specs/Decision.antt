@@ -7,30 +7,16 @@ use Rattle.interface.specs.declared.request.Request.{Request}
 use Rattle.interface.specs.Answers.{refusalNumber}
 use Rattle.interface.specs.Refusals.{View, refusal}
 use Rattle.areas.specs.declared.area.Areas.{Areas}
-use Rattle.areas.specs.Areas.{slots}
 use Rattle.state.specs.declared.sandbox.Sandbox.{Sandbox}
-use Rattle.state.specs.World.{copyOf}
-use Rattle.rules.specs.declared.decide.Verdict.{Verdict}
-use Rattle.rules.specs.declared.decide.Verdict.the-variants.{Accepted, Refused}
-use Rattle.rules.specs.declared.decide.Decision.{Decision}
+use Rattle.decision.specs.declared.Verdict.{Verdict}
+use Rattle.decision.specs.declared.Verdict.the-variants.{Accepted, Refused}
+use Rattle.decision.specs.declared.Decision.{Decision}
 use Rattle.rules.specs.After.{presentAfter}
 
 -- document 01's number of a verdict
 abbrev pub verdictNumber : Verdict → ℕ
 verdictNumber Accepted = 0
 verdictNumber (Refused why) = refusalNumber why
-
--- the view of a sandbox, with the frames of the pool, the pages of the image, and the shares of all
-abbrev pub viewFrom : ℕ → ℕ → ℕ → Sandbox → View
-viewFrom frames images shares b = record {
-  frames = frames;
-  imagePages = images;
-  shares = shares;
-  opened = b .opened;
-  share = b .share;
-  slots = slots (b .present);
-  copy = copyOf b;
-}
 
 -- the areas afterwards: those that result where the request is accepted, the present ones where it is refused ("state .. unchanged")
 abbrev pub areasLeft : View → Request → Sandbox → Areas

@@ -1,8 +1,10 @@
 // The limits of each call's parameters, as code.
-use crate::request::Request;
+// It promises: `within_limits` is the test of `interface`'s table of limits (specs/Limits), for any request and any image.
+// It stands on `interface`, whose definitions it computes.
 ghost use mathlib.Core.Path.{_≡_};
 ghost use Prim.Native.Nat.{_+_};
 ghost use Rattle.interface.specs.Limits.{between, rightsOk, pagesOk, placeOk, backingOk, usesThree, usesTwo, usesOne, usesNone, within};
+use interface::request::Request;
 
 // Whether every parameter of the request is within its limits; `images` is the number of the image's pages.
 pub fn within_limits(q: Request, images: u8) -> bool

@@ -14,15 +14,14 @@ use Rattle.interface.specs.Settled.{Settled}
 use Rattle.areas.specs.declared.pack.Packed.{Packed}
 use Rattle.areas.specs.Areas.{Near}
 use Rattle.areas.proofs.FormedLaws.{near}
 use Rattle.rules.specs.After.{packedAfter}
-use Rattle.rules.specs.Ready.{Ready, Fit, Passed}
-use Rattle.rules.specs.Decision.{viewFrom}
-use Rattle.rules.proofs.DecideLaws.{PastOpen, PastClosed, PastLimits, PastUntaken, PastTaken, PastMapped, PastFree, PastGap, PastRight, PastShare}
-use Rattle.rules.proofs.DecideLaws.{not-open, already-open, outside-limits, snapshot-taken, no-snapshot, not-mapped, already-mapped, no-gap}
-use Rattle.rules.proofs.DecideLaws.{not-writable, share-exceeded, too-many, none-applies, fit-of, passed-of, refused, accepted, taken-copy, packed-row}
+use Rattle.rules.specs.Ready.{Ready, Fit, Passed, viewFrom}
+use Rattle.decision.proofs.DecideLaws.{PastOpen, PastClosed, PastLimits, PastUntaken, PastTaken, PastMapped, PastFree, PastGap, PastRight, PastShare}
+use Rattle.decision.proofs.DecideLaws.{not-open, already-open, outside-limits, snapshot-taken, no-snapshot, not-mapped, already-mapped, no-gap}
+use Rattle.decision.proofs.DecideLaws.{not-writable, share-exceeded, too-many, none-applies, fit-of, passed-of, refused, accepted, taken-copy, packed-row}
 use borrow.Author.Needs.{needs}
-use Rattle.rules.proofs.decide.decide.Statement.{statement}
-use Rattle.rules.proofs.decide.decide.Tie as tie
+use Rattle.decision.proofs.decide.Statement.{statement}
+use Rattle.decision.proofs.decide.Tie as tie
 
 -- ---- what is handed in
 

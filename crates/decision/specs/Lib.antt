@@ -1,0 +1,2 @@
+-- What is decided.
+pub mod Decision
