@@ -18,7 +18,8 @@ use Rattle.rules.specs.After.{packedAfter}
 use Rattle.rules.specs.Ready.{Ready, Fit, Passed, viewFrom}
 use Rattle.decision.proofs.DecideLaws.{PastOpen, PastClosed, PastLimits, PastUntaken, PastTaken, PastMapped, PastFree, PastGap, PastRight, PastShare}
 use Rattle.decision.proofs.DecideLaws.{not-open, already-open, outside-limits, snapshot-taken, no-snapshot, not-mapped, already-mapped, no-gap}
-use Rattle.decision.proofs.DecideLaws.{not-writable, share-exceeded, too-many, none-applies, fit-of, passed-of, refused, accepted, taken-copy, packed-row}
+use Rattle.decision.proofs.DecideLaws.{not-writable, share-exceeded, too-many, none-applies}
+use Rattle.decision.proofs.DecideLaws.{fit-of, passed-of, refused, accepted, taken-copy, packed-row}
 use borrow.Author.Needs.{needs}
 use Rattle.decision.proofs.decide.Statement.{statement}
 use Rattle.decision.proofs.decide.Tie as tie
