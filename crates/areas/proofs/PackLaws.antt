@@ -1,7 +1,7 @@
 -- Packed areas say the slots that they were packed from, and fit where the slots have at most 8 areas.
 use Prim.Native.Nat.{ℕ, zero, suc, _+_, _-_, _≤_, _<_}
 use mathlib.Core.Path.{_≡_, refl, sym, _∙_, fun-ext}
-use mathlib.Core.Bool.{Bool, true, false, not, false≢true}
+use mathlib.Core.Bool.{Bool, true, false, false≢true}
 use mathlib.Core.Logic.{_⊎_, inl, inr, ⊎-elim}
 use native.Mathlib.Omega.{arith}
 use native.Mathlib.Nat.{add-zero}
@@ -11,7 +11,7 @@ use lib.ListN.{length, getD, length-set}
 use lib.Seq.{getD-set-same, getD-set-other}
 use borrow.Author.Tests.{ltb-false, leb-true, lt-ltb, le-leb, lt-leb}
 use Rattle.basics.specs.Ranges.{count}
-use Rattle.basics.proofs.RangeLaws.{inside-yes, inside-first, inside-end}
+use Rattle.basics.proofs.RangeLaws.{inside-yes, inside-first, inside-end, inside-more}
 use Rattle.interface.specs.declared.page.Attributes.{Attributes}
 use Rattle.interface.specs.declared.page.Slot.{Slot}
 use Rattle.interface.specs.declared.page.Slot.the-variants.{Unmapped, Mapped}
@@ -21,7 +21,7 @@ use Rattle.areas.specs.declared.pack.Packed.{Packed}
 use Rattle.areas.specs.Areas.{none, empty, covers, slots, Bounded}
 use Rattle.areas.specs.Pack.{goesOn, single, longer, last, continues, extended, added, push, packTo, pack}
 use Rattle.areas.specs.Formed.{Apart}
-use Rattle.areas.proofs.SlotLaws.{covers-none, slot-past, empty-place, set-alike, set-skip, set-hit, set-case, inside-more}
+use Rattle.areas.proofs.SlotLaws.{covers-none, slot-past, empty-place, set-alike, set-skip, set-hit, set-case}
 use Rattle.areas.proofs.PushLaws.{GoesOn, goes-longer, goes-single, slot-longer, slot-single, continues-some, continues-last, push-cases}
 
 -- n pages of f packed with no area left out

@@ -10,9 +10,8 @@ use native.Mathlib.Decide.{ℕ-discrete}
 use lib.ListN.{length, getD, set, drop, replicate, drop-of-length-le}
 use lib.Seq.{drop-cons, getD-set-same, getD-set-other}
 use Rattle.basics.specs.Choice.{_when_else_}
-use Rattle.basics.specs.Ranges.{inside}
 use Rattle.basics.proofs.TestLaws.{by-cases}
-use Rattle.basics.proofs.RangeLaws.{inside-first, inside-end, inside-yes, inside-past}
+use Rattle.basics.proofs.RangeLaws.{inside-past}
 use Rattle.interface.specs.declared.page.Backing.{Backing}
 use Rattle.interface.specs.declared.page.Backing.the-variants.{Anonymous, Image}
 use Rattle.interface.specs.declared.page.Slot.the-variants.{Unmapped}
@@ -109,16 +108,7 @@ set-case P l j k a h y n = go (ℕ-discrete k j)
     go (yes e) = rw (e, getD-set-same l j a none h) (y e)
     go (no d) = rw (getD-set-other l j k a none d) (n d)
 
--- one page more, at the end of an area
-
-pub inside-more : (first n page : ℕ) → (page ≡ first + n → ⊥) → inside first (n + 1) page ≡ inside first n page
-inside-more first n page h =
-    by-cases (inside first n page)
-    (λ e. rw e (inside-yes first (n + 1) page (inside-first first n page e) (omega (arith, inside-end first n page e))))
-    (λ e. rw e (by-cases (inside first (n + 1) page)
-    (λ t. absurd (false≢true (sym e ∙ inside-yes first n page (inside-first first (n + 1) page t) (omega (arith, inside-end first (n + 1) page t)))))
-    (λ t. t)))
-
+-- a backing no page on
 pub advance-zero : (b : Backing) → advance b 0 ≡ b
 advance-zero Anonymous = refl
 advance-zero (Image first) = ap (λ (n : ℕ). Image (record { 0 = n })) (add-zero (first .0))

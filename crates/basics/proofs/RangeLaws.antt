@@ -36,6 +36,16 @@ pub inside-past : (a n i : ℕ) → a + n ≤ i → inside a n i ≡ false
 unfolding inside
 inside-past a n i h = simp (le-leb a i (omega arith), le-ltb (i - a) n (omega arith))
 
+-- a range of no number, and one of a number more
+pub inside-none : (a i : ℕ) → inside a 0 i ≡ false
+inside-none a i = by-cases (inside a 0 i) (λ t. absurd (omega (arith, inside-first a 0 i t, inside-end a 0 i t))) (λ t. t)
+
+pub inside-more : (a n i : ℕ) → (i ≡ a + n → ⊥) → inside a (n + 1) i ≡ inside a n i
+inside-more a n i d =
+    both-ways (inside a (n + 1) i) (inside a n i)
+    (λ t. inside-yes a n i (inside-first a (n + 1) i t) (omega (arith, inside-end a (n + 1) i t, d)))
+    (λ t. inside-yes a (n + 1) i (inside-first a n i t) (omega (arith, inside-end a n i t)))
+
 -- a function changed on a range: a number is one of the n from a on, or it is as it was
 pub over-cases {ℓ ℓ′} : {A : Type ℓ} (P : A → Type ℓ′) (a n : ℕ) (g f : ℕ → A) (i : ℕ) → (inside a n i ≡ true → P (g i)) → P (f i) → P (over a n g f i)
 unfolding over

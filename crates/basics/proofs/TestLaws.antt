@@ -1,7 +1,7 @@
 -- Laws of tests, and of the lines of a table.
 use Prim.Native.Nat.{ℕ, suc}
 use mathlib.Core.Path.{_≡_, refl, sym, _∙_}
-use mathlib.Core.Bool.{Bool, true, false, not, _&&_, _||_, false≢true}
+use mathlib.Core.Bool.{Bool, true, false, _&&_, _||_, false≢true}
 use mathlib.Core.List.{List, map}
 use native.Mathlib.Omega.{arith}
 use lib.ListN.{length, length-map}
@@ -45,6 +45,14 @@ and-both a b e = (and-left a b e, and-right a b e)
 
 pub and-of : {a b : Bool} → a ≡ true → b ≡ true → (a && b) ≡ true
 and-of p q = cc
+
+pub and-true : (b : Bool) → (b && true) ≡ b
+and-true true = refl
+and-true false = refl
+
+pub and-false : (b : Bool) → (b && false) ≡ false
+and-false true = refl
+and-false false = refl
 
 -- a && b is false
 pub and-not-left : (a b : Bool) → (a && b) ≡ false → b ≡ true → a ≡ false

@@ -8,8 +8,8 @@ use lib.Dec.{eqb}
 use lib.ListN.{length, set}
 use lib.Seq.{getD-set-same, set-getD, set-set}
 use Rattle.basics.specs.Ranges.{inside}
-use Rattle.basics.proofs.TestLaws.{by-cases, and-right}
-use Rattle.basics.proofs.RangeLaws.{inside-first, inside-end, inside-yes, over-join}
+use Rattle.basics.proofs.TestLaws.{by-cases, and-right, never}
+use Rattle.basics.proofs.RangeLaws.{inside-yes, inside-none, over-join}
 use Rattle.interface.specs.declared.page.Slot.the-variants.{Unmapped}
 use Rattle.interface.specs.declared.request.Request.{Request}
 use Rattle.interface.specs.Answers.{Answered}
@@ -183,7 +183,7 @@ module _ (image : List ℕ) (s : ℕ) (row : s ≤ 3) where
   fits-after : (w : World) → Good image s row w → (a n : ℕ) → a + n ≤ 64 → areas (without a n (slotsIn image s row w)) ≤ 8
       → Good image s row (unmappedAt image s row w a n)
   fits-after w G a zero l few =
-      rw (unmapped-none image s row w G a 0 l (λ i t. absurd (omega (arith, inside-first a 0 i t, inside-end a 0 i t)))) G
+      rw (unmapped-none image s row w G a 0 l (λ i t. never (inside a 0 i) t (inside-none a i))) G
   fits-after w G a (suc n) l few = good-after w G a n l few
 
   unmapping : Unmapping World s

@@ -6,11 +6,12 @@ use mathlib.Core.Bool.{true, false, _&&_, _||_}
 use mathlib.Core.List.{List, [], _∷_}
 use native.Mathlib.Omega.{arith}
 use native.Mathlib.Nat.{add-zero, zero-add}
+use native.Mathlib.Numerals.{add-one}
 use lib.Dec.{eqb}
 use borrow.Author.Tests.{eqb-true, eqb-false}
 use Rattle.basics.specs.Ranges.{inside}
-use Rattle.basics.proofs.TestLaws.{by-cases, when-cases, both-ways}
-use Rattle.basics.proofs.RangeLaws.{inside-first, inside-end, inside-yes, inside-below, inside-past, over-out, over-join}
+use Rattle.basics.proofs.TestLaws.{by-cases, when-cases, never, both-ways}
+use Rattle.basics.proofs.RangeLaws.{inside-first, inside-end, inside-yes, inside-below, inside-past, inside-none, inside-more, over-out, over-join}
 use Rattle.interface.specs.declared.page.Slot.the-variants.{Unmapped}
 use Rattle.interface.specs.declared.request.Request.{Request}
 use Rattle.interface.specs.Slots.{Slots, isMapped, areas}
@@ -43,7 +44,7 @@ module _ {X : Type 0} (s : ℕ) (U : Unmapping X s) where
   first : (m a : ℕ) (x y : X) → U .Good x → a + m ≤ 64 → areas (without a m (U .slotsOf x)) ≤ 8 → (rest : List Request)
       → U .Leads (U .unmapped x a m) rest y → U .Leads x (withRun s m (a + m) rest) y
   first zero a x y g l few rest r =
-      let same = U .none x g a 0 l (λ i t. absurd (omega (arith, inside-first a 0 i t, inside-end a 0 i t))) in
+      let same = U .none x g a 0 l (λ i t. never (inside a 0 i) t (inside-none a i)) in
       rw same at r
   first (suc m) a x y g l few rest r =
       let start : a + suc m - suc m ≡ a = omega arith in
@@ -120,21 +121,12 @@ module _ {X : Type 0} (s : ℕ) (U : Unmapping X s) where
 
 -- ---- the pages that they name
 
-inside-none : (a i : ℕ) → inside a 0 i ≡ false
-inside-none a i = by-cases (inside a 0 i) (λ t. absurd (omega (arith, inside-first a 0 i t, inside-end a 0 i t))) (λ t. t)
-
--- a page that is not the first, or not the last, is as much inside without that page
+-- a page that is not the first is as much inside without that page
 inside-behind : (a n i : ℕ) → (i ≡ a → ⊥) → inside (suc a) n i ≡ inside a (suc n) i
 inside-behind a n i d =
     both-ways (inside (suc a) n i) (inside a (suc n) i)
     (λ t. inside-yes a (suc n) i (omega (arith, inside-first (suc a) n i t)) (omega (arith, inside-end (suc a) n i t)))
     (λ t. inside-yes (suc a) n i (omega (arith, inside-first a (suc n) i t, d)) (omega (arith, inside-end a (suc n) i t)))
-
-inside-shorter : (a m i : ℕ) → (i ≡ a + m → ⊥) → inside a (suc m) i ≡ inside a m i
-inside-shorter a m i d =
-    both-ways (inside a (suc m) i) (inside a m i)
-    (λ t. inside-yes a m i (inside-first a (suc m) i t) (omega (arith, inside-end a (suc m) i t, d)))
-    (λ t. inside-yes a (suc m) i (inside-first a m i t) (omega (arith, inside-end a m i t)))
 
 -- the page behind the m pages from a on goes on with their run, or is in none
 module _ (f : Slots) (a m n i : ℕ) where
@@ -146,7 +138,9 @@ module _ (f : Slots) (a m n i : ℕ) where
       let mapped : isMapped (f i) ≡ true = rw same t in
       let here = inside-yes (a + m) (suc n) i (omega arith) (omega arith) in
       rw (mapped, inside-yes a (suc m) i (omega arith) (omega arith), inside-past a m i (omega arith), here))
-      (λ e. rw (inside-shorter a m i (eqb-false i (a + m) e), inside-behind (a + m) n i (eqb-false i (a + m) e)))
+      (λ e. let d = eqb-false i (a + m) e in
+      let shorter = rw (add-one m) at (inside-more a m i d) in
+      rw (shorter, inside-behind (a + m) n i d))
 
   in-none : isMapped (f (a + m)) ≡ false → (inside (suc (a + m)) n i && isMapped (f i)) ≡ (inside (a + m) (suc n) i && isMapped (f i))
   in-none t =

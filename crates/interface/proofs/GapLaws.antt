@@ -8,9 +8,9 @@ use lib.Dec.{ltb, eqb}
 use borrow.Author.Tests.{leb-true, le-leb, le-ltb, lt-ltb, eqb-true, eqb-false}
 use Rattle.basics.specs.Choice.{_when_else_, same}
 use Rattle.basics.specs.Ranges.{one, count, every, inside, over}
-use Rattle.basics.proofs.TestLaws.{by-cases, and-left, and-right, never, same-true}
+use Rattle.basics.proofs.TestLaws.{by-cases, and-left, and-right, and-true, and-false, never, same-true}
 use Rattle.basics.proofs.LoopLaws.{every-at, every-fails}
-use Rattle.basics.proofs.RangeLaws.{inside-first, inside-end, inside-yes, inside-below, over-in, over-out}
+use Rattle.basics.proofs.RangeLaws.{inside-first, inside-end, inside-yes, inside-below, inside-none, over-in, over-out}
 use Rattle.basics.proofs.CountLaws.{count-le, count-less, count-equal, count-pairs, count-none}
 use Rattle.interface.specs.declared.page.Slot.{Slot}
 use Rattle.interface.specs.declared.page.Slot.the-variants.{Unmapped, Mapped}
@@ -28,6 +28,29 @@ use Rattle.interface.proofs.SlotLaws.{unmapped, Inside}
 use Rattle.interface.proofs.KindLaws.{kind}
 use Rattle.interface.proofs.ChargeLaws.{inside-part}
 use Rattle.interface.proofs.RowLaws.{row-13}
+
+-- ---- the mapped pages of a range, and holes, by computation
+
+-- pages 0, 2 .. 14 are mapped: from a gap to a gap, from a mapped page to one, in the gap behind them, and of all 64 pages mapped
+pub alone-cases :
+    (mappedAlone (call₂ Unmap 1 5) eight ≡ call₂ Unmap 2 1 ∷ call₂ Unmap 4 1 ∷ [])
+    × (mappedAlone (inSandbox 3 (call₂ Unmap 12 3)) eight ≡ inSandbox 3 (call₂ Unmap 12 1) ∷ inSandbox 3 (call₂ Unmap 14 1) ∷ [])
+    × (mappedAlone (call₂ Unmap 15 49) eight ≡ [])
+    × (mappedAlone (call₂ Unmap 0 64) full ≡ call₂ Unmap 0 64 ∷ [])
+    × (mappedAlone (call₂ Unmap 7 9) full ≡ call₂ Unmap 7 9 ∷ [])
+unfolding unmapsFrom inside over
+alone-cases = (refl, refl, refl, refl, refl)
+
+-- of all 64 pages mapped and of pages 0, 2 .. 14: a page in the middle of an area, the first and the last, all but these, a whole area, a gap
+pub hole-cases :
+    (isHole full 5 1 ≡ true)
+    × (isHole full 0 1 ≡ false)
+    × (isHole full 63 1 ≡ false)
+    × (isHole full 1 62 ≡ true)
+    × (isHole eight 2 1 ≡ false)
+    × (isHole eight 3 1 ≡ false)
+unfolding isHole every inside over joins follows
+hole-cases = (refl, refl, refl, refl, refl, refl)
 
 -- ---- slots with a range unmapped
 
@@ -47,14 +70,6 @@ without-none f a n h =
     (λ t. over-out a n (λ i. Unmapped) f i t)
 
 -- ---- areas
-
-and-true : (b : Bool) → (b && true) ≡ b
-and-true true = refl
-and-true false = refl
-
-and-false : (b : Bool) → (b && false) ≡ false
-and-false true = refl
-and-false false = refl
 
 -- whether page i goes on with the area of the page before it
 abbrev goesOn : Slots → ℕ → Bool
@@ -190,7 +205,7 @@ module _ (f : Slots) (a n : ℕ) where
 
 -- behind the range lies an unmapped page
 pub fewer-before : (f : Slots) (a n : ℕ) → isMapped (f (a + n)) ≡ false → areas (without a n f) ≤ areas f
-fewer-before f a zero u = rw (without-none f a 0 (λ i t. absurd (omega (arith, inside-first a 0 i t, inside-end a 0 i t)))) (omega arith)
+fewer-before f a zero u = rw (without-none f a 0 (λ i t. never (inside a 0 i) t (inside-none a i))) (omega arith)
 fewer-before f a (suc n) u =
     fewer-not f a (suc n) (omega arith)
     (by-cases (goesOn f (a + suc n)) (λ t. never _ (goes-mapped (previous f (a + suc n)) (f (a + suc n)) t) u) (λ t. t))
@@ -253,26 +268,3 @@ unmaps-of v s a n row opened l = record {
   opened = opened;
   limits = rw (le-leb a 63 (omega arith), le-leb 1 (suc n) (omega arith), le-leb (suc n) 64 (omega arith), le-leb (a + suc n) 64 l);
 }
-
--- ---- the mapped pages of a range, by computation
-
--- pages 0, 2 .. 14 are mapped: from a gap to a gap, from a mapped page to one, in the gap behind them, and of all 64 pages mapped
-pub alone-cases :
-    (mappedAlone (call₂ Unmap 1 5) eight ≡ call₂ Unmap 2 1 ∷ call₂ Unmap 4 1 ∷ [])
-    × (mappedAlone (inSandbox 3 (call₂ Unmap 12 3)) eight ≡ inSandbox 3 (call₂ Unmap 12 1) ∷ inSandbox 3 (call₂ Unmap 14 1) ∷ [])
-    × (mappedAlone (call₂ Unmap 15 49) eight ≡ [])
-    × (mappedAlone (call₂ Unmap 0 64) full ≡ call₂ Unmap 0 64 ∷ [])
-    × (mappedAlone (call₂ Unmap 7 9) full ≡ call₂ Unmap 7 9 ∷ [])
-unfolding unmapsFrom inside over
-alone-cases = (refl, refl, refl, refl, refl)
-
--- of all 64 pages mapped and of pages 0, 2 .. 14: a page in the middle of an area, the first and the last, all but these, a whole area, a gap
-pub hole-cases :
-    (isHole full 5 1 ≡ true)
-    × (isHole full 0 1 ≡ false)
-    × (isHole full 63 1 ≡ false)
-    × (isHole full 1 62 ≡ true)
-    × (isHole eight 2 1 ≡ false)
-    × (isHole eight 3 1 ≡ false)
-unfolding isHole every inside over joins follows
-hole-cases = (refl, refl, refl, refl, refl, refl)

@@ -13,14 +13,15 @@ use Rattle.interface.specs.Limits.{within}
 use Rattle.interface.specs.Refusals.{View}
 use Rattle.interface.specs.Examples.{ok, call₂, inSandbox}
 
--- an unmap of an open sandbox, within its limits: rows 4 and 6 do not apply
+-- an unmap to which rows 4 and 6 do not apply: "sandbox above 3; or, but for open, not open"; "a parameter outside its limits .. an unused one not 0"
 pub record Unmaps (v : View) (q : Request) : Type 0 where
   pub called : q .code ≡ Unmap
   pub row : q .sandbox ≤ 3
   pub opened : v .opened ≡ true
   pub limits : within (v .imagePages) q ≡ true
 
--- the n pages from a on are a hole in an area: each of them, and the page behind them, goes on with the area of the page before it
+-- "Areas are the longest runs of neighbouring pages": the n pages from a on are a hole in one of them, where each of these pages, and the page behind them,
+-- goes on with the area of the page before it
 unfoldable pub isHole : Slots → ℕ → ℕ → Bool
 isHole f a n = every (λ i. joins (previous f i) (f i)) a (suc n)
 

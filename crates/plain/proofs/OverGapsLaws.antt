@@ -3,12 +3,11 @@ use Prim.Native.Nat.{ℕ, zero, suc, _+_, _≤_}
 use mathlib.Core.Path.{_≡_, refl, sym, ap, _∙_, fun-ext}
 use mathlib.Core.Bool.{true, false}
 use mathlib.Core.List.{List, _∷_}
-use native.Mathlib.Omega.{arith}
 use lib.Dec.{eqb}
 use borrow.Author.Tests.{eq-eqb}
 use Rattle.basics.specs.Ranges.{inside, over}
 use Rattle.basics.proofs.TestLaws.{by-cases, never}
-use Rattle.basics.proofs.RangeLaws.{inside-first, inside-end, over-in, over-out, over-join}
+use Rattle.basics.proofs.RangeLaws.{inside-none, over-in, over-out, over-join}
 use Rattle.interface.specs.declared.page.Slot.the-variants.{Unmapped}
 use Rattle.interface.specs.declared.request.Request.{Request}
 use Rattle.interface.specs.Answers.{Answered}
@@ -106,7 +105,7 @@ module _ (g : Given) (s : ℕ) (row : s ≤ 3) where
   Leading p qs r = (answers g p qs ≡ allOk qs) × (afterAll g p qs ≡ r)
 
   fits-after : (p : Plain) → Good p → (a n : ℕ) → a + n ≤ 64 → areas (without a n (slotsIn p)) ≤ 8 → Good (unmappedAt p a n)
-  fits-after p G a zero l few = rw (unmapped-none p G a 0 l (λ i t. absurd (omega (arith, inside-first a 0 i t, inside-end a 0 i t)))) G
+  fits-after p G a zero l few = rw (unmapped-none p G a 0 l (λ i t. never (inside a 0 i) t (inside-none a i))) G
   fits-after p G a (suc n) l few = good-after p G a n l few
 
   slots-after : (p : Plain) (a n : ℕ) → slotsIn (unmappedAt p a n) ≡ without a n (slotsIn p)

@@ -1,13 +1,13 @@
 -- A conversation is one roll played.
 use mathlib.Core.Path.{_≡_, refl, sym, _∙_, subst}
-use mathlib.Core.Bool.{Bool, true, false, not, _&&_}
+use mathlib.Core.Bool.{Bool, true, false, not}
 use mathlib.Core.List.{List, [], _∷_, append-nil}
 use Prim.Native.Nat.{ℕ, _+_, _-_, _*_, _≤_}
 use native.Mathlib.Omega.{arith}
 use lib.ListN.{length, take, length-append}
 use lib.Dec.{eqb}
 use borrow.Author.Tests.{eqb-true, not-true, not-false}
-use Rattle.basics.proofs.TestLaws.{and-both}
+use Rattle.basics.proofs.TestLaws.{and-both, and-true}
 use Rattle.lines.specs.Lines.{linesOf}
 use Rattle.state.specs.declared.sandbox.Machine.{Machine}
 use Rattle.state.specs.World.{World, worldOf}
@@ -36,10 +36,6 @@ turn-answers image line reply₀ reply number got written w v low few size p = r
 }
 
 -- ---- all turns
-
-and-true : (b : Bool) → (b && true) ≡ b
-and-true true = refl
-and-true false = refl
 
 -- a turn that goes on has a whole line
 whole-line : (t : Turn) → goesOn t ≡ true → length (t .line) ≡ 43

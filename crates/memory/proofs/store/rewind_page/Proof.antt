@@ -43,7 +43,8 @@ same-length-3 c = search needs
 returns-2 : tie.Need-returns-2
 returns-2 c =
     let slot = c .before .before .before .before .before .before .before .before .before .before .slot .ensures in
-    let source = c .before .before .before .before .before .before .before .source-of .ensures ∙ ap sourceOf (c .before .before .before .before .before .before .before .before .backing-at .ensures ∙ ap backingAt slot) in
+    let backing = c .before .before .before .before .before .before .before .before .backing-at .ensures ∙ ap backingAt slot in
+    let source = c .before .before .before .before .before .before .before .source-of .ensures ∙ ap sourceOf backing in
     let keep = c .before .before .before .before .before .before .before .before .before .is-committed .ensures ∙ ap isCommitted slot in
     rw (← source, ← keep) (c .before .before .before .before .restore-page .ensures)
 

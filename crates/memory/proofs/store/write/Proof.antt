@@ -73,11 +73,15 @@ cast-store-byte-2 : tie.Need-cast-store-byte-2
 cast-store-byte-2 c = search needs
 
 cast-store-byte-3 : tie.Need-cast-store-byte-3
-cast-store-byte-3 c = let s = c .before .before .before .before .before .before .before .before .before .before .before .before .before .before .before .before .before .before .before .before .before in omega (arith, s .pre .1 .fit .written (s .pre .0) .1)
+cast-store-byte-3 c =
+    let middle = c .before .before .before .before .before .before .before .before .before .before .before .before in
+    let s = middle .before .before .before .before .before .before .before .before .before in
+    omega (arith, s .pre .1 .fit .written (s .pre .0) .1)
 
 store-byte-requires : tie.Need-store-byte-requires
 store-byte-requires c κs =
-    let s = c .before .before .before .before .before .before .before .before .before .before .before .before .before .before .before .before .before .before .before .before .before in
+    let middle = c .before .before .before .before .before .before .before .before .before .before .before .before in
+    let s = middle .before .before .before .before .before .before .before .before .before in
     let found = c .before .before .before .before .before .before .before .before .before in (
       s .pre .1 .row,
       (
@@ -96,7 +100,8 @@ same-length-2 c = search needs
 
 returns : tie.Need-returns
 returns c =
-    let s = c .before .before .before .before .before .before .before .before .before .before .before .before .before .before .before .before .before .before .before .before .before .before .before .before in
+    let middle = c .before .before .before .before .before .before .before .before .before .before .before .before in
+    let s = middle .before .before .before .before .before .before .before .before .before .before .before .before in
     let found = c .before .before .before .before .before .before .before .before .before .before .before .before in
     let touched = c .before .before .before .before .before .before .before .before .before .before .before .touch in
     written (s .args .image .now) (s .args .frames) (s .args .q) (s .args .b) (lent s) _ _ (rw (← committed-is found, ← source-is found) (touched .ensures))
