@@ -3,3 +3,4 @@ pub mod RangeLaws
 pub mod LoopLaws
 pub mod CountLaws
 pub mod ListLaws
+pub mod RowLaws

@@ -1,3 +1,4 @@
 -- In reading order.
 pub mod Choice
 pub mod Ranges
+pub mod Rows

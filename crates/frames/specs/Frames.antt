@@ -4,7 +4,8 @@ use mathlib.Core.Path.{_≡_}
 use mathlib.Core.Bool.{Bool, _&&_}
 use lib.Dec.{ltb, eqb}
 use Rattle.basics.specs.Choice.{_when_else_}
-use Rattle.basics.specs.Ranges.{sum}
+use lib.Bits.{bitAnd, bitOr}
+use Rattle.basics.specs.Ranges.{sum, lowest}
 use Rattle.frames.specs.Word.{bit, putBit}
 use Rattle.frames.specs.declared.Held.{Held}
 use Rattle.frames.specs.declared.Free.{Free}
@@ -34,6 +35,18 @@ countHeld h = sum (held h) 128
 unfoldable pub greatest : (ℕ → ℕ) → ℕ → Free
 greatest marks zero = None
 greatest marks (suc n) = Frame (record { 0 = n }) when eqb (marks n) 0 else greatest marks n
+
+-- the smallest held frame; 128 where none is held
+unfoldable pub leastHeld : Held → ℕ
+leastHeld h = lowest (λ f. eqb (held h f) 1) 0 128
+
+-- the frames that either marks
+unfoldable pub bothHeld : Held → Held → Held
+bothHeld h j = record { low = bitOr (h .low) (j .low); high = bitOr (h .high) (j .high) }
+
+-- no frame is marked by both
+unfoldable pub apartHeld : Held → Held → Bool
+apartHeld h j = eqb (bitAnd (h .low) (j .low)) 0 && eqb (bitAnd (h .high) (j .high)) 0
 
 -- no frame past a pool of n frames is held
 pub record Within (h : Held) (n : ℕ) : Type 0 where

@@ -5,9 +5,9 @@
 ghost use mathlib.Core.Path.{_≡_};
 ghost use Prim.Native.Nat.{_≤_, _<_};
 ghost use lib.Dec.{eqb};
-ghost use Rattle.basics.specs.Ranges.{one};
+ghost use Rattle.basics.specs.Ranges.{one, lowest};
 ghost use Rattle.frames.specs.Word.{bit, putBit};
-ghost use Rattle.frames.specs.Frames.{held, mark, noneHeld, sameHeld, countHeld, greatest};
+ghost use Rattle.frames.specs.Frames.{held, mark, noneHeld, sameHeld, countHeld, greatest, leastHeld, bothHeld, apartHeld};
 
 // The number of a frame of the pool: no page number and no image page number.
 pub struct FrameNo(pub u8);
@@ -89,6 +89,41 @@ impl Held {
     {
         (self.low == other.low) & (self.high == other.high)
     }
+
+    // The smallest held frame; 128 where none is held.
+    pub fn least(self) -> u8
+        ensures { λ r. ⌜ r ≡ leastHeld self ⌝ }
+    {
+        let low = lowest_set(self.low);
+        if low < 64 {
+            return low;
+        }
+        64 + lowest_set(self.high)
+    }
+
+    // The frames that either marks.
+    pub fn both(self, other: Held) -> Held
+        ensures { λ r. ⌜ r ≡ bothHeld self other ⌝ }
+    {
+        Held {
+            low: self.low | other.low,
+            high: self.high | other.high,
+        }
+    }
+
+    // Whether no frame is marked by both.
+    pub fn apart(self, other: Held) -> bool
+        ensures { λ r. ⌜ r ≡ apartHeld self other ⌝ }
+    {
+        (self.low & other.low == 0) & (self.high & other.high == 0)
+    }
+}
+
+// The lowest place whose bit is set; 64 where none is.
+fn lowest_set(word: u64) -> u8
+    ensures { λ r. ⌜ r ≡ lowest (λ k. eqb (bit word k) 1) 0 64 ⌝ }
+{
+    u64::trailing_zeros(word) as u8
 }
 
 // The same marks, and this frame held or not.

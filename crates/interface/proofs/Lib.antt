@@ -7,3 +7,4 @@ pub mod GapLaws
 pub mod AloneLaws
 pub mod CompareLaws
 pub mod EdgeLaws
+pub mod RunLaws

@@ -12,3 +12,4 @@ pub mod Examples
 pub mod Gaps
 pub mod Edges
 pub mod Differences
+pub mod Runs

@@ -1,5 +1,6 @@
 -- The step of the machine: what a request answers and leaves, given the frame that a write takes if it takes one.
 use mathlib.Core.Path.{_≡_}
+use mathlib.Core.Logic.{_⊎_}
 use mathlib.Core.Bool.{Bool, true, not, _&&_}
 use mathlib.Core.List.{List}
 use Prim.Native.Nat.{ℕ, _<_}
@@ -11,10 +12,12 @@ use Rattle.interface.specs.Requests.{_is_, Write, isCall, pageOf}
 use Rattle.interface.specs.Refusals.{refusal}
 use Rattle.frames.specs.Frames.{held}
 use Rattle.table.specs.Store.{entry, frontOf}
-use Rattle.state.specs.World.{World, sandboxAt, withSandbox, framesOf, viewAt}
+use Rattle.kept.specs.Spare.{keptAt}
+use Rattle.state.specs.declared.sandbox.Sandbox.{Sandbox}
+use Rattle.state.specs.World.{World, sandboxAt, withSandbox, withRuns, framesOf, viewAt, rowsOf}
 use Rattle.state.specs.Test.{soundb}
 use Rattle.rules.specs.After.{sandboxAfter}
-use Rattle.memory.specs.Memory.{storeAfter, valueAt}
+use Rattle.memory.specs.Memory.{givesAt, longestOf, runsAfter, storeAfter, valueAt}
 
 -- ---- the step
 
@@ -25,9 +28,14 @@ numberAt image w q =
     3 when not (soundb image w) else
     refusal (viewAt image w (q .sandbox)) q
 
-abbrev pub worldAfter : List ℕ → ℕ → World → Request → World
-worldAfter image f w q =
-    withSandbox (q .sandbox) (sandboxAfter q (sandboxAt w (q .sandbox)))
+-- the sandbox with the runs that result
+abbrev pub sandboxThen : ℕ → World → Request → Sandbox
+sandboxThen given w q =
+    withRuns (runsAfter given q (sandboxAt w (q .sandbox)) (w .store)) (sandboxAfter q (sandboxAt w (q .sandbox)))
+
+abbrev pub worldAfter : List ℕ → ℕ → ℕ → World → Request → World
+worldAfter image f given w q =
+    withSandbox (q .sandbox) (sandboxThen given w q)
     (record { sandboxes = w .sandboxes; store = storeAfter image f q (sandboxAt w (q .sandbox)) (w .store) })
 
 -- a number and a value, and the world that is left
@@ -36,25 +44,41 @@ pub record Outcome : Type 0 where
   pub world : World
 
 -- "A refusal answers its number and value 0; state, pool and table are unchanged."
-unfoldable pub step : List ℕ → ℕ → World → Request → Outcome
-step image f w q =
+unfoldable pub step : List ℕ → ℕ → ℕ → World → Request → Outcome
+step image f given w q =
     let number = numberAt image w q in
     record {
       answer = record { number = number; value = valueAt image q (sandboxAt w (q .sandbox)) (w .store) when eqb number 0 else 0 };
-      world = worldAfter image f w q when eqb number 0 else w;
+      world = worldAfter image f given w q when eqb number 0 else w;
     }
 
 -- whether the request takes a frame: an accepted write to a page without a front
 unfoldable pub takes : List ℕ → World → Request → Bool
 takes image w q = eqb (numberAt image w q) 0 && (q is Write && eqb (entry (w .store) (frontOf (q .sandbox) (pageOf q))) 0)
 
--- a frame of the pool that is not held
+-- whether it gives up a kept frame first
+unfoldable pub gives : List ℕ → World → Request → Bool
+gives image w q = eqb (numberAt image w q) 0 && givesAt q (sandboxAt w (q .sandbox)) (w .store)
+
+-- a frame of the pool that is not held: no entry names it, and no run keeps it
 pub record Free (w : World) (f : ℕ) : Type 0 where
   pub ofPool : f < framesOf w
-  pub unheld : held (w .store .marks) f ≡ 0
+  pub unnamed : held (w .store .marks) f ≡ 0
+  pub unkept : keptAt (rowsOf w) f ≡ 0
 
--- What a call ensures of its outcome. "Which unheld frame is taken is open": the one outcome that may differ from one correct program to another.
+-- a frame of the longest run of sandbox s
+pub record OfLongest (w : World) (s given : ℕ) : Type 0 where
+  pub low : given < 128
+  pub kept : held (rowsOf w s (longestOf (sandboxAt w s))) given ≡ 1
+
+-- What a call ensures of its outcome. Two things may differ from one correct program to another: the frame of the longest run that a write gives up ("which one
+-- is open"), and the frame that a write takes: it was unheld, or was given up by this very call ("the write may take it").
+pub record Chosen (image : List ℕ) (w : World) (q : Request) (frame given : ℕ) : Type 0 where
+  pub gave : gives image w q ≡ true → OfLongest w (q .sandbox) given
+  pub free : takes image w q ≡ true → Free w frame ⊎ ((gives image w q ≡ true) × (frame ≡ given))
+
 pub record Stepped (image : List ℕ) (w : World) (q : Request) (o : Outcome) : Type 0 where
   pub frame : ℕ
-  pub free : takes image w q ≡ true → Free w frame
-  pub equals : o ≡ step image frame w q
+  pub given : ℕ
+  pub chosen : Chosen image w q frame given
+  pub equals : o ≡ step image frame given w q

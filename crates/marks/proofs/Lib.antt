@@ -1,3 +1,4 @@
 pub mod NamedLaws
 pub mod MarkLaws
+pub mod UsedLaws
 pub mod Examples

@@ -8,6 +8,7 @@ ghost use Prim.Native.Nat.{_+_, _*_, _≤_, _<_};
 ghost use lib.ListN.{length};
 ghost use Rattle.frames.specs.Frames.{countHeld};
 ghost use Rattle.marks.specs.Marks.{addEntry, marksTo, from, marksb};
+ghost use Rattle.marks.specs.Named.{used as usedOne, usedBelow};
 use frames::FrameNo;
 use frames::Held;
 
@@ -84,4 +85,29 @@ pub fn marks_of(table: &[u16], first: usize, entries: usize, frames: u8) -> Mark
         found = found.add(frames, table[first + i]);
     }
     found
+}
+
+// How many entries of a sandbox name a frame.
+pub fn used(table: &[u16], sandbox: u8) -> u16
+    requires { ⌜ sandbox < 4 ⌝ }
+    requires { ⌜ length (now table) ≡ 512 ⌝ }
+    ensures { λ r. ⌜ r ≡ usedBelow (from (sandbox * 128) (now (table .entry))) 128 ⌝ }
+    ensures small { λ r. ⌜ r ≤ 128 ⌝ }
+{
+    let first = sandbox as usize * Marks::SANDBOX_ENTRIES;
+    let mut n: u16 = 0;
+    for i in 0..Marks::SANDBOX_ENTRIES {
+        n = n + is_used(table[first + i]);
+    }
+    n
+}
+
+fn is_used(entry: u16) -> u16
+    ensures { λ r. ⌜ r ≡ usedOne entry ⌝ }
+    ensures small { λ r. ⌜ r ≤ 1 ⌝ }
+{
+    if entry == 0 {
+        return 0;
+    }
+    1
 }

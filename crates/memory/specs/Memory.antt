@@ -1,7 +1,7 @@
 -- What an accepted request makes of the store, given the frame that a write takes if it takes one.
-use mathlib.Core.Bool.{Bool}
+use mathlib.Core.Bool.{Bool, not, _&&_}
 use mathlib.Core.List.{List}
-use Prim.Native.Nat.{ℕ, _*_, _/_}
+use Prim.Native.Nat.{ℕ, _+_, _*_, _/_}
 use lib.Dec.{eqb}
 use lib.ListN.{length, getD}
 use Rattle.basics.specs.Choice.{_when_else_}
@@ -9,12 +9,45 @@ use Rattle.interface.specs.declared.request.Request.{Request}
 use Rattle.interface.specs.Requests.{_is_, Map, Unmap, Read, Write, Snapshot, Rewind, Report, Compare, pageOf, offsetOf}
 use Rattle.interface.specs.Slots.{isCommitted, mappedPages}
 use Rattle.interface.specs.Outcome.{firstOf}
-use Rattle.frames.specs.Frames.{held, countHeld}
+use Rattle.interface.specs.Runs.{takesRun, runFor, granted, longestRun, givesUp}
+use Rattle.frames.specs.Frames.{mark, countHeld}
+use Rattle.marks.specs.Named.{usedBelow}
 use Rattle.marks.specs.Marks.{marksTo, from}
 use Rattle.table.specs.Store.{Store, entry, frontOf, take, storeByte, freeTo, moveTo, rewindTo}
+use Rattle.runs.specs.declared.Runs.{Runs}
+use Rattle.runs.specs.Row.{row, lengthsOf, withRunAt, tabled}
+use Rattle.kept.specs.Spare.{keptBy, rowRewound, leftOf, grantTo}
 use Rattle.areas.specs.Areas.{slots}
 use Rattle.state.specs.declared.sandbox.Sandbox.{Sandbox}
 use Rattle.content.specs.Content.{pageUnder, pageRead, copyPage, differing}
+
+-- ---- runs of kept frames
+
+-- how many frames sandbox s holds: fronts, backs and kept frames
+abbrev pub holdsIn : Store → ℕ → Sandbox → ℕ
+holdsIn st s b = usedBelow (from (s * 128) (st .table)) 128 + keptBy (row (b .runs))
+
+-- "When a write would bring fronts, backs and kept frames above the share, one frame of the longest run is given up first"
+unfoldable pub givesAt : Request → Sandbox → Store → Bool
+givesAt q b st = q is Write && givesUp (not (eqb (entry st (frontOf (q .sandbox) (pageOf q))) 0)) (b .share) (holdsIn st (q .sandbox) b)
+
+-- the place of the run that a map takes, and how many of its frames; the place of the longest run
+abbrev pub placeFor : Request → Sandbox → ℕ
+placeFor q b = runFor (q .p2) (lengthsOf (b .runs))
+
+abbrev pub framesFor : Request → Sandbox → ℕ
+framesFor q b = granted (q .p2) (lengthsOf (b .runs))
+
+abbrev pub longestOf : Sandbox → ℕ
+longestOf b = longestRun (lengthsOf (b .runs))
+
+-- the runs after an accepted request, given the frame that a write gives up if it gives one up
+unfoldable pub runsAfter : ℕ → Request → Sandbox → Store → Runs
+runsAfter given q b st =
+    withRunAt (placeFor q b) (leftOf (row (b .runs) (placeFor q b)) (framesFor q b)) (b .runs) when takesRun q else
+    withRunAt (longestOf b) (mark (row (b .runs) (longestOf b)) given 0) (b .runs) when givesAt q b st else
+    tabled (rowRewound st (q .sandbox) (slots (b .present)) (row (b .runs))) when q is Rewind else
+    b .runs
 
 -- ---- the store after an accepted request
 
@@ -26,9 +59,11 @@ touched image f b s i st = take 256 (frontOf s i) f (pageUnder image st b s i) s
 abbrev pub keepsFront : Sandbox → ℕ → Bool
 keepsFront b i = isCommitted (slots (b .present) i)
 
--- "Their fronts are freed and cleared"; "A write changes one byte"; "its front entry moves to the back"; "All other fronts are freed and cleared"
+-- A map that takes a run: "The first new pages get these frames as fronts" (A3). "Their fronts are freed and cleared"; "A write changes one byte";
+-- "its front entry moves to the back"; "All other fronts are freed and cleared"
 unfoldable pub storeAfter : List ℕ → ℕ → Request → Sandbox → Store → Store
 storeAfter image f q b st =
+    grantTo 256 (frontOf (q .sandbox) (firstOf (slots (b .present)) q)) (row (b .runs) (placeFor q b)) st (framesFor q b) when takesRun q else
     freeTo 256 (frontOf (q .sandbox) (q .p1)) st (q .p2) when q is Unmap else
     storeByte 256 (frontOf (q .sandbox) (pageOf q)) (offsetOf q) (q .p2) (touched image f b (q .sandbox) (pageOf q) st) when q is Write else
     moveTo (q .sandbox * 128) st 64 when q is Snapshot else
@@ -46,6 +81,6 @@ valueAt image q b st =
     firstOf (slots (b .present)) q when q is Map else
     getD (pageRead image st b (q .sandbox) (pageOf q)) (offsetOf q) 0 when q is Read else
     mappedPages (slots (b .present)) when q is Snapshot else
-    heldBy st (q .sandbox) when q is Report else
+    heldBy st (q .sandbox) + keptBy (row (b .runs)) when q is Report else
     differing image st b (q .sandbox) when q is Compare else
     0

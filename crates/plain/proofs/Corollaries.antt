@@ -4,17 +4,20 @@ use mathlib.Core.Path.{_≡_, refl, sym, ap, _∙_, fun-ext}
 use mathlib.Core.Bool.{Bool, true, false, _&&_}
 use lib.Dec.{eqb}
 use borrow.Author.Tests.{eqb-true, eq-eqb}
-use Rattle.basics.proofs.TestLaws.{by-cases, when-cases, both-ways, and-left, and-right, and-of}
+use Rattle.basics.proofs.TestLaws.{by-cases, when-cases, never, both-ways, and-left, and-right, and-of}
 use Rattle.interface.specs.declared.request.Request.{Request}
 use Rattle.interface.specs.Requests.{_is_, Open, Read, Rewind, Report, Compare}
 use Rattle.interface.specs.Slots.{isCommitted, copied}
 use Rattle.interface.specs.Outcome.{slotsAfter, copyAfter}
 use Rattle.interface.specs.Refusals.{refusal}
+use Rattle.interface.specs.Runs.{isSpared, runsRewound}
 use Rattle.interface.proofs.AcceptedLaws.{accepted}
+use Rattle.interface.proofs.RunLaws.{spared-uncommitted}
 use Rattle.plain.specs.Machine.{Given, Kept, Plain, copySlots, copyBytes, put, numberAt, after}
-use Rattle.plain.specs.Machine.{bytesAfter, frontAfter, backAfter, copiedBackAfter, keptAfter}
+use Rattle.plain.specs.Machine.{bytesAfter, frontAfter, backAfter, copiedBackAfter, runsAfter, keptAfter}
 use Rattle.plain.specs.Lists.{upTo}
 use Rattle.plain.specs.Claims.{Keeps, Reads, RefusedChangesNothing, ReadsChangeNothing, RewindTwice, OnlyOpenMeetsOthers}
+use Rattle.plain.proofs.RunLaws.{runs-idle}
 use Rattle.plain.proofs.Claims.{claim-always}
 
 pub refused-changes-nothing : (g : Given) → RefusedChangesNothing g
@@ -39,7 +42,7 @@ idle-call : (g : Given) (p : Plain) (q : Request) (c : ℕ) → q .code ≡ c �
 idle-call g p q c e n h = idle g p q (λ t. h (sym (accepted _ q t .opened (rw e n))))
 
 pub reads-change-nothing : (g : Given) → ReadsChangeNothing g
-unfolding slotsAfter bytesAfter copyAfter frontAfter backAfter copiedBackAfter
+unfolding slotsAfter bytesAfter copyAfter frontAfter backAfter copiedBackAfter runsAfter
 reads-change-nothing g p q e =
     by-cases (q is Read) (λ r. let c = eqb-true (q .code) Read r in idle-call g p q Read c refl (λ o. rw (c, o)))
     (λ r. by-cases (q is Report) (λ t. let c = eqb-true (q .code) Report t in idle-call g p q Report c refl (λ o. rw (c, o)))
@@ -62,21 +65,39 @@ front-stays g k h r i =
     both-ways _ _ (λ e. and-left (k .traces .front i && isCommitted (k .core .pages .slots i)) _ e)
     (λ e. and-of e (r .marked i (h .committedIn i (and-right (k .traces .front i) _ e))))
 
+-- and no front is then of an uncommitted page: the next rewind makes no run
+none-spared : (g : Given) (k : Kept) → Keeps k → Reads g k → (i : ℕ)
+    → ((k .traces .front i && isCommitted (k .core .pages .slots i)) && isSpared (copied (copySlots (k .core)) i)) ≡ false
+none-spared g k h r i =
+    by-cases (k .traces .front i && isCommitted (k .core .pages .slots i))
+    (λ e. let c = r .marked i (h .committedIn i (and-right (k .traces .front i) _ e)) in
+    by-cases (isSpared (copied (copySlots (k .core)) i))
+    (λ y. never (isCommitted (copied (copySlots (k .core)) i)) c (spared-uncommitted (copied (copySlots (k .core)) i) y))
+    (λ y. rw (e, y)))
+    (λ e. rw e)
+
+rewound-runs : (g : Given) (k : Kept) → Keeps k → Reads g k
+    → runsRewound (copied (copySlots (k .core))) (λ i. k .traces .front i && isCommitted (k .core .pages .slots i)) (runsRewound (k .core .pages .slots) (k .traces .front) (k .traces .runs))
+    ≡ runsRewound (k .core .pages .slots) (k .traces .front) (k .traces .runs)
+rewound-runs g k h r = runs-idle (copied (copySlots (k .core))) _ _ (λ i l. none-spared g k h r i)
+
 rewound-kept : (g : Given) (q : Request) (k : Kept) → Keeps k → Reads g k → q .code ≡ Rewind → keptAfter g q (keptAfter g q k) ≡ keptAfter g q k
-unfolding slotsAfter bytesAfter copyAfter frontAfter backAfter copiedBackAfter
+unfolding slotsAfter bytesAfter copyAfter frontAfter backAfter copiedBackAfter runsAfter
 rewound-kept g q k h r e =
+    let two : ℕ → Bool = λ i. k .traces .front i && isCommitted (k .core .pages .slots i) && isCommitted (copied (copySlots (k .core)) i) in
+    let one : ℕ → Bool = λ i. k .traces .front i && isCommitted (k .core .pages .slots i) in
+    let fronts : two ≡ one = fun-ext (λ i. front-stays g k h r i) in
+    let runs = rewound-runs g k h r in
     rw e
-    (ap
-    (λ (front : ℕ → Bool). record {
+    (λ j. record {
       core = record {
         opened = true;
         share = k .core .share;
         pages = record { slots = copied (copySlots (k .core)); bytes = copyBytes (k .core .copy) };
         copy = k .core .copy;
       };
-      traces = record { front = front; back = k .traces .copiedBack; copiedBack = k .traces .copiedBack };
+      traces = record { front = fronts j; back = k .traces .copiedBack; copiedBack = k .traces .copiedBack; runs = runs j };
     })
-    (fun-ext (λ i. front-stays g k h r i)))
 
 pub rewind-twice : (g : Given) → RewindTwice g
 rewind-twice g qs q e =

@@ -1,30 +1,32 @@
 -- What holds of every sandbox after every list: the charge and share limits, at most 8 areas, marks where they belong.
-use Prim.Native.Nat.{ℕ, _+_, _≤_, _<_}
-use mathlib.Core.Path.{_≡_, refl, sym, ap}
-use mathlib.Core.Bool.{true, false≢true}
+use Prim.Native.Nat.{ℕ, _+_, _-_, _≤_, _<_}
+use mathlib.Core.Path.{_≡_, refl, sym, ap, _∙_}
+use mathlib.Core.Logic.{⊎-elim}
+use mathlib.Core.Bool.{true, false, _||_, false≢true}
 use mathlib.Core.Option.{Option, some, none, Option·some-ne-none}
 use native.Mathlib.Omega.{arith}
 use lib.Dec.{eqb}
 use borrow.Author.Tests.{eqb-true, eq-eqb, le-ltb, leb-true}
-use Rattle.basics.specs.Ranges.{sum}
+use Rattle.basics.specs.Ranges.{count, sum, over}
 use Rattle.basics.proofs.TestLaws.{by-cases, when-cases, and-left, and-right, never}
-use Rattle.basics.proofs.RangeLaws.{inside-end, over-cases, over-both}
-use Rattle.basics.proofs.CountLaws.{count-none, sum-put}
+use Rattle.basics.proofs.RangeLaws.{inside-end, over-in, over-cases, over-both}
+use Rattle.basics.proofs.CountLaws.{count-none, count-le, count-also, sum-put}
 use Rattle.interface.specs.declared.page.Slot.the-variants.{Unmapped}
 use Rattle.interface.specs.declared.request.Request.{Request}
-use Rattle.interface.specs.Requests.{_is_, Open, Snapshot, Rewind, pageOf}
+use Rattle.interface.specs.Requests.{_is_, Open, Map, Unmap, Write, Snapshot, Rewind, pageOf}
 use Rattle.interface.specs.Slots.{Slots, isMapped, isCommitted, withCommitted, areas, mappedPages, chargeOf, copied}
 use Rattle.interface.specs.Limits.{within}
-use Rattle.interface.specs.Outcome.{slotsAfter, copyAfter, shareAfter}
+use Rattle.interface.specs.Outcome.{firstOf, newPage, pageOn, slotsAfter, copyAfter, shareAfter}
 use Rattle.interface.specs.Refusals.{isTaken, allMapped, refusal}
 use Rattle.interface.specs.Accepted.{Accepted}
 use Rattle.interface.proofs.SlotLaws.{mapped-rights, committed-rights, mapped-commit, committed-mapped}
 use Rattle.interface.proofs.KindLaws.{Kind, kind, isMap, isUnmap, isProtect, isWrite, isSnapshot, isRewind, isOther}
 use Rattle.interface.proofs.AcceptedLaws.{accepted, map-fits}
 use Rattle.interface.proofs.ChargeLaws.{charge-covers}
-use Rattle.plain.specs.Machine.{Given, Kept, Plain, fresh, closed, copySlots, viewOf, shares, put, numberAt, after}
-use Rattle.plain.specs.Machine.{frontAfter, backAfter, copiedBackAfter, keptAfter}
+use Rattle.plain.specs.Machine.{Given, Kept, Plain, fresh, closed, held, copySlots, viewOf, shares, put, numberAt, after}
+use Rattle.plain.specs.Machine.{frontAfter, backAfter, copiedBackAfter, runsAfter, keptAfter}
 use Rattle.plain.specs.Claims.{Keeps, Holds, Covered, NextWrite, NextRewind}
+use Rattle.plain.proofs.RunLaws.{map-front-new, held-map, held-unmap, held-snapshot, held-rewind, held-write}
 
 -- the slots of the copy that an accepted request leaves
 pub copy-slots : (g : Given) (q : Request) (k : Kept)
@@ -61,10 +63,41 @@ copy-areas : (q : Request) (now : Slots) (c : Option Slots) → areas now ≤ 8 
 unfolding copyAfter
 copy-areas q now c new old = by-cases (q is Snapshot) (λ e. rw e new) (λ e. rw e old)
 
+-- mapped pages and backs together are at most the share
+pub frames-suffice : (k : Kept) → Keeps k → Covered k
+frames-suffice k h = omega (arith, h .charged, charge-covers (k .core .pages .slots) (copySlots (k .core)) (k .traces .back) (h .committedIn) (h .backIn))
+
+-- and so a mapped page without a front finds room for one beside the fronts and backs
+pub front-room : (k : Kept) → Keeps k → (i : ℕ) → i < 64 → isMapped (k .core .pages .slots i) ≡ true → k .traces .front i ≡ false
+    → count (k .traces .front) 64 + count (k .traces .back) 64 + 1 ≤ k .core .share
+unfolding mappedPages
+front-room k h i l m e =
+    omega (
+      arith,
+      count-also (k .traces .front) i 64 l e,
+      count-le (λ j. eqb j i || k .traces .front j) (λ j. isMapped (k .core .pages .slots j)) 64
+          (λ j. by-cases (eqb j i) (λ t _. rw (eqb-true j i t) m) (λ t. rw t (h .frontMapped j))),
+      frames-suffice k h,
+    )
+
+-- a closed sandbox holds nothing
+held-closed : held (closed .traces) ≡ 0
+unfolding held sum
+held-closed = omega (arith, count-none 64)
+
 module _ (g : Given) (q : Request) (k : Kept) (total : ℕ) (a : Accepted (viewOf g total (k .core)) q) (h : Keeps k) where
+  map-slots : q .code ≡ Map → (i : ℕ) → keptAfter g q k .core .pages .slots i
+      ≡ over (firstOf (k .core .pages .slots) q) (q .p2) (λ j. pageOn (newPage q) (j - firstOf (k .core .pages .slots) q)) (k .core .pages .slots) i
+  unfolding slotsAfter
+  map-slots e i = rw e
+
   front-mapped : Kind q → (i : ℕ) → keptAfter g q k .traces .front i ≡ true → isMapped (keptAfter g q k .core .pages .slots i) ≡ true
   unfolding slotsAfter frontAfter allMapped
-  front-mapped (isMap e) i = rw e (λ f. over-cases (λ x. isMapped x ≡ true) _ _ _ _ i (λ _. refl) (h .frontMapped i f))
+  front-mapped (isMap e) i = λ f.
+      ⊎-elim
+      (λ m. ap isMapped (map-slots e i ∙ over-in (firstOf (k .core .pages .slots) q) (q .p2) _ (k .core .pages .slots) i m))
+      (λ m. rw e (over-cases (λ x. isMapped x ≡ true) _ _ _ _ i (λ _. refl) (h .frontMapped i m)))
+      (map-front-new q (k .core .pages .slots) (k .traces) e i f)
   front-mapped (isUnmap e) i = rw e (over-both (λ x y. x ≡ true → isMapped y ≡ true) _ _ _ _ _ _ i (λ f. f) (h .frontMapped i))
   front-mapped (isProtect e) i = rw e (λ f. over-cases (λ x. isMapped x ≡ true) _ _ _ _ i (λ _. rw mapped-rights (h .frontMapped i f)) (h .frontMapped i f))
   front-mapped (isWrite e) i =
@@ -105,6 +138,32 @@ module _ (g : Given) (q : Request) (k : Kept) (total : ℕ) (a : Accepted (viewO
   unfolding backAfter copiedBackAfter
   back-copied = by-cases (q is Snapshot) (λ e. rw e) (λ e. rw e (by-cases (q is Rewind) (λ t. rw t) (λ t. rw t (h .backCopied))))
 
+  written : q .code ≡ Write → isMapped (k .core .pages .slots (pageOf q)) ≡ true
+  unfolding allMapped
+  written e = rw e at (a .mapped)
+
+  held-same : (q is Map) ≡ false → (q is Unmap) ≡ false → (q is Write) ≡ false → (q is Snapshot) ≡ false → (q is Rewind) ≡ false
+      → held (keptAfter g q k .traces) ≤ shareAfter q (k .core .share)
+  unfolding frontAfter backAfter copiedBackAfter runsAfter
+  held-same x₁ x₂ x₄ x₅ x₆ =
+      rw (x₁, x₂, x₄, x₅, x₆)
+      (by-cases (q is Open)
+      (λ o. rw o (omega (arith, ap (λ (x : Kept). held (x .traces)) (h .closedEmpty (a .closed o)), held-closed)))
+      (λ o. rw o (h .inShare)))
+
+  -- fronts, backs and kept frames stay within the share
+  in-share : Kind q → held (keptAfter g q k .traces) ≤ shareAfter q (k .core .share)
+  in-share (isMap e) = rw e (omega (arith, rw e at (held-map q (k .core .pages .slots) (k .core .share) (k .traces) e), h .inShare))
+  in-share (isUnmap e) = rw e (omega (arith, rw e at (held-unmap q (k .core .pages .slots) (k .core .share) (k .traces) e), h .inShare))
+  in-share (isProtect e) = held-same (rw e) (rw e) (rw e) (rw e) (rw e)
+  in-share (isWrite e) =
+      let there : isMapped (k .core .pages .slots (pageOf q)) ≡ true = written e in
+      let low : pageOf q < 64 = h .inside (pageOf q) there in
+      rw e (rw e at (held-write q (k .core .pages .slots) (k .core .share) (k .traces) e low (front-room k h (pageOf q) low there) (h .inShare)))
+  in-share (isSnapshot e) = rw e (omega (arith, rw e at (held-snapshot q (k .core .pages .slots) (k .core .share) (k .traces) e), h .inShare))
+  in-share (isRewind e) = rw e (omega (arith, rw e at (held-rewind q (k .core .pages .slots) (k .core .share) (k .traces) e (h .backCopied)), h .inShare))
+  in-share (isOther x₁ x₂ x₃ x₄ x₅ x₆) = held-same x₁ x₂ x₄ x₅ x₆
+
   page-inside : Kind q → (i : ℕ) → isMapped (keptAfter g q k .core .pages .slots i) ≡ true → i < 64
   unfolding slotsAfter
   page-inside (isMap e) i =
@@ -140,6 +199,7 @@ module _ (g : Given) (q : Request) (k : Kept) (total : ℕ) (a : Accepted (viewO
     frontMapped = front-mapped (kind q);
     committedIn = committed-in (kind q);
     backIn = back-in (kind q);
+    inShare = in-share (kind q);
     backCopied = back-copied;
     inside = page-inside (kind q);
     copyInside = copy-inside;
@@ -160,6 +220,7 @@ keeps-closed = record {
   frontMapped = λ i e. cc;
   committedIn = λ i e. cc;
   backIn = λ i e. cc;
+  inShare = omega (arith, held-closed);
   backCopied = refl;
   inside = λ i e. absurd (false≢true e);
   copyInside = λ i e. absurd (false≢true e);
@@ -195,10 +256,6 @@ holds-accepted g p q h n =
 pub holds-after : (g : Given) (p : Plain) (q : Request) → Holds g p → Holds g (after g p q)
 unfolding after
 holds-after g p q h = when-cases (Holds g) (eqb (numberAt g p q) 0) (λ e. holds-accepted g p q h (eqb-true _ 0 e)) (λ _. h)
-
--- mapped pages and backs together are at most the share
-pub frames-suffice : (k : Kept) → Keeps k → Covered k
-frames-suffice k h = omega (arith, h .charged, charge-covers (k .core .pages .slots) (copySlots (k .core)) (k .traces .back) (h .committedIn) (h .backIn))
 
 -- a next write is accepted and leaves the page with a front
 pub next-write : (g : Given) (p : Plain) → Holds g p → NextWrite g p

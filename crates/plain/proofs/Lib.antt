@@ -2,6 +2,7 @@ pub mod CaseLaws
 pub mod OneSandbox
 pub mod TwoListsLaws
 pub mod RewoundLaws
+pub mod RunLaws
 pub mod KeptLaws
 pub mod ReadLaws
 pub mod CleanLaws

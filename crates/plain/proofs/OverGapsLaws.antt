@@ -20,7 +20,7 @@ use Rattle.interface.proofs.GapLaws.{without, none-in, without-none, unmap-fits
 use Rattle.interface.proofs.AcceptedLaws.{accepted}
 use Rattle.interface.proofs.AloneLaws.{Unmapping, alone}
 use Rattle.plain.specs.Machine.{Given, Kept, Plain, shares, viewOf, put, numberAt, answer, answers, after, afterAll, coreValue}
-use Rattle.plain.specs.Machine.{bytesAfter, frontAfter, backAfter, copiedBackAfter, keptAfter}
+use Rattle.plain.specs.Machine.{bytesAfter, frontAfter, backAfter, copiedBackAfter, runsAfter, keptAfter}
 use Rattle.plain.specs.Lists.{upTo}
 use Rattle.plain.specs.Claims.{Keeps, Holds, Reads, UnmapsAfter, slotsBefore, UnmapOfNothing, UnmapsAlone}
 use Rattle.plain.proofs.KeptLaws.{holds-after}
@@ -36,7 +36,7 @@ module _ (g : Given) (s : ℕ) where
 
   kept-none : (k : Kept) → Keeps k → k .core .opened ≡ true → (a n : ℕ) → ((i : ℕ) → inside a n i ≡ true → isMapped (k .core .pages .slots i) ≡ false)
       → without-kept k a n ≡ k
-  unfolding slotsAfter bytesAfter copyAfter frontAfter backAfter copiedBackAfter
+  unfolding slotsAfter bytesAfter copyAfter frontAfter backAfter copiedBackAfter runsAfter
   kept-none k h o a n u =
       let no-front : over a n (λ i. false) (k .traces .front) ≡ k .traces .front =
       fun-ext λ i. by-cases (inside a n i)
@@ -46,7 +46,7 @@ module _ (g : Given) (s : ℕ) where
       rw (without-none (k .core .pages .slots) a n u, no-front, ← o)
 
   kept-join : (k : Kept) (a n m : ℕ) → without-kept (without-kept k a n) (a + n) m ≡ without-kept k a (n + m)
-  unfolding slotsAfter bytesAfter copyAfter frontAfter backAfter copiedBackAfter
+  unfolding slotsAfter bytesAfter copyAfter frontAfter backAfter copiedBackAfter runsAfter
   kept-join k a n m = rw (over-join a n m (λ i. Unmapped) (k .core .pages .slots), over-join a n m (λ i. false) (k .traces .front))
 
 -- ---- the machine
@@ -145,7 +145,7 @@ module _ (g : Given) (qs : List Request) (q : Request) (u : UnmapsAfter g qs q) 
 
   -- the request is that of its sandbox, range and code
   same-kept : (k : Kept) → keptAfter g q k ≡ without-kept g (q .sandbox) k (q .p1) (q .p2)
-  unfolding slotsAfter bytesAfter copyAfter frontAfter backAfter copiedBackAfter
+  unfolding slotsAfter bytesAfter copyAfter frontAfter backAfter copiedBackAfter runsAfter
   same-kept k = rw (u .called)
 
   accepted-after : numberAt g (upTo g qs) q ≡ 0

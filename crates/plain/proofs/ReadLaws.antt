@@ -7,7 +7,7 @@ use borrow.Author.Tests.{eqb-true}
 use Rattle.basics.proofs.TestLaws.{by-cases, when-cases, or-left, or-right}
 use Rattle.basics.proofs.RangeLaws.{over-cases, over-both}
 use Rattle.interface.specs.declared.request.Request.{Request}
-use Rattle.interface.specs.Requests.{_is_, Snapshot, pageOf}
+use Rattle.interface.specs.Requests.{_is_, Map, Snapshot, pageOf}
 use Rattle.interface.specs.Slots.{isMapped, isCommitted, isUncommitted, backingAt, copied}
 use Rattle.interface.specs.Outcome.{slotsAfter, copyAfter}
 use Rattle.interface.specs.Refusals.{isTaken}
@@ -19,6 +19,7 @@ use Rattle.interface.proofs.AcceptedLaws.{accepted}
 use Rattle.plain.specs.Machine.{Given, Kept, Plain, fresh, copySlots, copyBytes, stored, backingByte, viewOf, shares, numberAt, after}
 use Rattle.plain.specs.Machine.{bytesAfter, frontAfter, backAfter, keptAfter}
 use Rattle.plain.specs.Claims.{Keeps, Holds, Reads}
+use Rattle.plain.proofs.RunLaws.{map-front-old}
 
 module _ (g : Given) (q : Request) (k : Kept) (total : ℕ) (a : Accepted (viewOf g total (k .core)) q) (h : Keeps k) (r : Reads g k) where
   -- a write leaves the bytes of a page that has no front after it
@@ -29,13 +30,25 @@ module _ (g : Given) (q : Request) (k : Kept) (total : ℕ) (a : Accepted (viewO
   none-old : (i : ℕ) → isTaken (copySlots (k .core)) ≡ false → isCommitted (k .core .pages .slots i) ≡ false
   none-old i t = by-cases (isCommitted (k .core .pages .slots i)) (λ c. absurd (untaken-copied (copySlots (k .core)) i t (h .committedIn i c))) (λ c. c)
 
+  -- a map: of a page that had no front before
+  old-map : q .code ≡ Map → (i : ℕ) → isCommitted (keptAfter g q k .core .pages .slots i) ≡ true → k .traces .front i ≡ false
+      → keptAfter g q k .core .pages .bytes i ≡ copyBytes (keptAfter g q k .core .copy) i
+  unfolding slotsAfter bytesAfter copyAfter
+  old-map e i =
+      rw e
+      (over-both (λ x y. isCommitted x ≡ true → k .traces .front i ≡ false → y ≡ copyBytes (k .core .copy) i) _ _ _ _ _ _ i (λ c. absurd (false≢true c)) (r .old i))
+
+  new-map : q .code ≡ Map → (i : ℕ) → isUncommitted (keptAfter g q k .core .pages .slots i) ≡ true → k .traces .front i ≡ false
+      → keptAfter g q k .core .pages .bytes i ≡ backingByte (g .image) (backingAt (keptAfter g q k .core .pages .slots i))
+  unfolding slotsAfter bytesAfter
+  new-map e i =
+      rw e
+      (over-both (λ x y. isUncommitted x ≡ true → k .traces .front i ≡ false → y ≡ backingByte (g .image) (backingAt x)) _ _ _ _ _ _ i (λ _ _. refl) (r .new i))
+
   old′ : Kind q → (i : ℕ) → isCommitted (keptAfter g q k .core .pages .slots i) ≡ true → keptAfter g q k .traces .front i ≡ false
       → keptAfter g q k .core .pages .bytes i ≡ copyBytes (keptAfter g q k .core .copy) i
   unfolding slotsAfter bytesAfter frontAfter copyAfter
-  old′ (isMap e) i =
-      rw e
-      (over-both (λ x y. isCommitted x ≡ true → k .traces .front i ≡ false → y ≡ copyBytes (k .core .copy) i) _ _ _ _ _ _ i
-      (λ c. absurd (false≢true c)) (r .old i))
+  old′ (isMap e) i = λ c f. old-map e i c (map-front-old q (k .core .pages .slots) (k .traces) e i f)
   old′ (isUnmap e) i =
       rw e
       (over-both (λ x y. isCommitted x ≡ true → y ≡ false → k .core .pages .bytes i ≡ copyBytes (k .core .copy) i) _ _ _ _ _ _ i
@@ -52,9 +65,7 @@ module _ (g : Given) (q : Request) (k : Kept) (total : ℕ) (a : Accepted (viewO
   new′ : Kind q → (i : ℕ) → isUncommitted (keptAfter g q k .core .pages .slots i) ≡ true → keptAfter g q k .traces .front i ≡ false
       → keptAfter g q k .core .pages .bytes i ≡ backingByte (g .image) (backingAt (keptAfter g q k .core .pages .slots i))
   unfolding slotsAfter bytesAfter frontAfter
-  new′ (isMap e) i =
-      rw e
-      (over-both (λ x y. isUncommitted x ≡ true → k .traces .front i ≡ false → y ≡ backingByte (g .image) (backingAt x)) _ _ _ _ _ _ i (λ _ _. refl) (r .new i))
+  new′ (isMap e) i = λ c f. new-map e i c (map-front-old q (k .core .pages .slots) (k .traces) e i f)
   new′ (isUnmap e) i =
       rw e
       (over-both (λ x y. isUncommitted x ≡ true → y ≡ false → k .core .pages .bytes i ≡ backingByte (g .image) (backingAt x)) _ _ _ _ _ _ i

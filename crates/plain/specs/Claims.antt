@@ -16,7 +16,7 @@ use Rattle.interface.specs.Limits.{within}
 use Rattle.interface.specs.Refusals.{isTaken}
 use Rattle.interface.specs.Examples.{ok, refused, call, inSandbox}
 use Rattle.interface.specs.Gaps.{Unmaps, mappedAlone, allOk}
-use Rattle.plain.specs.Machine.{Given, Core, Kept, Plain, fresh, closed, copySlots, copyBytes, backingByte, shares, viewOf}
+use Rattle.plain.specs.Machine.{Given, Core, Kept, Plain, fresh, closed, held, copySlots, copyBytes, backingByte, shares, viewOf}
 use Rattle.plain.specs.Machine.{numberAt, answer, answers, after, afterAll}
 use Rattle.plain.specs.Lists.{upTo, Then, naming, toldLater, Rewound}
 
@@ -51,6 +51,8 @@ pub record Keeps (k : Kept) : Type 0 where
   pub frontMapped : (i : ℕ) → k .traces .front i ≡ true → isMapped (k .core .pages .slots i) ≡ true
   pub committedIn : (i : ℕ) → isCommitted (k .core .pages .slots i) ≡ true → isMapped (copied (copySlots (k .core)) i) ≡ true
   pub backIn : (i : ℕ) → k .traces .back i ≡ true → isMapped (copied (copySlots (k .core)) i) ≡ true
+  -- fronts, backs and kept frames "stay within the share" (A3)
+  pub inShare : held (k .traces) ≤ k .core .share
   -- the back marks are always those of the copy
   pub backCopied : k .traces .back ≡ k .traces .copiedBack
   -- no page past 63

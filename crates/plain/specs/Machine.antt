@@ -1,12 +1,13 @@
 -- The plain machine: "The plain machine is fed each call's code, sandbox and parameters, with the image and the pool's number of frames".
 use Prim.Native.Nat.{ℕ, _+_, _-_, _*_, _/_}
-use mathlib.Core.Bool.{Bool, true, false, _&&_, _||_}
+use mathlib.Core.Bool.{Bool, true, false, not, _&&_, _||_}
 use mathlib.Core.Option.{Option, some, none, Option·map}
 use mathlib.Core.List.{List, [], _∷_}
 use lib.Dec.{eqb}
 use lib.ListN.{length, getD}
 use Rattle.basics.specs.Choice.{_when_else_}
 use Rattle.basics.specs.Ranges.{count, sum, over, alike}
+use Rattle.basics.specs.Rows.{inPlace}
 use Rattle.interface.specs.declared.page.Backing.{Backing}
 use Rattle.interface.specs.declared.page.Backing.the-variants.{Anonymous, Image}
 use Rattle.interface.specs.declared.page.Slot.the-variants.{Unmapped}
@@ -17,6 +18,7 @@ use Rattle.interface.specs.Slots.{Slots, isCommitted, advance, mappedPages, cop
 use Rattle.interface.specs.Compare.{lowestDifference}
 use Rattle.interface.specs.Outcome.{firstOf, slotsAfter, copyAfter, shareAfter}
 use Rattle.interface.specs.Refusals.{View, refusal}
+use Rattle.interface.specs.Runs.{runPlaces, takesRun, runFor, granted, longestRun, givesUp, runsRewound}
 
 -- "with the image and the pool's number of frames"
 pub record Given : Type 0 where
@@ -37,11 +39,13 @@ pub record Core : Type 0 where
   pub copy : Option Pages
 
 -- What only call 9 reads: "two marks more, front and back" of each page, and the back marks of the copy. (The copy has no front marks:
--- a snapshot "turns front marks into back marks and copies all pages".)
+-- a snapshot "turns front marks into back marks and copies all pages".) And "For call 9 the plain machine also carries run lengths and ages" (A3): the
+-- lengths of the runs in 8 places, the oldest first; 0 in a place without a run.
 pub record Traces : Type 0 where
   pub front : ℕ → Bool
   pub back : ℕ → Bool
   pub copiedBack : ℕ → Bool
+  pub runs : ℕ → ℕ
 
 -- "For each sandbox it keeps"
 pub record Kept : Type 0 where
@@ -56,7 +60,7 @@ Plain = ℕ → Kept
 abbrev pub closed : Kept
 closed = record {
   core = record { opened = false; share = 0; pages = record { slots = λ i. Unmapped; bytes = λ i j. 0 }; copy = none };
-  traces = record { front = λ i. false; back = λ i. false; copiedBack = λ i. false };
+  traces = record { front = λ i. false; back = λ i. false; copiedBack = λ i. false; runs = λ i. 0 };
 }
 
 abbrev pub fresh : Plain
@@ -105,15 +109,20 @@ coreAfter g q c = record {
   copy = copyAfter q (pagesAfter g q c) (c .copy);
 }
 
--- "Unmap takes away .. front mark"; "Write .. sets its page's front mark"; "Snapshot .. turns front marks into back marks";
--- Rewind: "a front mark stays only where the page was still committed"
-unfoldable pub frontAfter : Request → Slots → (ℕ → Bool) → ℕ → Bool
-frontAfter q f front =
-    over (q .p1) (q .p2) (λ i. false) front when q is Unmap else
-    (λ i. eqb i (pageOf q) || front i) when q is Write else
+-- the frames held: "report counts front and back marks", and kept frames "count in call 9"
+unfoldable pub held : Traces → ℕ
+held t = count (t .front) 64 + count (t .back) 64 + sum (t .runs) runPlaces
+
+-- A map that takes a run: "The first new pages get these frames as fronts". "Unmap takes away .. front mark"; "Write .. sets its page's front mark";
+-- "Snapshot .. turns front marks into back marks"; Rewind: "a front mark stays only where the page was still committed"
+unfoldable pub frontAfter : Request → Slots → Traces → ℕ → Bool
+frontAfter q f t =
+    over (firstOf f q) (granted (q .p2) (t .runs)) (λ i. true) (t .front) when takesRun q else
+    over (q .p1) (q .p2) (λ i. false) (t .front) when q is Unmap else
+    (λ i. eqb i (pageOf q) || t .front i) when q is Write else
     (λ i. false) when q is Snapshot else
-    (λ i. front i && isCommitted (f i)) when q is Rewind else
-    front
+    (λ i. t .front i && isCommitted (f i)) when q is Rewind else
+    t .front
 
 -- "Snapshot .. turns front marks into back marks and copies all pages"; "Rewind puts the whole copy in place"
 unfoldable pub backAfter : Request → Traces → ℕ → Bool
@@ -125,17 +134,30 @@ backAfter q t =
 unfoldable pub copiedBackAfter : Request → Traces → ℕ → Bool
 copiedBackAfter q t = t .front when q is Snapshot else t .copiedBack
 
-abbrev pub tracesAfter : Request → Slots → Traces → Traces
-tracesAfter q f t = record { front = frontAfter q f (t .front); back = backAfter q t; copiedBack = copiedBackAfter q t }
+-- a run without some of its frames
+abbrev pub lessBy : ℕ → ℕ → (ℕ → ℕ) → ℕ → ℕ
+lessBy place frames runs = inPlace place (runs place - frames) runs
+
+-- A map that takes a run takes so many of its frames, "a surplus stays kept with its age"; a write above the share: "one frame of the longest run is given up"
+unfoldable pub runsAfter : Request → Slots → ℕ → Traces → ℕ → ℕ
+runsAfter q f share t =
+    lessBy (runFor (q .p2) (t .runs)) (granted (q .p2) (t .runs)) (t .runs) when takesRun q else
+    lessBy (longestRun (t .runs)) 1 (t .runs) when q is Write && givesUp (t .front (pageOf q)) share (held t) else
+    runsRewound f (t .front) (t .runs) when q is Rewind else
+    t .runs
+
+abbrev pub tracesAfter : Request → Core → Traces → Traces
+tracesAfter q c t = record {
+  front = frontAfter q (c .pages .slots) t;
+  back = backAfter q t;
+  copiedBack = copiedBackAfter q t;
+  runs = runsAfter q (c .pages .slots) (c .share) t;
+}
 
 abbrev pub keptAfter : Given → Request → Kept → Kept
-keptAfter g q k = record { core = coreAfter g q (k .core); traces = tracesAfter q (k .core .pages .slots) (k .traces) }
+keptAfter g q k = record { core = coreAfter g q (k .core); traces = tracesAfter q (k .core) (k .traces) }
 
 -- ---- the values
-
--- "report counts front and back marks"
-unfoldable pub held : Traces → ℕ
-held t = count (t .front) 64 + count (t .back) 64
 
 -- request A1: "the lowest page number at which the sandbox and its snapshot differ in being mapped, in rights or in bytes", all 256 bytes compared
 unfoldable pub differing : Core → ℕ

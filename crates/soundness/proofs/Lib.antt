@@ -1,2 +1,3 @@
 pub mod SandboxLaws
 pub mod StateLaws
+pub mod SpareLaws

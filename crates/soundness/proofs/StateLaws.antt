@@ -7,7 +7,7 @@ use lib.Dec.{leb}
 use lib.ListN.{length}
 use Rattle.marks.specs.Marks.{marksb}
 use Rattle.state.specs.World.{World, sharesOf, framesOf, pagesIn, lengthsOk}
-use Rattle.state.specs.Test.{sandboxesOk, soundb}
+use Rattle.state.specs.Test.{sandboxesOk, keptOk, soundb}
 
 module _ (image : List ℕ) (w : World) where
   pub lengths-fail : lengthsOk (length (w .store .pool)) (length (w .store .table)) (length image) ≡ false → false ≡ soundb image w
@@ -24,6 +24,10 @@ module _ (image : List ℕ) (w : World) where
       unfolding soundb
       sandboxes-fail e = rw (lengths, marks, e)
 
-      pub shares-decide : sandboxesOk (pagesIn (length image)) w ≡ true → leb (sharesOf w) (framesOf w) ≡ soundb image w
+      pub kept-fails : sandboxesOk (pagesIn (length image)) w ≡ true → keptOk w ≡ false → false ≡ soundb image w
       unfolding soundb
-      shares-decide e = rw (lengths, marks, e)
+      kept-fails e d = rw (lengths, marks, e, d)
+
+      pub shares-decide : sandboxesOk (pagesIn (length image)) w ≡ true → keptOk w ≡ true → leb (sharesOf w) (framesOf w) ≡ soundb image w
+      unfolding soundb
+      shares-decide e d = rw (lengths, marks, e, d)

@@ -3,4 +3,5 @@
 // and a start that gives the fresh state and clears pool and table, or refuses and clears nothing.
 // It stands on `state`, whose definitions it computes, and on `areas`, `marks` and `table`.
 pub mod sound;
+pub mod spare;
 pub mod start;

@@ -9,6 +9,7 @@ ghost use Rattle.table.specs.Store.{kept};
 ghost use Rattle.areas.specs.Walk.{Formed};
 ghost use Rattle.state.specs.World.{worldOf, closedSandbox, wholePages, lengthsOk};
 ghost use Rattle.state.specs.Test.{namesNone, pageOk, pagesOk, recordOk, sandboxOk, soundb};
+use crate::spare::kept_ok;
 use areas::area::Areas;
 use areas::slot::backing_at;
 use areas::slot::follows;
@@ -35,6 +36,9 @@ pub fn sound(m: Machine, pool: &[u8], table: &[u16], image: &[u8]) -> bool
     }
     let sandboxes = m.sandboxes;
     if !sandboxes_ok(sandboxes, table, images) {
+        return false;
+    }
+    if !kept_ok(sandboxes, held, pool, table, frames) {
         return false;
     }
     shares(sandboxes) <= frames as u16

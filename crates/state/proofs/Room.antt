@@ -9,18 +9,22 @@ use lib.ListN.{length}
 use borrow.Author.Tests.{eqb-true, eqb-false}
 use Rattle.basics.specs.Ranges.{one, count, sum}
 use Rattle.basics.proofs.TestLaws.{by-cases}
+use Rattle.basics.proofs.CountLaws.{sum-plus}
 use Rattle.interface.specs.Slots.{isMapped, mappedPages}
+use Rattle.interface.specs.Runs.{longestRun}
 use Rattle.interface.proofs.ChargeLaws.{charge-covers}
+use Rattle.interface.proofs.RunLaws.{longest-some}
 use Rattle.frames.specs.Frames.{held}
-use Rattle.frames.proofs.GreatestLaws.{greatest-found}
 use Rattle.marks.specs.Named.{used, usedBelow}
 use Rattle.marks.specs.Marks.{from}
 use Rattle.marks.proofs.NamedLaws.{by-entry}
-use Rattle.marks.proofs.MarkLaws.{used-add, used-parts, free-there, past-end}
+use Rattle.marks.proofs.MarkLaws.{used-add, used-parts}
 use Rattle.table.specs.Store.{Store, entry, frontOf, backOf}
+use Rattle.kept.specs.Spare.{lengths, keptAt, keptBy}
+use Rattle.kept.proofs.SpareLaws.{frame-there as frame-kept}
 use Rattle.areas.specs.Areas.{slots}
 use Rattle.state.specs.declared.sandbox.Sandbox.{Sandbox}
-use Rattle.state.specs.World.{World, sandboxAt, copyOf, framesOf, pagesIn}
+use Rattle.state.specs.World.{World, sandboxAt, copyOf, framesOf, pagesIn, rowsOf}
 use Rattle.state.specs.Sound.{SoundAt, Sound}
 use Rattle.state.proofs.SettledLaws.{copied-slots}
 
@@ -99,24 +103,30 @@ module _ (images : ℕ) (st : Store) (s : ℕ) (b : Sandbox) (S : SoundAt images
 
 -- ---- the world
 
+-- fronts, backs and kept frames of sandbox s
+abbrev pub holds : World → ℕ → ℕ
+holds w s = usedBelow (from (s * 128) (w .store .table)) 128 + keptBy (rowsOf w s)
+
 module _ (image : List ℕ) (w : World) (S : Sound image w) (s i : ℕ) (l : s < 4) (k : i < 64)
     (m : isMapped (slots (sandboxAt w s .present) i) ≡ true) (e : entry (w .store) (frontOf s i) ≡ 0) where
-  -- where a mapped page has no front, fewer entries name a frame than the pool has frames
-  pub room : usedBelow (entry (w .store)) 512 < framesOf w
-  room =
+  -- where a sandbox holds fewer frames than its share, entries and runs together hold fewer than the pool has
+  pub room : holds w s < sandboxAt w s .share → usedBelow (entry (w .store)) 512 + sum (λ t. keptBy (rowsOf w t)) 4 < framesOf w
+  room h =
       omega (
         arith,
         used-parts (entry (w .store)) 128 4,
         S .pooled,
-        sum-less (λ t. usedBelow (from (t * 128) (w .store .table)) 128) (λ t. sandboxAt w t .share) 4 s
-            (λ t d. holds-share (pagesIn (length image)) (w .store) t (sandboxAt w t) (S .each t d)) l
-            (holds-less (pagesIn (length image)) (w .store) s (sandboxAt w s) (S .each s l) i k m e),
+        sum-plus (λ t. usedBelow (from (t * 128) (w .store .table)) 128) (λ t. keptBy (rowsOf w t)) 4,
+        sum-less (λ t. holds w t) (λ t. sandboxAt w t .share) 4 s (λ t d. S .each t d .inShare) l h,
       )
 
-  -- so a frame of the pool is not held
-  pub frame-there : (f : ℕ) × ((f < framesOf w) × (held (w .store .marks) f ≡ 0))
-  frame-there =
-      let there = free-there (framesOf w) (S .filed .few) (w .store .marks) (entry (w .store)) (S .filed .names) 512
-      (past-end (w .store .table) (S .filed .entries)) room in
-      let found = greatest-found (held (w .store .marks)) (framesOf w) (there .0) (there .1) in
-      (there .0 .0, (found .within, found .free))
+  -- so a frame of the pool is neither named nor kept
+  pub frame-there : holds w s < sandboxAt w s .share → (f : ℕ) × ((f < framesOf w) × ((held (w .store .marks) f ≡ 0) × (keptAt (rowsOf w) f ≡ 0)))
+  frame-there h = frame-kept 256 (framesOf w) (w .store) (rowsOf w) (S .filed) (S .spare) (room h)
+
+  -- and where it holds as many as its share, it keeps a frame to give up: fronts and backs leave room for the page's front
+  pub kept-there : sandboxAt w s .share ≤ holds w s → 1 ≤ lengths (rowsOf w s) (longestRun (lengths (rowsOf w s)))
+  unfolding keptBy
+  kept-there h =
+      longest-some (lengths (rowsOf w s))
+      (omega (arith, h, holds-less (pagesIn (length image)) (w .store) s (sandboxAt w s) (S .each s l) i k m e))

@@ -5,9 +5,10 @@ use mathlib.Core.List.{List}
 use Prim.Native.Nat.{ℕ, _+_, _*_, _%_, _≤_, _<_}
 use native.Mathlib.Omega.{arith}
 use lib.Dec.{leb, ltb, eqb}
-use lib.ListN.{length}
+use lib.ListN.{length, getD-replicate}
 use borrow.Author.Tests.{eq-eqb, eqb-true, leb-true, le-leb, not-true, ltb-true, ltb-false}
 use Rattle.basics.specs.Choice.{implies}
+use Rattle.basics.specs.Ranges.{every}
 use Rattle.basics.proofs.TestLaws.{by-cases, never, and-both, and-of, implied, implies-of}
 use Rattle.basics.proofs.LoopLaws.{every-at, every-of}
 use Rattle.interface.specs.declared.page.Backing.{Backing}
@@ -16,9 +17,18 @@ use Rattle.interface.specs.declared.page.Slot.{Slot}
 use Rattle.interface.specs.Slots.{isMapped, isCommitted, backingAt, follows, chargeOf}
 use Rattle.interface.specs.Limits.{between}
 use Rattle.interface.proofs.SlotLaws.{committed-mapped, Inside}
-use Rattle.marks.specs.Marks.{marksb}
+use Rattle.frames.specs.Frames.{noneHeld, sameHeld}
+use Rattle.frames.proofs.FrameLaws.{same-held-true, same-held-of}
+use Rattle.marks.specs.Named.{usedBelow}
+use Rattle.marks.specs.Marks.{from, marksb}
 use Rattle.marks.proofs.MarkLaws.{marksb-named, named-marksb}
-use Rattle.table.specs.Store.{Store, entry, frontOf, backOf}
+use Rattle.table.specs.Store.{Store, entry, frontOf, backOf, Filed}
+use Rattle.runs.specs.declared.Runs.{Runs}
+use Rattle.runs.specs.Row.{row, noRuns}
+use Rattle.runs.proofs.RowLaws.{no-runs}
+use Rattle.kept.specs.Spare.{keptBy}
+use Rattle.kept.specs.Test.{spareb}
+use Rattle.kept.proofs.TestLaws.{spare-true, spare-of}
 use Rattle.areas.specs.declared.area.Areas.{Areas}
 use Rattle.areas.specs.Areas.{slots, empty, Bounded}
 use Rattle.areas.specs.Formed.{WellFormed, wellFormed}
@@ -28,9 +38,9 @@ use Rattle.areas.proofs.FormedLaws.{formed, formed-of}
 use Rattle.areas.proofs.KeptLaws.{slots-bounded}
 use Rattle.areas.proofs.ChangeLaws.{formed-empty}
 use Rattle.state.specs.declared.sandbox.Sandbox.{Sandbox}
-use Rattle.state.specs.World.{World, sandboxAt, copyOf, framesOf, pagesIn, wholePages, lengthsOk}
+use Rattle.state.specs.World.{World, sandboxAt, copyOf, framesOf, pagesIn, wholePages, lengthsOk, rowsOf}
 use Rattle.state.specs.Sound.{SoundAt, Sound}
-use Rattle.state.specs.Test.{Typed, pageOk, pagesOk, recordOk, sandboxOk, sandboxesOk, soundb}
+use Rattle.state.specs.Test.{Typed, pageOk, pagesOk, noneKept, runsOk, recordOk, sandboxOk, sandboxesOk, runsOkAt, keptOk, soundb}
 
 not-of : (a : Bool) → a ≡ false → not a ≡ true
 not-of a e = rw e
@@ -143,6 +153,36 @@ record-of opened share taken presentAreas snapshotAreas R =
     (implies-of (not opened) (eqb share 0 && (eqb presentAreas 0 && not taken))
     (λ o. let n = R .closed (not-true opened o) in and-of (eq-eqb share 0 (n .0)) (and-of (eq-eqb presentAreas 0 (n .1)) (not-of taken (n .2))))))
 
+-- ---- the runs of a sandbox
+
+record RunsSound (st : Store) (s : ℕ) (opened : Bool) (share : ℕ) (r : Runs) : Type 0 where
+  places : length (r .list) ≡ 8
+  inShare : usedBelow (from (s * 128) (st .table)) 128 + keptBy (row r) ≤ share
+  closed : opened ≡ false → r ≡ noRuns
+
+runs-true : (st : Store) (s : ℕ) (opened : Bool) (share : ℕ) (r : Runs) → runsOk st s opened share r ≡ true → RunsSound st s opened share r
+unfolding runsOk noneKept
+runs-true st s opened share r h =
+    let h₁ = and-both (eqb (length (r .list)) 8) _ h in
+    let h₂ = and-both (leb (usedBelow (from (s * 128) (st .table)) 128 + keptBy (row r)) share) _ (h₁ .1) in
+    let eight : length (r .list) ≡ 8 = eqb-true _ 8 (h₁ .0) in
+    let none : Bool = every (λ i. sameHeld (row r i) noneHeld) 0 8 in
+    record {
+      places = eight;
+      inShare = leb-true _ _ (h₂ .0);
+      closed = λ o. no-runs r eight (λ i l. same-held-true (row r i) noneHeld
+          (every-at (λ i. sameHeld (row r i) noneHeld) 0 8 (implied (not opened) none (h₂ .1) (not-of opened o)) i (omega arith) (omega arith)));
+    }
+
+runs-of : (st : Store) (s : ℕ) (opened : Bool) (share : ℕ) (r : Runs) → RunsSound st s opened share r → runsOk st s opened share r ≡ true
+unfolding runsOk noneKept
+runs-of st s opened share r R =
+    and-of (eq-eqb _ 8 (R .places))
+    (and-of (le-leb _ _ (R .inShare))
+    (implies-of (not opened) (every (λ i. sameHeld (row r i) noneHeld) 0 8)
+    (λ o. rw (R .closed (not-true opened o)) (every-of (λ i. sameHeld (row noRuns i) noneHeld) 0 8
+    (λ i a b. same-held-of (row noRuns i) noneHeld (getD-replicate 8 i noneHeld noneHeld (omega arith)))))))
+
 -- ---- a sandbox
 
 -- "lie in 0 to 63": no page past 63 is mapped
@@ -172,13 +212,14 @@ module _ (images : ℕ) (st : Store) (s : ℕ) (b : Sandbox) where
         backs = S .backs i (omega arith);
       }))
 
-  pub sandbox-true : sandboxOk images st s b ≡ true → SoundAt images st s b
+  pub sandbox-true : runsOk st s (b .opened) (b .share) (b .runs) ≡ true → sandboxOk images st s b ≡ true → SoundAt images st s b
   unfolding sandboxOk
-  sandbox-true h =
+  sandbox-true r h =
       let h₁ = and-both (wellFormed images (b .present)) _ h in
       let h₂ = and-both (wellFormed images (b .snapshot)) _ (h₁ .1) in
       let h₃ = and-both (pagesOk st s (b .present) (b .snapshot)) _ (h₂ .1) in
       let h₄ = and-both (leb (chargeOf (slots (b .present)) (copyOf b)) (b .share)) _ (h₃ .1) in
+      let K = runs-true st s (b .opened) (b .share) (b .runs) r in
       let P : WellFormed images (b .present) = formed images (b .present) (h₁ .0) in
       let C : WellFormed images (b .snapshot) = formed images (b .snapshot) (h₂ .0) in
       let page = pages-true (h₃ .0) in
@@ -196,12 +237,14 @@ module _ (images : ℕ) (st : Store) (s : ℕ) (b : Sandbox) where
         backs = λ i l. page i l .backs;
         charged = leb-true _ _ (h₄ .0);
         shared = R .shared;
+        inShare = K .inShare;
+        places = K .places;
         untaken = none;
         closed = λ o.
             let n = R .closed o in
             let x = formed-empty images (b .present) P (n .1) in
             let y = none (n .2) in
-            λ i. record { opened = o i; share = n .0 i; present = x i; taken = n .2 i; snapshot = y i };
+            λ i. record { opened = o i; share = n .0 i; present = x i; taken = n .2 i; snapshot = y i; runs = K .closed o i };
       }
 
   pub sandbox-of : SoundAt images st s b → sandboxOk images st s b ≡ true
@@ -219,46 +262,59 @@ module _ (images : ℕ) (st : Store) (s : ℕ) (b : Sandbox) where
             (ap (λ (c : Sandbox). c .share) e, ap (λ (c : Sandbox). c .present .count) e, ap (λ (c : Sandbox). c .taken) e);
       })))))
 
+  pub runs-sound : SoundAt images st s b → runsOk st s (b .opened) (b .share) (b .runs) ≡ true
+  runs-sound S =
+      runs-of st s (b .opened) (b .share) (b .runs) (record {
+        places = S .places;
+        inShare = S .inShare;
+        closed = λ o. ap (λ (c : Sandbox). c .runs) (S .closed o);
+      })
+
 -- ---- the world
 
 module _ (images : ℕ) (w : World) where
   abbrev sandboxPasses : ℕ → Bool
   sandboxPasses s = sandboxOk images (w .store) s (sandboxAt w s)
 
-  pub sandboxes-true : sandboxesOk images w ≡ true → (s : ℕ) → s < 4 → SoundAt images (w .store) s (sandboxAt w s)
+  pub sandboxes-true : every (runsOkAt w) 0 4 ≡ true → sandboxesOk images w ≡ true → (s : ℕ) → s < 4 → SoundAt images (w .store) s (sandboxAt w s)
   unfolding sandboxesOk
-  sandboxes-true h s l = sandbox-true images (w .store) s (sandboxAt w s) (every-at sandboxPasses 0 4 h s (omega arith) (omega arith))
+  sandboxes-true r h s l = sandbox-true images (w .store) s (sandboxAt w s) (every-at (runsOkAt w) 0 4 r s (omega arith) (omega arith)) (every-at sandboxPasses 0 4 h s (omega arith) (omega arith))
 
   pub sandboxes-of : ((s : ℕ) → s < 4 → SoundAt images (w .store) s (sandboxAt w s)) → sandboxesOk images w ≡ true
   unfolding sandboxesOk
   sandboxes-of each = every-of sandboxPasses 0 4 (λ s l d. sandbox-of images (w .store) s (sandboxAt w s) (each s (omega arith)))
 
 pub sound-true : (image : List ℕ) (w : World) → Typed w → soundb image w ≡ true → Sound image w
-unfolding soundb
+unfolding soundb keptOk
 sound-true image w T h =
     let h₁ = and-both (lengthsOk (length (w .store .pool)) (length (w .store .table)) (length image)) _ h in
     let h₂ = and-both (marksb (framesOf w) (w .store .marks) (w .store .table)) _ (h₁ .1) in
     let h₃ = and-both (sandboxesOk (pagesIn (length image)) w) _ (h₂ .1) in
+    let h₄ = and-both (keptOk w) _ (h₃ .1) in
+    let h₅ = and-both (every (runsOkAt w) 0 4) (spareb (framesOf w) (w .store) (rowsOf w)) (h₄ .0) in
     let L = lengths-true (length (w .store .pool)) (length (w .store .table)) (length image) (h₁ .0) in
+    let F : Filed 256 (framesOf w) (w .store) = record {
+      few = L .few;
+      pages = L .pages;
+      entries = L .entries;
+      names = marksb-named (framesOf w) (w .store .marks) (w .store .table) (L .few) (L .entries) (h₂ .0);
+      low = T .low;
+      high = T .high;
+    } in
     record {
       frames = L .some;
       whole = L .whole;
       images = L .images;
       row = T .row;
-      filed = record {
-        few = L .few;
-        pages = L .pages;
-        entries = L .entries;
-        names = marksb-named (framesOf w) (w .store .marks) (w .store .table) (L .few) (L .entries) (h₂ .0);
-        low = T .low;
-        high = T .high;
-      };
-      each = sandboxes-true (pagesIn (length image)) w (h₃ .0);
-      pooled = leb-true _ _ (h₃ .1);
+      filed = F;
+      each = sandboxes-true (pagesIn (length image)) w (h₅ .0) (h₃ .0);
+      spare = spare-true (framesOf w) (w .store) (rowsOf w) F (h₅ .1);
+      words = T .words;
+      pooled = leb-true _ _ (h₄ .1);
     }
 
 pub sound-of : (image : List ℕ) (w : World) → Sound image w → soundb image w ≡ true
-unfolding soundb
+unfolding soundb keptOk
 sound-of image w S =
     and-of (lengths-of (length (w .store .pool)) (length (w .store .table)) (length image) (record {
       pages = S .filed .pages;
@@ -268,6 +324,9 @@ sound-of image w S =
       whole = S .whole;
       images = S .images;
     }))
+    (and-of (named-marksb (framesOf w) (w .store .marks) (w .store .table) (S .filed .few) (S .filed .entries) (S .filed .low) (S .filed .high) (S .filed .names))
+    (and-of (sandboxes-of (pagesIn (length image)) w (S .each))
     (and-of
-    (named-marksb (framesOf w) (w .store .marks) (w .store .table) (S .filed .few) (S .filed .entries) (S .filed .low) (S .filed .high) (S .filed .names))
-    (and-of (sandboxes-of (pagesIn (length image)) w (S .each)) (le-leb _ _ (S .pooled))))
+    (and-of (every-of (runsOkAt w) 0 4 (λ s l d. runs-sound (pagesIn (length image)) (w .store) s (sandboxAt w s) (S .each s (omega arith))))
+    (spare-of (framesOf w) (w .store) (rowsOf w) (S .filed) (S .words) (S .spare)))
+    (le-leb _ _ (S .pooled)))))

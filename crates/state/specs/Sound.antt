@@ -2,14 +2,18 @@
 use mathlib.Core.Path.{_≡_}
 use mathlib.Core.Bool.{true, false}
 use mathlib.Core.List.{List}
-use Prim.Native.Nat.{ℕ, _*_, _≤_, _<_}
+use Prim.Native.Nat.{ℕ, _+_, _*_, _≤_, _<_}
 use lib.ListN.{length}
 use Rattle.interface.specs.Slots.{isMapped, isCommitted, backingAt, chargeOf}
+use Rattle.marks.specs.Named.{usedBelow}
+use Rattle.marks.specs.Marks.{from}
 use Rattle.table.specs.Store.{Store, entry, frontOf, backOf, Filed}
+use Rattle.runs.specs.Row.{row}
+use Rattle.kept.specs.Spare.{keptBy, Spare, Words}
 use Rattle.areas.specs.Areas.{slots, empty}
 use Rattle.areas.specs.Formed.{WellFormed}
 use Rattle.state.specs.declared.sandbox.Sandbox.{Sandbox}
-use Rattle.state.specs.World.{World, sandboxAt, sharesOf, copyOf, framesOf, pagesIn, closedSandbox}
+use Rattle.state.specs.World.{World, sandboxAt, sharesOf, copyOf, framesOf, pagesIn, closedSandbox, rowsOf}
 
 -- of sandbox s, over an image of so many pages
 pub record SoundAt (images : ℕ) (st : Store) (s : ℕ) (b : Sandbox) : Type 0 where
@@ -27,6 +31,9 @@ pub record SoundAt (images : ℕ) (st : Store) (s : ℕ) (b : Sandbox) : Type 0 
   -- "the charge and share limits hold"
   pub charged : chargeOf (slots (b .present)) (copyOf b) ≤ b .share
   pub shared : b .opened ≡ true → (1 ≤ b .share) × (b .share ≤ 128)
+  -- kept frames "with fronts and backs stay within the share" (A3); "At most 8 runs are kept"
+  pub inShare : usedBelow (from (s * 128) (st .table)) 128 + keptBy (row (b .runs)) ≤ b .share
+  pub places : length (b .runs .list) ≡ 8
   -- "a sandbox without a snapshot has no committed page": the snapshot's areas are empty
   pub untaken : b .taken ≡ false → b .snapshot ≡ empty
   -- "a closed one has nothing"
@@ -41,5 +48,8 @@ pub record Sound (image : List ℕ) (w : World) : Type 0 where
   -- "entries name frames of the pool, no frame twice; the held marks are those frames", and the pool's and table's lengths
   pub filed : Filed 256 (framesOf w) (w .store)
   pub each : (s : ℕ) → s < 4 → SoundAt (pagesIn (length image)) (w .store) s (sandboxAt w s)
+  -- "Kept frames are held and zero, belong to one run and no entry" (A3)
+  pub spare : Spare 256 (framesOf w) (w .store) (rowsOf w)
+  pub words : (s : ℕ) → s < 4 → Words (rowsOf w s)
   -- "the shares together never exceed the pool"
   pub pooled : sharesOf w ≤ framesOf w

@@ -2,7 +2,7 @@
 use mathlib.Core.Path.{_≡_}
 use mathlib.Core.Bool.{Bool, not, _&&_}
 use mathlib.Core.List.{List}
-use Prim.Native.Nat.{ℕ, _^_, _<_}
+use Prim.Native.Nat.{ℕ, _+_, _*_, _^_, _<_}
 use lib.Dec.{leb, eqb}
 use lib.ListN.{length}
 use Rattle.basics.specs.Choice.{implies}
@@ -10,19 +10,26 @@ use Rattle.basics.specs.Ranges.{every}
 use Rattle.interface.specs.declared.page.Slot.{Slot}
 use Rattle.interface.specs.Slots.{isMapped, isCommitted, backingAt, follows, chargeOf}
 use Rattle.interface.specs.Limits.{between}
-use Rattle.marks.specs.Marks.{marksb}
+use Rattle.frames.specs.Frames.{noneHeld, sameHeld}
+use Rattle.marks.specs.Named.{usedBelow}
+use Rattle.marks.specs.Marks.{from, marksb}
 use Rattle.table.specs.Store.{Store, entry, frontOf, backOf}
+use Rattle.runs.specs.declared.Runs.{Runs}
+use Rattle.runs.specs.Row.{row}
+use Rattle.kept.specs.Spare.{keptBy, Words}
+use Rattle.kept.specs.Test.{spareb}
 use Rattle.areas.specs.declared.area.Areas.{Areas}
 use Rattle.areas.specs.Areas.{slots}
 use Rattle.areas.specs.Formed.{wellFormed}
 use Rattle.state.specs.declared.sandbox.Sandbox.{Sandbox}
-use Rattle.state.specs.World.{World, sandboxAt, sharesOf, copyOf, framesOf, pagesIn, lengthsOk}
+use Rattle.state.specs.World.{World, sandboxAt, sharesOf, copyOf, framesOf, pagesIn, lengthsOk, rowsOf}
 
 -- what the types of the state say, and no test need
 pub record Typed (w : World) : Type 0 where
   pub row : length (w .sandboxes) ≡ 4
   pub low : w .store .marks .low < 2 ^ 64
   pub high : w .store .marks .high < 2 ^ 64
+  pub words : (s : ℕ) → s < 4 → Words (rowsOf w s)
 
 -- of one page: its slot, the snapshot's, its front and its back entry
 unfoldable pub pageOk : Slot → Slot → ℕ → ℕ → Bool
@@ -46,6 +53,16 @@ recordOk opened share taken presentAreas snapshotAreas =
     implies opened (between 1 128 share)
     && (implies (not taken) (eqb snapshotAreas 0) && implies (not opened) (eqb share 0 && (eqb presentAreas 0 && not taken)))
 
+-- no run is kept
+unfoldable pub noneKept : Runs → Bool
+noneKept r = every (λ i. sameHeld (row r i) noneHeld) 0 8
+
+-- kept frames "with fronts and backs stay within the share"; a closed sandbox keeps none
+unfoldable pub runsOk : Store → ℕ → Bool → ℕ → Runs → Bool
+runsOk st s opened share r =
+    eqb (length (r .list)) 8
+    && (leb (usedBelow (from (s * 128) (st .table)) 128 + keptBy (row r)) share && implies (not opened) (noneKept r))
+
 unfoldable pub sandboxOk : ℕ → Store → ℕ → Sandbox → Bool
 sandboxOk images st s b =
     wellFormed images (b .present)
@@ -57,8 +74,16 @@ sandboxOk images st s b =
 unfoldable pub sandboxesOk : ℕ → World → Bool
 sandboxesOk images w = every (λ s. sandboxOk images (w .store) s (sandboxAt w s)) 0 4
 
+-- of the runs of every sandbox, and of the kept frames
+abbrev pub runsOkAt : World → ℕ → Bool
+runsOkAt w s = runsOk (w .store) s (sandboxAt w s .opened) (sandboxAt w s .share) (sandboxAt w s .runs)
+
+unfoldable pub keptOk : World → Bool
+keptOk w = every (runsOkAt w) 0 4 && spareb (framesOf w) (w .store) (rowsOf w)
+
 unfoldable pub soundb : List ℕ → World → Bool
 soundb image w =
     lengthsOk (length (w .store .pool)) (length (w .store .table)) (length image)
     && (marksb (framesOf w) (w .store .marks) (w .store .table)
-    && (sandboxesOk (pagesIn (length image)) w && leb (sharesOf w) (framesOf w)))
+    && (sandboxesOk (pagesIn (length image)) w
+    && (keptOk w && leb (sharesOf w) (framesOf w))))

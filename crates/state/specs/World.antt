@@ -10,7 +10,10 @@ use Rattle.basics.specs.Ranges.{sum}
 use Rattle.interface.specs.Slots.{Slots}
 use Rattle.interface.specs.Limits.{between}
 use Rattle.interface.specs.Refusals.{View}
+use Rattle.frames.specs.declared.Held.{Held}
 use Rattle.frames.specs.Frames.{noneHeld}
+use Rattle.runs.specs.declared.Runs.{Runs}
+use Rattle.runs.specs.Row.{row, noRuns}
 use Rattle.table.specs.Store.{Store, kept, fresh}
 use Rattle.areas.specs.declared.area.Areas.{Areas}
 use Rattle.areas.specs.Areas.{empty, slots}
@@ -27,7 +30,7 @@ worldOf m pool table = record { sandboxes = m .sandboxes; store = kept (m .held)
 
 -- a closed sandbox has nothing
 abbrev pub closedSandbox : Sandbox
-closedSandbox = record { opened = false; share = 0; present = empty; taken = false; snapshot = empty }
+closedSandbox = record { opened = false; share = 0; present = empty; taken = false; snapshot = empty; runs = noRuns }
 
 -- "A fresh state has four closed sandboxes and no held frame"
 abbrev pub freshMachine : Machine
@@ -43,19 +46,26 @@ sandboxAt w s = getD (w .sandboxes) s closedSandbox
 
 -- one setter for each field of a sandbox
 abbrev pub withOpened : Bool → Sandbox → Sandbox
-withOpened x b = record { opened = x; share = b .share; present = b .present; taken = b .taken; snapshot = b .snapshot }
+withOpened x b = record { opened = x; share = b .share; present = b .present; taken = b .taken; snapshot = b .snapshot; runs = b .runs }
 
 abbrev pub withShare : ℕ → Sandbox → Sandbox
-withShare x b = record { opened = b .opened; share = x; present = b .present; taken = b .taken; snapshot = b .snapshot }
+withShare x b = record { opened = b .opened; share = x; present = b .present; taken = b .taken; snapshot = b .snapshot; runs = b .runs }
 
 abbrev pub withPresent : Areas → Sandbox → Sandbox
-withPresent x b = record { opened = b .opened; share = b .share; present = x; taken = b .taken; snapshot = b .snapshot }
+withPresent x b = record { opened = b .opened; share = b .share; present = x; taken = b .taken; snapshot = b .snapshot; runs = b .runs }
 
 abbrev pub withTaken : Bool → Sandbox → Sandbox
-withTaken x b = record { opened = b .opened; share = b .share; present = b .present; taken = x; snapshot = b .snapshot }
+withTaken x b = record { opened = b .opened; share = b .share; present = b .present; taken = x; snapshot = b .snapshot; runs = b .runs }
 
 abbrev pub withSnapshot : Areas → Sandbox → Sandbox
-withSnapshot x b = record { opened = b .opened; share = b .share; present = b .present; taken = b .taken; snapshot = x }
+withSnapshot x b = record { opened = b .opened; share = b .share; present = b .present; taken = b .taken; snapshot = x; runs = b .runs }
+
+abbrev pub withRuns : Runs → Sandbox → Sandbox
+withRuns x b = record { opened = b .opened; share = b .share; present = b .present; taken = b .taken; snapshot = b .snapshot; runs = x }
+
+-- the runs of kept frames of each sandbox, by their places
+abbrev pub rowsOf : World → ℕ → ℕ → Held
+rowsOf w s = row (sandboxAt w s .runs)
 
 -- a world with another sandbox in the place of s
 abbrev pub withSandbox : ℕ → Sandbox → World → World

@@ -4,19 +4,24 @@ ghost use Prim.Native.Nat.{_≤_};
 ghost use lib.ListN.{getD};
 ghost use Rattle.basics.specs.Ranges.{sum};
 ghost use Rattle.interface.specs.Slots.{chargeOf};
+ghost use Rattle.runs.specs.Row.{row};
+ghost use Rattle.kept.specs.Test.{keptTo};
 ghost use Rattle.areas.specs.Areas.{slots};
 ghost use Rattle.areas.specs.Walk.{Formed};
-ghost use Rattle.state.specs.World.{closedSandbox, freshMachine, withOpened, withShare, withPresent, withTaken, withSnapshot, copyOf};
+ghost use Rattle.state.specs.World.{closedSandbox, freshMachine, withOpened, withShare, withPresent, withTaken, withSnapshot, withRuns, copyOf};
 use areas::area::Areas;
 use frames::Held;
+use marks::Marks;
+use runs::Runs;
 
-// What is kept for a sandbox: whether it is open, its share, its areas, whether a snapshot was taken, and the snapshot's areas.
+// What is kept for a sandbox: whether it is open, its share, its areas, whether a snapshot was taken, the snapshot's areas, and the runs of kept frames.
 pub struct Sandbox {
     pub opened: bool,
     pub share: u8,
     pub present: Areas,
     pub taken: bool,
     pub snapshot: Areas,
+    pub runs: Runs,
 }
 
 // "Four sandboxes stand in a row, numbered 0 to 3"; "Held frames are marked one bit a frame".
@@ -48,12 +53,14 @@ impl Sandbox {
     {
         let present = Areas::empty();
         let snapshot = Areas::empty();
+        let runs = Runs::none();
         Sandbox {
             opened: false,
             share: 0,
             present: present,
             taken: false,
             snapshot: snapshot,
+            runs: runs,
         }
     }
 
@@ -98,6 +105,14 @@ impl Sandbox {
         b
     }
 
+    pub fn with_runs(self, runs: Runs) -> Sandbox
+        ensures { λ r. ⌜ r ≡ withRuns runs self ⌝ }
+    {
+        let mut b = self;
+        b.runs = runs;
+        b
+    }
+
     // The charge: "its mapped pages before a snapshot. Afterwards it is 2 × the snapshot's pages, mapped or not, plus the uncommitted mapped pages."
     pub fn charge(self) -> u8
         requires { ⌜ Formed (self .present) ⌝ }
@@ -123,4 +138,21 @@ pub fn shares(sandboxes: [Sandbox; 4]) -> u16
     let third = sandboxes[2];
     let fourth = sandboxes[3];
     first.share as u16 + second.share as u16 + third.share as u16 + fourth.share as u16
+}
+
+// The frames that the runs of all sandboxes keep.
+pub fn kept_marks(sandboxes: [Sandbox; 4]) -> Marks
+    ensures { λ r. ⌜ r ≡ keptTo (λ s. row (getD sandboxes s closedSandbox .runs)) 4 ⌝ }
+{
+    let mut found = Marks {
+        good: true,
+        held: Held::none(),
+    };
+    for s in 0..4u8 {
+        let k = s as usize;
+        let b = sandboxes[k];
+        let runs = b.runs;
+        found = kept::add_runs(found, runs);
+    }
+    found
 }

@@ -19,7 +19,7 @@ use Rattle.table.proofs.FiledLaws.{zero-times}
 
 -- ---- the contents after the run
 
-module _ {C : Type 0} (size n : ℕ) (first : ℕ) (s : Store) (t : Tidy C size n s) where
+module _ {C : ℕ → Type 0} (size n : ℕ) (first : ℕ) (s : Store) (t : Tidy C size n s) where
   pub freeTo-tidy : (i : ℕ) → Tidy C size n (freeTo size first s i)
   unfolding freeTo
   freeTo-tidy zero = t

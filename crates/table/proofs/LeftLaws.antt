@@ -96,7 +96,7 @@ unfolding moveTo move
 moveTo-pool first s zero = (refl, refl)
 moveTo-pool first s (suc n) = moveTo-pool first s n
 
-module _ {C : Type 0} (size n : ℕ) (s : Store) (t : Tidy C size n s) (f : ℕ) where
+module _ {C : ℕ → Type 0} (size n : ℕ) (s : Store) (t : Tidy C size n s) (f : ℕ) where
   put-left : (k e g b : ℕ) (ys : List ℕ) → g < n → b < 2 → length ys ≡ size → (f ≡ g → ⊥) → Left size f s (put size s k e g b ys)
   unfolding put
   put-left k e g b ys low two whole d =
@@ -139,7 +139,7 @@ module _ {C : Type 0} (size n : ℕ) (s : Store) (t : Tidy C size n s) (f : ℕ)
   take-left k g ys low whole d = put-left k (g + 1) g 1 ys low (omega arith) whole d
 
 -- a run of entries of which none names f
-module _ {C : Type 0} (size n : ℕ) (s : Store) (t : Tidy C size n s) (f first : ℕ) where
+module _ {C : ℕ → Type 0} (size n : ℕ) (s : Store) (t : Tidy C size n s) (f first : ℕ) where
   pub freeTo-left : (i : ℕ) → ((x : ℕ) → x < i → entry s (first + x) ≡ suc f → ⊥) → Left size f s (freeTo size first s i)
   unfolding freeTo
   freeTo-left zero d = left-same size f s
@@ -160,7 +160,7 @@ module _ {C : Type 0} (size n : ℕ) (s : Store) (t : Tidy C size n s) (f first 
 
 -- ---- a byte stored
 
-module _ {C : Type 0} (size n : ℕ) (s : Store) (t : Tidy C size n s) (k o b : ℕ) (low : o < size) where
+module _ {C : ℕ → Type 0} (size n : ℕ) (s : Store) (t : Tidy C size n s) (k o b : ℕ) (low : o < size) where
   -- 'A write changes one byte inside one frame's 256 bytes of the pool'
   pub byte-alone : (f : ℕ) → entry s k ≡ suc f → storeByte size k o b s ≡ kept (s .marks) (set (s .pool) (f * size + o) b) (s .table)
   unfolding storeByte fill
@@ -171,7 +171,7 @@ module _ {C : Type 0} (size n : ℕ) (s : Store) (t : Tidy C size n s) (k o b : 
       (byte-set size (s .pool) f o b low (fits-pool size n (s .pool) f (t .filed .pages) (t .filed .names .within k f e))))
 
 -- a byte of a page that took frame f with the bytes ys: one mark, one frame, one entry
-module _ {C : Type 0} (size n : ℕ) (s : Store) (t : Tidy C size n s) (k f : ℕ) (ys : List ℕ)
+module _ {C : ℕ → Type 0} (size n : ℕ) (s : Store) (t : Tidy C size n s) (k f : ℕ) (ys : List ℕ)
     (place : k < 512) (empty : entry s k ≡ 0) (below : f < n) (idle : held (s .marks) f ≡ 0) (whole : length ys ≡ size) where
   mid : Tidy C size n (take size k f ys s)
   mid = take-tidy size n s t k f ys place empty below idle whole

@@ -18,7 +18,7 @@ use Rattle.table.proofs.FreeLaws.{getD-clear}
 
 -- ---- one entry
 
-module _ {C : Type 0} (size n : ℕ) (s : Store) (t : Tidy C size n s) (k j : ℕ) (apart : k ≡ j → ⊥) (place : j < 512) (empty : entry s j ≡ 0) where
+module _ {C : ℕ → Type 0} (size n : ℕ) (s : Store) (t : Tidy C size n s) (k j : ℕ) (apart : k ≡ j → ⊥) (place : j < 512) (empty : entry s j ≡ 0) where
   moved-to : entry (move k j s) j ≡ entry s k
   unfolding move
   moved-to = getD-set-same (set (s .table) k 0) j (entry s k) 0 (omega (arith, length-set (s .table) k 0, t .filed .entries))
@@ -86,14 +86,14 @@ module _ {C : Type 0} (size n : ℕ) (s : Store) (t : Tidy C size n s) (k j : �
 -- ---- the pages of a sandbox
 
 -- r is s after its first i fronts went to their backs; the rest is every entry that is neither, and later are all past the i-th back
-pub record Moved (C : Type 0) (size n first : ℕ) (s : Store) (i : ℕ) (r : Store) : Type 0 where
+pub record Moved (C : ℕ → Type 0) (size n first : ℕ) (s : Store) (i : ℕ) (r : Store) : Type 0 where
   pub tidy : Tidy C size n r
   pub backs : (k : ℕ) → k < i → contents size r (first + k + 64) ≡ contents size s (first + k)
   pub fronts : (k : ℕ) → k < i → contents size r (first + k) ≡ none
   pub rest : (k : ℕ) → (k < first + i → k < first) → (first + 64 ≤ k → first + i + 64 ≤ k) → contents size r k ≡ contents size s k
   pub later : (k : ℕ) → first + i + 64 ≤ k → contents size r k ≡ contents size s k
 
-module _ {C : Type 0} (size n first : ℕ) (s : Store) (t : Tidy C size n s) (place : first + 128 ≤ 512) (empty : (i : ℕ) → i < 64 → contents size s (first + i + 64) ≡ none) where
+module _ {C : ℕ → Type 0} (size n first : ℕ) (s : Store) (t : Tidy C size n s) (place : first + 128 ≤ 512) (empty : (i : ℕ) → i < 64 → contents size s (first + i + 64) ≡ none) where
   move-step : (i : ℕ) (r : Store) → i < 64 → Moved C size n first s i r → Moved C size n first s (suc i) (move (first + i) (first + i + 64) r)
   move-step i r l m =
       let k : ℕ = first + i in

@@ -17,7 +17,7 @@ use Rattle.table.proofs.FreeLaws.{Kept, unchanged-kept, room-of, free-k
 
 -- ---- one page
 
-module _ {C : Type 0} (size n : ℕ) (s : Store) (t : Tidy C size n s) (k j : ℕ) (ys : List ℕ) (w : length ys ≡ size) where
+module _ {C : ℕ → Type 0} (size n : ℕ) (s : Store) (t : Tidy C size n s) (k j : ℕ) (ys : List ℕ) (w : length ys ≡ size) where
   pub rewindPage-tidy : (keep : Bool) → Tidy C size n (rewindPage size k j keep ys s)
   unfolding rewindPage
   rewindPage-tidy true = fill-tidy size n s t k (pageFrom ys (contents size s j)) (λ f e. page-whole size n s t j ys w)
@@ -35,7 +35,7 @@ module _ {C : Type 0} (size n : ℕ) (s : Store) (t : Tidy C size n s) (k j : �
 
 -- ---- the pages of a sandbox
 
-module _ {C : Type 0} (size n first : ℕ) (keep : ℕ → Bool) (bytes : ℕ → List ℕ) (whole : (i : ℕ) → length (bytes i) ≡ size) (s : Store) (t : Tidy C size n s) where
+module _ {C : ℕ → Type 0} (size n first : ℕ) (keep : ℕ → Bool) (bytes : ℕ → List ℕ) (whole : (i : ℕ) → length (bytes i) ≡ size) (s : Store) (t : Tidy C size n s) where
   pub rewindTo-tidy : (i : ℕ) → Tidy C size n (rewindTo size first keep bytes s i)
   unfolding rewindTo
   rewindTo-tidy zero = t

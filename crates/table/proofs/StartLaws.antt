@@ -21,7 +21,7 @@ module _ (size n : ℕ) where
   pub fresh-none : (k : ℕ) → contents size (fresh size n) k ≡ none
   fresh-none k = contents-none size (fresh size n) k (fresh-entry k)
 
-  pub fresh-tidy : {C : Type 0} → n ≤ 128 → Tidy C size n (fresh size n)
+  pub fresh-tidy : {C : ℕ → Type 0} → n ≤ 128 → Tidy C size n (fresh size n)
   unfolding fresh
   fresh-tidy few =
       record {
@@ -38,5 +38,5 @@ module _ (size n : ℕ) where
           low = omega arith;
           high = omega arith;
         };
-        clean = λ c f l e. frame-zeros size n f l;
+        clean = λ f c l e. frame-zeros size n f l;
       }

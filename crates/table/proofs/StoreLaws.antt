@@ -40,12 +40,12 @@ page-other size xs ys f (suc g) w r d = ap some (frame-other size xs f ys w r g 
 -- ---- one entry changes
 
 -- r is a tidy store like s, but that entry k holds page
-pub record Changed (C : Type 0) (size n : ℕ) (s : Store) (k : ℕ) (page : Option (List ℕ)) (r : Store) : Type 0 where
+pub record Changed (C : ℕ → Type 0) (size n : ℕ) (s : Store) (k : ℕ) (page : Option (List ℕ)) (r : Store) : Type 0 where
   pub tidy : Tidy C size n r
   pub same : contents size r k ≡ page
   pub other : (j : ℕ) → (j ≡ k → ⊥) → contents size r j ≡ contents size s j
 
-module _ {C : Type 0} (size n : ℕ) (s : Store) (t : Tidy C size n s) (k e f b : ℕ) (ys : List ℕ)
+module _ {C : ℕ → Type 0} (size n : ℕ) (s : Store) (t : Tidy C size n s) (k e f b : ℕ) (ys : List ℕ)
     (place : k < 512) (o : Owns n (entry s) k f) (z : Fits e b f) (whole : length ys ≡ size) (blank : b ≡ 0 → ys ≡ zeros size) where
   room : f * size + size ≤ length (s .pool)
   room = fits-pool size n (s .pool) f (t .filed .pages) (o .low)
@@ -70,10 +70,10 @@ module _ {C : Type 0} (size n : ℕ) (s : Store) (t : Tidy C size n s) (k e f b 
           low = mark-low (s .marks) f b (z .two) (omega (arith, o .low, t .filed .few)) (t .filed .low);
           high = mark-high (s .marks) f b (z .two) (omega (arith, o .low, t .filed .few)) (t .filed .high);
         };
-        clean = λ c g l w. ⊎-elim
+        clean = λ g c l w. ⊎-elim
             (λ m. ap (frame size (setFrame size (s .pool) f ys)) m ∙ frame-same size (s .pool) f ys whole room
             ∙ blank (sym (held-mark-same (s .marks) f b (z .two)) ∙ ap (held (mark (s .marks) f b)) (sym m) ∙ w))
-            (λ m. frame-other size (s .pool) f ys whole room g m ∙ t .clean c g l (sym (held-mark-other (s .marks) f b g (z .two) m) ∙ w)) (same-or g f);
+            (λ m. frame-other size (s .pool) f ys whole room g m ∙ t .clean g c l (sym (held-mark-other (s .marks) f b g (z .two) m) ∙ w)) (same-or g f);
       }
 
   pub put-same : contents size (put size s k e f b ys) k ≡ pageIn size (setFrame size (s .pool) f ys) e
@@ -86,7 +86,7 @@ module _ {C : Type 0} (size n : ℕ) (s : Store) (t : Tidy C size n s) (k e f b 
       ap (pageIn size (setFrame size (s .pool) f ys)) (entry-put-other j m)
       ∙ page-other size (s .pool) ys f (entry s j) whole room (λ w. m (o .others j w))
 
-module _ {C : Type 0} (size n : ℕ) (s : Store) (t : Tidy C size n s) where
+module _ {C : ℕ → Type 0} (size n : ℕ) (s : Store) (t : Tidy C size n s) where
   -- nothing changes
   unchanged : (k : ℕ) (page : Option (List ℕ)) → contents size s k ≡ page → Changed C size n s k page s
   unchanged k page e = record { tidy = t; same = e; other = λ j m. refl }
@@ -137,7 +137,7 @@ free-some size k s f e =
     let m : entry s k - 1 ≡ f = omega arith in
     rw (ne-eqb (entry s k) 0 (omega arith), m)
 
-module _ {C : Type 0} (size n : ℕ) (s : Store) (t : Tidy C size n s) (k : ℕ) where
+module _ {C : ℕ → Type 0} (size n : ℕ) (s : Store) (t : Tidy C size n s) (k : ℕ) where
   pub freed : Changed C size n s k none (free size k s)
   freed =
       by-entry (Changed C size n s k none (free size k s)) (entry s k)
@@ -155,7 +155,7 @@ module _ {C : Type 0} (size n : ℕ) (s : Store) (t : Tidy C size n s) (k : ℕ)
 
 -- ---- take
 
-module _ {C : Type 0} (size n : ℕ) (s : Store) (t : Tidy C size n s) (k f : ℕ) (ys : List ℕ)
+module _ {C : ℕ → Type 0} (size n : ℕ) (s : Store) (t : Tidy C size n s) (k f : ℕ) (ys : List ℕ)
     (place : k < 512) (empty : entry s k ≡ 0) (low : f < n) (idle : held (s .marks) f ≡ 0) (whole : length ys ≡ size) where
   take-is : take size k f ys s ≡ put size s k (suc f) f 1 ys
   unfolding take
@@ -189,7 +189,7 @@ pub fill-none : (size k : ℕ) (ys : List ℕ) (s : Store) → entry s k ≡ 0 �
 unfolding fill
 fill-none size k ys s e = rw (eq-eqb (entry s k) 0 e)
 
-module _ {C : Type 0} (size n : ℕ) (s : Store) (t : Tidy C size n s) (k : ℕ) (ys : List ℕ) (whole : (f : ℕ) → entry s k ≡ suc f → length ys ≡ size) where
+module _ {C : ℕ → Type 0} (size n : ℕ) (s : Store) (t : Tidy C size n s) (k : ℕ) (ys : List ℕ) (whole : (f : ℕ) → entry s k ≡ suc f → length ys ≡ size) where
   -- a page with the mark and the entry that it has already
   pub fill-some : (f : ℕ) → entry s k ≡ suc f → fill size k ys s ≡ put size s k (suc f) f 1 ys
   unfolding fill put
@@ -216,7 +216,7 @@ module _ {C : Type 0} (size n : ℕ) (s : Store) (t : Tidy C size n s) (k : ℕ)
 
 -- ---- one byte
 
-module _ {C : Type 0} (size n : ℕ) (s : Store) (t : Tidy C size n s) (k o b : ℕ) where
+module _ {C : ℕ → Type 0} (size n : ℕ) (s : Store) (t : Tidy C size n s) (k o b : ℕ) where
   byte-page : List ℕ
   byte-page = set (frame size (s .pool) (entry s k - 1)) o b
 

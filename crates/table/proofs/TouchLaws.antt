@@ -19,14 +19,14 @@ pub source-whole : (image : List ℕ) (source : Source) → sourceEnd source * 2
 source-whole image Zero fits = length-zeros 256
 source-whole image (Image page) fits = length-frame 256 image (page .0) (omega arith)
 
-pub under-whole : {C : Type 0} (size n : ℕ) (s : Store) → Tidy C size n s → (k : ℕ) (bytes : List ℕ) → length bytes ≡ size
+pub under-whole : {C : ℕ → Type 0} (size n : ℕ) (s : Store) → Tidy C size n s → (k : ℕ) (bytes : List ℕ) → length bytes ≡ size
     → (committed : Bool) → length (underFront committed bytes (contents size s k)) ≡ size
 under-whole size n s t k bytes w true = page-whole size n s t k bytes w
 under-whole size n s t k bytes w false = w
 
 -- ---- the page has a front with these bytes, whichever frame was taken
 
-module _ {C : Type 0} (size n : ℕ) (s r : Store) (t : Tidy C size n s) (k : ℕ) (bytes : List ℕ)
+module _ {C : ℕ → Type 0} (size n : ℕ) (s r : Store) (t : Tidy C size n s) (k : ℕ) (bytes : List ℕ)
     (place : k < 512) (empty : entry s k ≡ 0) (whole : length bytes ≡ size) (o : Touched size n k bytes s r) where
   pub touched : Changed C size n s k (some bytes) r
   touched = rw (o .after) (taken size n s t k (o .chosen) bytes place empty (o .low) (o .idle) whole)

@@ -77,11 +77,11 @@ pub record Filed (size n : ℕ) (s : Store) : Type 0 where
   pub low : s .marks .low < 2 ^ 64
   pub high : s .marks .high < 2 ^ 64
 
--- 'a frame that no entry names is zero', where it is asked. C says whether unheld frames are asked to be zero.
--- Unit: they are, as after every list. ⊥: nothing is asked, for a sound state may come with a dirty free frame.
-pub record Tidy (C : Type 0) (size n : ℕ) (s : Store) : Type 0 where
+-- 'a frame that no entry names is zero', where it is asked. C says of which unheld frames it is asked.
+-- Unit: of all, as after every list. ⊥: of none, for a sound state may come with a dirty free frame. One frame: what becomes of that frame.
+pub record Tidy (C : ℕ → Type 0) (size n : ℕ) (s : Store) : Type 0 where
   pub filed : Filed size n s
-  pub clean : C → (f : ℕ) → f < n → held (s .marks) f ≡ 0 → frame size (s .pool) f ≡ zeros size
+  pub clean : (f : ℕ) → C f → f < n → held (s .marks) f ≡ 0 → frame size (s .pool) f ≡ zeros size
 
 -- ---- what is done to one entry
 

@@ -1,0 +1,48 @@
+-- The loop has the frames of the first i runs.
+use mathlib.Core.Path.{_≡_, refl, ap, ap₂, _∙_}
+use Prim.Native.Nat.{_≤_, _-_}
+use native.Mathlib.Numerals.{add-one}
+use native.Mathlib.Omega.{arith}
+use borrow.Author.Needs.{needs}
+use Rattle.runs.specs.Row.{row}
+use Rattle.kept.specs.Test.{addRun, runsTo}
+use Rattle.kept.proofs.TestLaws.{runs-more}
+use Rattle.kept.proofs.add_runs.Statement.{statement}
+use Rattle.kept.proofs.add_runs.Tie as tie
+
+abbrev Inv-loop : tie.InvT-loop
+Inv-loop runs m₀ i₀ m i = (i ≤ 8) × (m ≡ runsTo (row runs) m₀ i)
+
+abbrev μ-loop : tie.MeasureT-loop
+μ-loop runs m₀ i₀ m i = 8 - i
+
+loop-holds : tie.Need-loop-holds Inv-loop μ-loop
+unfolding runsTo
+loop-holds c = (omega arith, refl)
+
+at-requires : tie.Need-at-requires Inv-loop μ-loop
+at-requires c κs = search needs
+
+add-run-requires : tie.Need-add-run-requires Inv-loop μ-loop
+add-run-requires c κs = search needs
+
+add-i : tie.Need-add-i Inv-loop μ-loop
+add-i c = search needs
+
+loop-less : tie.Need-loop-less Inv-loop μ-loop
+loop-less c = search needs
+
+loop-again : tie.Need-loop-again Inv-loop μ-loop
+loop-again c =
+    let start = c .before .before .before .before in
+    let l = c .before .before .before .loop in
+    (search needs, c .add-run .ensures ∙ runs-more (row (start .args .runs)) (start .args .found) (l .m) (l .i) _ (l .inv .1) (c .before .at .ensures))
+
+returns : tie.Need-returns Inv-loop μ-loop
+returns c =
+    let l = c .before .loop in
+    let end : l .i ≡ 8 = omega (arith, l .inv .0, c .loop-test .left) in
+    l .inv .1 ∙ ap (runsTo (row (c .before .before .args .runs)) (c .before .before .args .found)) end
+
+pub add-runs-spec : {M : Type 1} → statement M
+add-runs-spec = tie.close (tie.spec Inv-loop μ-loop loop-holds at-requires add-run-requires add-i loop-less loop-again returns)

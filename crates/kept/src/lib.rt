@@ -1,0 +1,132 @@
+// Kept frames beside the store of pages (A3): the marks of the runs, and the test that kept frames are "held and zero, belong to one run and no entry".
+// It promises: the passes are those of specs/Test; by its laws (proofs/) the test is true exactly where `Spare` holds, and each operation on the store keeps it.
+// It stands on `runs` for the runs, on `marks` for what a pass finds, on `pool` for the bytes of a frame and on `table` for the store.
+ghost use mathlib.Core.Path.{_≡_};
+ghost use mathlib.Core.List.{List};
+ghost use Prim.Native.Nat.{ℕ, _+_, _*_, _≤_, _<_};
+ghost use lib.Dec.{eqb};
+ghost use lib.ListN.{length, getD, set};
+ghost use Rattle.basics.specs.Ranges.{every};
+ghost use Rattle.frames.specs.Frames.{mark, countHeld, leastHeld};
+ghost use Rattle.table.specs.Store.{kept as storeOf};
+ghost use Rattle.runs.specs.Row.{row};
+ghost use Rattle.kept.specs.Spare.{leftOf, adoptTo};
+ghost use Rattle.kept.specs.Test.{addRun, runsTo, blankb, frameOk};
+use frames::FrameNo;
+use frames::Held;
+use marks::Marks;
+use pages::Page;
+use runs::Runs;
+
+// The runs of one sandbox more.
+pub fn add_runs(found: Marks, runs: Runs) -> Marks
+    ensures { λ r. ⌜ r ≡ runsTo (row runs) found 8 ⌝ }
+{
+    let mut m = found;
+    for i in 0..8u8 {
+        m = add_run(m, runs.at(i));
+    }
+    m
+}
+
+// One run more: its frames come to those found, and none of them may be there already.
+fn add_run(found: Marks, run: Held) -> Marks
+    ensures { λ r. ⌜ r ≡ addRun found run ⌝ }
+{
+    let held = found.held;
+    Marks {
+        good: held.apart(run) & found.good,
+        held: held.both(run),
+    }
+}
+
+// Whether every kept frame is one of the pool, and zero.
+pub fn frames_ok(kept: Held, pool: &[u8], frames: u8) -> bool
+    requires { ⌜ frames ≤ 128 ⌝ }
+    requires { ⌜ length (now pool) ≡ frames * 256 ⌝ }
+    ensures { λ r. ⌜ r ≡ every (frameOk frames (now (pool .entry)) kept) 0 128 ⌝ }
+{
+    for f in 0..128u8 {
+        if !frame_ok(kept, pool, frames, FrameNo(f)) {
+            return false;
+        }
+    }
+    true
+}
+
+fn frame_ok(kept: Held, pool: &[u8], frames: u8, f: FrameNo) -> bool
+    requires { ⌜ f .0 < 128 ⌝ }
+    requires { ⌜ length (now pool) ≡ frames * 256 ⌝ }
+    ensures { λ r. ⌜ r ≡ frameOk frames (now (pool .entry)) kept (f .0) ⌝ }
+{
+    if !kept.contains(f) {
+        return true;
+    }
+    if frames <= f.0 {
+        return false;
+    }
+    is_blank(pool, f)
+}
+
+// Whether a frame is zero.
+fn is_blank(pool: &[u8], f: FrameNo) -> bool
+    requires { ⌜ f .0 * 256 + 256 ≤ length (now pool) ⌝ }
+    ensures { λ r. ⌜ r ≡ blankb (now (pool .entry)) (f .0) ⌝ }
+{
+    let start = f.0 as usize * Page::SIZE;
+    is_zero(&pool[start..start + Page::SIZE])
+}
+
+// Whether all bytes are zero.
+fn is_zero(page: &[u8]) -> bool
+    requires { ⌜ length (now page) ≡ 256 ⌝ }
+    ensures { λ r. ⌜ r ≡ every (λ o. eqb (getD (now (page .entry)) o 0) 0) 0 256 ⌝ }
+{
+    for i in 0..256usize {
+        if page[i] != 0 {
+            return false;
+        }
+    }
+    true
+}
+
+// The marks of the entries, and what is left of a run.
+pub struct Granted {
+    pub held: Held,
+    pub rest: Held,
+}
+
+// So many entries from `first` on take the smallest frames of a run, smallest first. The frames are zero already, so no byte is touched.
+pub fn grant(held: Held, table: &mut [u16], first: usize, run: Held, n: u8) -> Granted
+    requires { ⌜ first + n ≤ length (now table) ⌝ }
+    requires { ⌜ n ≤ countHeld run ⌝ }
+    ensures { λ r. ⌜ ((pool : List ℕ) → storeOf (r .held) pool (now (table .exit)) ≡ adoptTo first run (storeOf held pool (now (table .entry))) n) ⌝ }
+    ensures rest { λ r. ⌜ r .rest ≡ leftOf run n ⌝ }
+{
+    let mut g = Granted {
+        held: held,
+        rest: run,
+    };
+    for i in 0..n {
+        g = grant_one(g, table, first + i as usize);
+    }
+    g
+}
+
+// One entry takes the smallest frame.
+fn grant_one(g: Granted, table: &mut [u16], at: usize) -> Granted
+    requires { ⌜ at < length (now table) ⌝ }
+    requires { ⌜ leastHeld (g .rest) < 128 ⌝ }
+    ensures { λ r. ⌜ r .held ≡ mark (g .held) (leastHeld (g .rest)) 1 ⌝ }
+    ensures rest { λ r. ⌜ r .rest ≡ mark (g .rest) (leastHeld (g .rest)) 0 ⌝ }
+    ensures entry { λ r. ⌜ now (table .exit) ≡ set (now (table .entry)) at (leastHeld (g .rest) + 1) ⌝ }
+{
+    let rest = g.rest;
+    let held = g.held;
+    let f = rest.least();
+    table[at] = f as u16 + 1;
+    Granted {
+        held: held.with(FrameNo(f)),
+        rest: rest.without(FrameNo(f)),
+    }
+}

@@ -1,0 +1,202 @@
+// The runs of frames that a sandbox keeps for the maps of its next request (A3).
+// It promises: each method's outcome is a definition of specs/Row.antt, which goes by the lengths of the runs in the order of their ages.
+// It stands on `frames` for the frames of a run.
+ghost use mathlib.Core.Path.{_≡_};
+ghost use Prim.Native.Nat.{_≤_, _<_};
+ghost use Rattle.basics.specs.Ranges.{sum, every};
+ghost use Rattle.basics.specs.Rows.{best, longer, noLonger, fitter};
+ghost use Rattle.frames.specs.Frames.{noneHeld, sameHeld};
+ghost use Rattle.interface.specs.Runs.{longestRun, runFor};
+ghost use Rattle.runs.specs.Row.{row, lengthsOf, noRuns, withRunAt, betterOf, movedRuns, pushed};
+use frames::Held;
+
+// "At most 8 runs are kept": the oldest first. A place without a frame is no run, and may stand anywhere.
+pub struct Runs {
+    pub list: [Held; Runs::PLACES],
+}
+
+impl Runs {
+    pub const PLACES: usize = 8;
+
+    // No run.
+    pub fn none() -> Runs
+        ensures { λ r. ⌜ r ≡ noRuns ⌝ }
+    {
+        let held = Held::none();
+        Runs {
+            list: [held; Runs::PLACES],
+        }
+    }
+
+    // The run in a place.
+    pub fn at(self, place: u8) -> Held
+        requires { ⌜ place < 8 ⌝ }
+        ensures { λ r. ⌜ r ≡ row self place ⌝ }
+    {
+        let k = place as usize;
+        self.list[k]
+    }
+
+    // The same runs, but for one place.
+    pub fn with(self, place: u8, run: Held) -> Runs
+        requires { ⌜ place < 8 ⌝ }
+        ensures { λ r. ⌜ r ≡ withRunAt place run self ⌝ }
+    {
+        let mut r = self;
+        let k = place as usize;
+        r.list[k] = run;
+        r
+    }
+
+    // How many frames are kept.
+    pub fn kept(self) -> u16
+        ensures { λ r. ⌜ r ≡ sum (lengthsOf self) 8 ⌝ }
+        ensures small { λ r. ⌜ r ≤ 1024 ⌝ }
+    {
+        let mut n: u16 = 0;
+        for i in 0..8u8 {
+            n = n + self.length(i) as u16;
+        }
+        n
+    }
+
+    // The length of the run in a place.
+    fn length(self, place: u8) -> u8
+        requires { ⌜ place < 8 ⌝ }
+        ensures { λ r. ⌜ r ≡ lengthsOf self place ⌝ }
+        ensures small { λ r. ⌜ r ≤ 128 ⌝ }
+    {
+        let run = self.at(place);
+        run.count()
+    }
+
+    // Whether no run is kept.
+    pub fn is_none(self) -> bool
+        ensures { λ r. ⌜ r ≡ every (λ i. sameHeld (row self i) noneHeld) 0 8 ⌝ }
+    {
+        for i in 0..8u8 {
+            if !self.is_empty(i) {
+                return false;
+            }
+        }
+        true
+    }
+
+    // Whether there is no run in a place.
+    fn is_empty(self, place: u8) -> bool
+        requires { ⌜ place < 8 ⌝ }
+        ensures { λ r. ⌜ r ≡ sameHeld (row self place) noneHeld ⌝ }
+    {
+        let run = self.at(place);
+        let none = Held::none();
+        run.same(none)
+    }
+
+    // A new run, the newest: it takes the place of the shortest, of equals the newest, unless it is no longer than that.
+    pub fn push(self, run: Held) -> Runs
+        ensures { λ r. ⌜ r ≡ pushed self run ⌝ }
+    {
+        let c = self.shortest();
+        if run.count() <= self.length(c) {
+            return self;
+        }
+        self.moved_up(c, run)
+    }
+
+    // The runs after a place move up by one, and this one comes last.
+    fn moved_up(self, place: u8, run: Held) -> Runs
+        requires { ⌜ place < 8 ⌝ }
+        ensures { λ r. ⌜ r ≡ movedRuns place run self ⌝ }
+    {
+        let mut r = self;
+        for i in place..7u8 {
+            r = r.with(i, r.at(i + 1));
+        }
+        r.with(7, run)
+    }
+
+    // The place of the shortest run, of equals the newest.
+    fn shortest(self) -> u8
+        ensures { λ r. ⌜ r ≡ best noLonger (lengthsOf self) 8 ⌝ }
+        ensures low { λ r. ⌜ r < 8 ⌝ }
+    {
+        let mut best: u8 = 0;
+        for i in 0..8u8 {
+            best = self.shorter_of(i, best);
+        }
+        best
+    }
+
+    // Of two places the one with the shorter run, of equals the first.
+    fn shorter_of(self, new: u8, old: u8) -> u8
+        requires { ⌜ new < 8 ⌝ }
+        requires { ⌜ old < 8 ⌝ }
+        ensures { λ r. ⌜ r ≡ betterOf noLonger (lengthsOf self) new old ⌝ }
+    {
+        if self.length(new) <= self.length(old) {
+            new
+        } else {
+            old
+        }
+    }
+
+    // The place of the longest run, of equals the oldest.
+    pub fn longest(self) -> u8
+        ensures { λ r. ⌜ r ≡ longestRun (lengthsOf self) ⌝ }
+        ensures low { λ r. ⌜ r < 8 ⌝ }
+    {
+        let mut best: u8 = 0;
+        for i in 0..8u8 {
+            best = self.longer_of(i, best);
+        }
+        best
+    }
+
+    // The place of the shortest run that is at least as long as so many pages, or of the longest; of equals the oldest.
+    pub fn fitting(self, pages: u8) -> u8
+        ensures { λ r. ⌜ r ≡ runFor pages (lengthsOf self) ⌝ }
+        ensures low { λ r. ⌜ r < 8 ⌝ }
+    {
+        let mut best: u8 = 0;
+        for i in 0..8u8 {
+            best = self.fitter_of(pages, i, best);
+        }
+        best
+    }
+
+    // Of two places the one whose run suits so many pages better, else the second.
+    fn fitter_of(self, pages: u8, new: u8, old: u8) -> u8
+        requires { ⌜ new < 8 ⌝ }
+        requires { ⌜ old < 8 ⌝ }
+        ensures { λ r. ⌜ r ≡ betterOf (fitter pages) (lengthsOf self) new old ⌝ }
+    {
+        if is_fitter(pages, self.length(new), self.length(old)) {
+            new
+        } else {
+            old
+        }
+    }
+
+    // Of two places the one with the longer run, of equals the second.
+    fn longer_of(self, new: u8, old: u8) -> u8
+        requires { ⌜ new < 8 ⌝ }
+        requires { ⌜ old < 8 ⌝ }
+        ensures { λ r. ⌜ r ≡ betterOf longer (lengthsOf self) new old ⌝ }
+    {
+        if self.length(old) < self.length(new) {
+            new
+        } else {
+            old
+        }
+    }
+}
+
+// Whether a run of the first length suits so many pages better than one of the second.
+fn is_fitter(pages: u8, new: u8, old: u8) -> bool
+    ensures { λ r. ⌜ r ≡ fitter pages new old ⌝ }
+{
+    if pages <= new {
+        return (new < old) | (old < pages);
+    }
+    old < new
+}
