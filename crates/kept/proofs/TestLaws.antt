@@ -147,6 +147,11 @@ spare-true n st rows F h =
           blank-true (st .pool) n (F .pages) f l (ok f low one .1);
     }
 
+-- and the pass has the marks of all runs
+pub spare-found : (n : ℕ) (st : Store) (rows : Rows) → spareb n st rows ≡ true → (f : ℕ) → f < 128 → held (keptTo rows 4 .held) f ≡ keptAt rows f
+unfolding spareb keptAt
+spare-found n st rows h f l = kept-found rows 4 (and-both (keptTo rows 4 .good) _ h .0) .marks f l
+
 pub spare-of : (n : ℕ) (st : Store) (rows : Rows) → Filed 256 n st → ((s : ℕ) → s < 4 → Words (rows s)) → Spare 256 n st rows → spareb n st rows ≡ true
 unfolding spareb keptAt
 spare-of n st rows F words S =

@@ -13,14 +13,10 @@ use lib.ListN.{length, getD, List·getD-eq-default}
 use Rattle.basics.specs.Choice.{_when_else_}
 use Rattle.basics.specs.Ranges.{sum}
 use Rattle.basics.proofs.TestLaws.{never, and-left, and-right, and-both, and-of}
-use Rattle.frames.specs.Frames.{held, mark, noneHeld, sameHeld, countHeld, greatest, Within}
+use Rattle.frames.specs.Frames.{held, mark, noneHeld, sameHeld, countHeld, Within}
 use Rattle.frames.specs.declared.Held.{Held}
-use Rattle.frames.specs.declared.FrameNo.{FrameNo}
-use Rattle.frames.specs.declared.Free.{Free}
-use Rattle.frames.specs.declared.Free.the-variants.{Frame, None}
 use Rattle.frames.proofs.SumLaws.{sum-same, sum-add}
 use Rattle.frames.proofs.FrameLaws.{lt-or-ge, held-or, held-zero, held-ext, mark-low, mark-high, count-with, none-count, same-held-true, same-held-of}
-use Rattle.frames.proofs.GreatestLaws.{full-count}
 use Rattle.marks.specs.declared.Marks.{Marks}
 use Rattle.marks.specs.Named.{Named, used, usedBelow}
 use Rattle.marks.specs.Marks.{addEntry, marksTo, from, marksb}
@@ -197,18 +193,6 @@ module _ (n : ℕ) (few : n ≤ 128) (h : Held) (p : ℕ → ℕ) (t : Named n h
         let g = well n few p (t .within) (t .once) m in
         sum-same (held h) (held (marksTo n p m .held)) 128 (marks-same n h (marksTo n p m .held) p t (named-all n few p m end g))
         ∙ good-marks n few p m g .counted
-
-    -- where fewer entries name a frame than there are frames, not all are held
-    pub never-full : usedBelow p m < n → greatest (held h) n ≡ None → ⊥
-    never-full l e = omega (arith, full-count h n within-named e, count-named)
-
-    -- and so there is one to take
-    pub free-there : usedBelow p m < n → (f : FrameNo) × (greatest (held h) n ≡ Frame f)
-    free-there l = go (greatest (held h) n) refl
-      where
-        go : (r : Free) → greatest (held h) n ≡ r → (f : FrameNo) × (greatest (held h) n ≡ Frame f)
-        go (Frame f) e = (f, e)
-        go None e = absurd (never-full l e)
 
 -- the entries in two parts
 pub used-add : (p : ℕ → ℕ) (m n : ℕ) → usedBelow p (m + n) ≡ usedBelow p m + usedBelow (λ k. p (m + k)) n

@@ -1,2 +1,3 @@
+pub mod SpareLaws
 pub mod MemoryLaws
 pub mod ValueLaws

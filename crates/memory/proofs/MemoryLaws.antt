@@ -9,20 +9,29 @@ use lib.ListN.{length}
 use borrow.Author.Tests.{eqb-true, eq-eqb, ne-eqb}
 use Rattle.basics.proofs.TestLaws.{by-cases, and-left, and-right}
 use Rattle.interface.specs.declared.request.Request.{Request}
-use Rattle.interface.specs.Requests.{_is_, Unmap, Write, Snapshot, Rewind, pageOf, offsetOf}
+use Rattle.interface.specs.Requests.{_is_, Map, Unmap, Write, Snapshot, Rewind, pageOf, offsetOf}
 use Rattle.interface.specs.Slots.{isCommitted, backingAt}
+use Rattle.interface.specs.Runs.{takesRun}
+use Rattle.frames.specs.Frames.{held}
 use Rattle.table.specs.declared.source.Source.{Source}
-use Rattle.table.specs.Store.{Store, entry, frontOf, backOf, contents, underFront, Ranged, Filed, Tidy, Touched}
+use Rattle.table.specs.Store.{Store, frontOf, backOf, Ranged, Tidy}
 use Rattle.table.specs.Store.{take, storeByte, freeTo, moveTo, rewindPage, rewindTo}
 use Rattle.table.specs.Source.{sourceBytes, sourceEnd}
 use Rattle.table.proofs.StoreLaws.{taken}
 use Rattle.table.proofs.FiledLaws.{filed-ranged}
 use Rattle.table.proofs.TouchLaws.{source-whole, under-whole}
+use Rattle.runs.specs.declared.Runs.{Runs}
+use Rattle.runs.specs.Row.{row, tabled}
+use Rattle.kept.specs.Spare.{rowRewound}
+use Rattle.kept.specs.Test.{keptTo}
 use Rattle.areas.specs.Areas.{slots}
 use Rattle.state.specs.declared.sandbox.Sandbox.{Sandbox}
+use Rattle.state.specs.World.{World, sandboxAt, rowsOf}
 use Rattle.content.specs.Content.{sourceOf, pageUnder, copyPage}
-use Rattle.memory.specs.Memory.{touched, keepsFront, storeAfter}
-use Rattle.memory.specs.Parts.{StoreStepped, TouchStepped}
+use Rattle.memory.specs.declared.spare.Given.{Given}
+use Rattle.memory.specs.Memory.{givesAt, runsAfter, touched, keepsFront, storeAfter}
+use Rattle.memory.specs.Parts.{ownFront, mapRuns, mapAdopts, Asked, GaveUp, StoreStepped, TouchStepped}
+use Rattle.memory.proofs.SpareLaws.{gives, gives-is, takes-of, takes-free, adopts}
 
 -- what is rewound does not depend on the bytes of pages that give up their fronts
 pub rewind-alike : (size first : ℕ) (keep : ℕ → Bool) (xs ys : ℕ → List ℕ) (st : Store) → ((i : ℕ) → keep i ≡ true → xs i ≡ ys i) → (n : ℕ)
@@ -34,71 +43,124 @@ rewind-alike size first keep xs ys st h (suc n) =
 
 -- ---- a page touched before a write
 
-module _ (image : List ℕ) (frames s page : ℕ) (committed : Bool) (source : Source) (st : Store) where
-  pub touch-kept : (entry st (frontOf s page) ≡ 0 → ⊥) → TouchStepped image frames s page committed source st st
-  touch-kept h = record {
-    frame = 0;
-    free = λ e. absurd (h (eqb-true _ 0 e));
-    equals = rw (ne-eqb (entry st (frontOf s page)) 0 h);
-  }
+module _ (image : List ℕ) (frames images : ℕ) (q : Request) (w : World) (A : Asked image frames images q w) (e : q .code ≡ Write) where
+  abbrev own : Sandbox
+  own = sandboxAt w (q .sandbox)
 
-  pub touch-made : (after : Store) → entry st (frontOf s page) ≡ 0
-      → Touched 256 frames (frontOf s page) (underFront committed (sourceBytes image source) (contents 256 st (backOf s page))) st after
-      → TouchStepped image frames s page committed source st after
-  touch-made after e t = record {
-    frame = t .chosen;
-    free = λ _. (t .low, t .idle);
-    equals = t .after ∙ rw (eq-eqb (entry st (frontOf s page)) 0 e);
-  }
+  abbrev page : ℕ
+  page = pageOf q
 
-  tidy-of : Filed 256 frames st → Tidy ⊥ 256 frames st
-  tidy-of f = record { filed = f; clean = λ c. absurd c }
+  pub touch-kept : (ownFront q (w .store) ≡ 0 → ⊥) → TouchStepped image frames q w (w .store) (own .runs)
+  unfolding touched givesAt runsAfter
+  touch-kept h =
+      let some : eqb (ownFront q (w .store)) 0 ≡ false = ne-eqb (ownFront q (w .store)) 0 h in
+      record {
+        frame = 0;
+        given = 0;
+        gave = λ t. absurd (false≢true (rw (e, some) at t));
+        takes = λ t. absurd (h (eqb-true _ 0 t));
+        equals = rw some;
+        runs = rw (e, some);
+      }
 
-  pub touch-ranged : (after : Store) → s < 4 → page < 64 → Filed 256 frames st → sourceEnd source * 256 ≤ length image
-      → TouchStepped image frames s page committed source st after → Ranged 256 (after .pool) (after .table)
-  touch-ranged after l m f w t =
-      by-cases (eqb (entry st (frontOf s page)) 0)
-      (λ e. let free = t .free e in
-      let bytes : List ℕ = underFront committed (sourceBytes image source) (contents 256 st (backOf s page)) in
-      let same : after ≡ take 256 (frontOf s page) (t .frame) bytes st = t .equals ∙ rw e in
-      let whole = under-whole 256 frames st (tidy-of f) (backOf s page) (sourceBytes image source) (source-whole image source w) committed in
-      let changed = taken 256 frames st (tidy-of f) (frontOf s page) (t .frame) bytes (omega arith) (eqb-true _ 0 e) (free .0) (free .1) whole in
+  pub touch-made : (after : Store) (r : Given) (f : ℕ) (z : ownFront q (w .store) ≡ 0)
+      (g : GaveUp (gives image frames images q w A e z) (own .runs) (keptTo (rowsOf w) 4 .held) r)
+      → f < frames → held (w .store .marks) f ≡ 0 → held (r .kept) f ≡ 0
+      → after ≡ take 256 (frontOf (q .sandbox) page) f (pageUnder image (w .store) own (q .sandbox) page) (w .store)
+      → TouchStepped image frames q w after (r .runs)
+  unfolding touched runsAfter
+  touch-made after r f z g low unnamed unkept a =
+      let is = gives-is image frames images q w A e z in
+      record {
+        frame = f;
+        given = g .given;
+        gave = λ t. g .gave (sym is ∙ t);
+        takes = λ _. takes-of image frames images q w A e z r g f low unnamed unkept;
+        equals = a ∙ rw (eq-eqb (ownFront q (w .store)) 0 z);
+        runs = g .left ∙ rw (e, is);
+      }
+
+  tidy-of : Tidy (λ f. ⊥) 256 frames (w .store)
+  tidy-of = record { filed = A .filed; clean = λ f c. absurd c }
+
+  pub touch-ranged : (after : Store) (left : Runs) → page < 64 → sourceEnd (sourceOf (backingAt (slots (own .present) page))) * 256 ≤ length image
+      → TouchStepped image frames q w after left → Ranged 256 (after .pool) (after .table)
+  unfolding touched pageUnder
+  touch-ranged after left m there t =
+      by-cases (eqb (ownFront q (w .store)) 0)
+      (λ z. let free = takes-free image frames images q w A (t .frame) (t .given) (t .takes z) (t .gave) in
+      let source : Source = sourceOf (backingAt (slots (own .present) page)) in
+      let bytes : List ℕ = pageUnder image (w .store) own (q .sandbox) page in
+      let same : after ≡ take 256 (frontOf (q .sandbox) page) (t .frame) bytes (w .store) = t .equals ∙ rw z in
+      let whole =
+      under-whole 256 frames (w .store) tidy-of (backOf (q .sandbox) page) (sourceBytes image source) (source-whole image source there)
+      (isCommitted (slots (own .present) page)) in
+      let changed =
+      taken 256 frames (w .store) tidy-of (frontOf (q .sandbox) page) (t .frame) bytes (omega (arith, A .row)) (eqb-true _ 0 z) (free .0) (free .1) whole in
       rw same (filed-ranged 256 frames _ (changed .tidy .filed)))
-      (λ e. let same : after ≡ st = t .equals ∙ rw e in rw same (filed-ranged 256 frames st f))
+      (λ z. let same : after ≡ w .store = t .equals ∙ rw z in rw same (filed-ranged 256 frames (w .store) (A .filed)))
 
 -- ---- what each call leaves
 
-module _ (image : List ℕ) (frames : ℕ) (q : Request) (b : Sandbox) (st : Store) where
-  pub written : (mid after : Store)
-      → let slot = slots (b .present) (pageOf q) in
-      TouchStepped image frames (q .sandbox) (pageOf q) (isCommitted slot) (sourceOf (backingAt slot)) st mid
-      → q .code ≡ Write → after ≡ storeByte 256 (frontOf (q .sandbox) (pageOf q)) (offsetOf q) (q .p2) mid → StoreStepped image frames q b st after
-  unfolding storeAfter touched pageUnder
-  written mid after t e a = record {
+module _ (image : List ℕ) (frames : ℕ) (q : Request) (w : World) where
+  abbrev its : Sandbox
+  its = sandboxAt w (q .sandbox)
+
+  pub written : (mid after : Store) (left : Runs) → TouchStepped image frames q w mid left → q .code ≡ Write
+      → after ≡ storeByte 256 (frontOf (q .sandbox) (pageOf q)) (offsetOf q) (q .p2) mid → StoreStepped image frames q w after left
+  unfolding storeAfter
+  written mid after left t e a = record {
     frame = t .frame;
-    free = λ h. t .free (and-right (q is Write) _ h);
+    given = t .given;
+    gave = t .gave;
+    takes = λ h. t .takes (and-right (q is Write) _ h);
     equals = a ∙ ap (storeByte 256 (frontOf (q .sandbox) (pageOf q)) (offsetOf q) (q .p2)) (t .equals) ∙ rw e;
+    runs = t .runs;
   }
 
-  -- the calls that take no frame
-  pub stepped-none : (after : Store) → (q is Write) ≡ false → after ≡ storeAfter image 0 q b st → StoreStepped image frames q b st after
-  stepped-none after n a = record { frame = 0; free = λ h. absurd (false≢true (sym n ∙ and-left (q is Write) _ h)); equals = a }
+  -- the calls that take no frame and give none up
+  pub stepped-none : (after : Store) (left : Runs) → (q is Write) ≡ false → after ≡ storeAfter image 0 q its (w .store) → left ≡ runsAfter 0 q its (w .store)
+      → StoreStepped image frames q w after left
+  unfolding givesAt
+  stepped-none after left n a r = record {
+    frame = 0;
+    given = 0;
+    gave = λ h. absurd (false≢true (sym n ∙ and-left (q is Write) _ h));
+    takes = λ h. absurd (false≢true (sym n ∙ and-left (q is Write) _ h));
+    equals = a;
+    runs = r;
+  }
 
-  pub unmapped : (after : Store) → q .code ≡ Unmap → after ≡ freeTo 256 (frontOf (q .sandbox) (q .p1)) st (q .p2) → StoreStepped image frames q b st after
-  unfolding storeAfter
-  unmapped after e a = stepped-none after (rw e) (a ∙ rw e)
+  pub mapped : (images : ℕ) → Asked image frames images q w → (after : Store) (left : Runs) → q .code ≡ Map
+      → after ≡ mapAdopts q its (w .store) → left ≡ mapRuns q its → StoreStepped image frames q w after left
+  unfolding storeAfter runsAfter givesAt mapAdopts mapRuns
+  mapped images A after left e a r =
+      stepped-none after left (rw e)
+      (by-cases (takesRun q)
+      (λ t. a ∙ rw t (adopts image frames images q w A e))
+      (λ t. a ∙ rw (t, e)))
+      (by-cases (takesRun q) (λ t. r ∙ rw t) (λ t. r ∙ rw (t, e)))
 
-  pub copied : (after : Store) → q .code ≡ Snapshot → after ≡ moveTo (q .sandbox * 128) st 64 → StoreStepped image frames q b st after
-  unfolding storeAfter
-  copied after e a = stepped-none after (rw e) (a ∙ rw e)
+  pub unmapped : (after : Store) → q .code ≡ Unmap → after ≡ freeTo 256 (frontOf (q .sandbox) (q .p1)) (w .store) (q .p2)
+      → StoreStepped image frames q w after (its .runs)
+  unfolding storeAfter runsAfter givesAt
+  unmapped after e a = stepped-none after (its .runs) (rw e) (a ∙ rw e) (rw e)
 
-  pub rewound : (after : Store) → q .code ≡ Rewind → after ≡ rewindTo 256 (q .sandbox * 128) (keepsFront b) (copyPage image b) st 64
-      → StoreStepped image frames q b st after
-  unfolding storeAfter
-  rewound after e a = stepped-none after (rw e) (a ∙ rw e)
+  pub copied : (after : Store) → q .code ≡ Snapshot → after ≡ moveTo (q .sandbox * 128) (w .store) 64 → StoreStepped image frames q w after (its .runs)
+  unfolding storeAfter runsAfter givesAt
+  copied after e a = stepped-none after (its .runs) (rw e) (a ∙ rw e) (rw e)
 
-  pub left : (q .code ≡ Unmap → ⊥) → (q .code ≡ Write → ⊥) → (q .code ≡ Snapshot → ⊥) → (q .code ≡ Rewind → ⊥) → StoreStepped image frames q b st st
-  unfolding storeAfter
-  left u w s r =
-      stepped-none st (ne-eqb (q .code) Write w)
-      (rw (ne-eqb (q .code) Unmap u, ne-eqb (q .code) Write w, ne-eqb (q .code) Snapshot s, ne-eqb (q .code) Rewind r))
+  pub rewound : (after : Store) (left : Runs) → q .code ≡ Rewind
+      → after ≡ rewindTo 256 (q .sandbox * 128) (keepsFront its) (copyPage image its) (w .store) 64
+      → left ≡ tabled (rowRewound (w .store) (q .sandbox) (slots (its .present)) (row (its .runs))) → StoreStepped image frames q w after left
+  unfolding storeAfter runsAfter givesAt
+  rewound after left e a r = stepped-none after left (rw e) (a ∙ rw e) (r ∙ rw e)
+
+  pub left-alone : (q .code ≡ Map → ⊥) → (q .code ≡ Unmap → ⊥) → (q .code ≡ Write → ⊥) → (q .code ≡ Snapshot → ⊥) → (q .code ≡ Rewind → ⊥)
+      → StoreStepped image frames q w (w .store) (its .runs)
+  unfolding storeAfter runsAfter givesAt
+  left-alone m u x s r =
+      let none = ne-eqb (q .code) Map m in
+      stepped-none (w .store) (its .runs) (ne-eqb (q .code) Write x)
+      (rw (none, ne-eqb (q .code) Unmap u, ne-eqb (q .code) Write x, ne-eqb (q .code) Snapshot s, ne-eqb (q .code) Rewind r))
+      (rw (none, ne-eqb (q .code) Write x, ne-eqb (q .code) Rewind r))

@@ -1,5 +1,5 @@
 -- The value of an accepted request, by each of the calls that have one.
-use Prim.Native.Nat.{ℕ, _*_, _/_}
+use Prim.Native.Nat.{ℕ, _+_, _*_, _/_}
 use mathlib.Core.Path.{_≡_, _∙_}
 use mathlib.Core.List.{List}
 use lib.ListN.{length, getD}
@@ -8,9 +8,12 @@ use Rattle.interface.specs.declared.request.Request.{Request}
 use Rattle.interface.specs.Requests.{Map, Read, Snapshot, Report, Compare, pageOf, offsetOf}
 use Rattle.interface.specs.Slots.{mappedPages}
 use Rattle.interface.specs.Outcome.{firstOf}
+use Rattle.basics.specs.Ranges.{sum}
 use Rattle.frames.specs.Frames.{countHeld}
 use Rattle.marks.specs.Marks.{marksTo, from}
 use Rattle.table.specs.Store.{Store}
+use Rattle.runs.specs.Row.{lengthsOf}
+use Rattle.kept.specs.Spare.{keptBy}
 use Rattle.areas.specs.Areas.{slots}
 use Rattle.state.specs.declared.sandbox.Sandbox.{Sandbox}
 use Rattle.content.specs.Content.{pageRead, differing}
@@ -29,10 +32,11 @@ module _ (image : List ℕ) (q : Request) (b : Sandbox) (st : Store) where
   unfolding valueAt
   snapshot-value value e v = v ∙ rw e
 
-  pub report-value : (value frames : ℕ) → q .code ≡ Report → length (st .pool) / 256 ≡ frames
-      → value ≡ countHeld (marksTo frames (from (q .sandbox * 128) (st .table)) 128 .held) → value ≡ valueAt image q b st
-  unfolding valueAt heldBy
-  report-value value frames e f v = v ∙ rw (← f, e)
+  pub report-value : (value named kept frames : ℕ) → q .code ≡ Report → length (st .pool) / 256 ≡ frames
+      → named ≡ countHeld (marksTo frames (from (q .sandbox * 128) (st .table)) 128 .held) → kept ≡ sum (lengthsOf (b .runs)) 8 → value ≡ named + kept
+      → value ≡ valueAt image q b st
+  unfolding valueAt heldBy keptBy
+  report-value value named kept frames e f n k v = v ∙ rw (n, k, ← f, e)
 
   pub compare-value : (value : ℕ) → q .code ≡ Compare → value ≡ differing image st b (q .sandbox) → value ≡ valueAt image q b st
   unfolding valueAt

@@ -1,41 +1,101 @@
 -- What the functions over lent memory ask and ensure.
 use mathlib.Core.Path.{_≡_}
+use mathlib.Core.Logic.{_⊎_}
 use mathlib.Core.Bool.{Bool, true, _&&_}
 use mathlib.Core.List.{List}
-use Prim.Native.Nat.{ℕ, _*_, _<_}
+use Prim.Native.Nat.{ℕ, _+_, _*_, _≤_, _<_}
 use lib.Dec.{eqb}
 use lib.ListN.{length}
-use Rattle.interface.specs.declared.request.Request.{Request}
-use Rattle.interface.specs.Requests.{_is_, Write, pageOf}
-use Rattle.frames.specs.Frames.{held}
-use Rattle.marks.specs.Named.{usedBelow}
-use Rattle.table.specs.declared.source.Source.{Source}
-use Rattle.table.specs.Store.{Store, entry, frontOf, backOf, contents, underFront, take, Filed}
-use Rattle.table.specs.Source.{sourceBytes}
-use Rattle.state.specs.declared.sandbox.Sandbox.{Sandbox}
 use Rattle.basics.specs.Choice.{_when_else_}
+use Rattle.interface.specs.declared.request.Request.{Request}
+use Rattle.interface.specs.Requests.{_is_, Map, Write, pageOf}
+use Rattle.interface.specs.Outcome.{firstOf}
+use Rattle.interface.specs.Runs.{takesRun, longestRun}
+use Rattle.frames.specs.declared.Held.{Held}
+use Rattle.frames.specs.Frames.{held, mark}
+use Rattle.marks.specs.Named.{usedBelow}
+use Rattle.marks.specs.Marks.{from}
+use Rattle.table.specs.Store.{Store, entry, frontOf, Filed}
+use Rattle.runs.specs.declared.Runs.{Runs}
+use Rattle.runs.specs.Row.{row, lengthsOf, withRunAt}
+use Rattle.kept.specs.Spare.{keptAt, Spare, leftOf, adoptTo}
+use Rattle.kept.specs.Test.{keptTo}
+use Rattle.areas.specs.Areas.{slots}
+use Rattle.state.specs.declared.sandbox.Sandbox.{Sandbox}
+use Rattle.state.specs.World.{World, sandboxAt, rowsOf}
 use Rattle.rules.specs.Ready.{Fit, Ready}
-use Rattle.memory.specs.Memory.{storeAfter}
+use Rattle.memory.specs.declared.spare.Given.{Given}
+use Rattle.memory.specs.Memory.{holdsIn, givesAt, placeFor, framesFor, runsAfter, touched, storeAfter}
+
+-- the front entry of the page that a write names
+abbrev pub ownFront : Request → Store → ℕ
+ownFront q st = entry st (frontOf (q .sandbox) (pageOf q))
+
+-- what a map makes of the runs, and of the store: the frames that it takes are zero already, so that entries and marks change and no byte does
+unfoldable pub mapRuns : Request → Sandbox → Runs
+mapRuns q b = withRunAt (placeFor q b) (leftOf (row (b .runs) (placeFor q b)) (framesFor q b)) (b .runs) when takesRun q else b .runs
+
+unfoldable pub mapAdopts : Request → Sandbox → Store → Store
+mapAdopts q b st =
+    adoptTo (frontOf (q .sandbox) (firstOf (slots (b .present)) q)) (row (b .runs) (placeFor q b)) st (framesFor q b) when takesRun q else st
+
+-- a frame of so many that no entry names and no run keeps
+pub record Unheld (frames : ℕ) (w : World) (f : ℕ) : Type 0 where
+  pub ofPool : f < frames
+  pub unnamed : held (w .store .marks) f ≡ 0
+  pub unkept : keptAt (rowsOf w) f ≡ 0
 
 -- what a part of an accepted call asks: a request within its limits for one of the four sandboxes, well formed areas, whole image pages,
--- and a store of so many frames whose marks are those of its entries
-pub record Asked (image : List ℕ) (frames images : ℕ) (q : Request) (b : Sandbox) (st : Store) : Type 0 where
+-- a store of so many frames whose marks are those of its entries, and kept frames that are zero, each of one run and of no entry
+pub record Asked (image : List ℕ) (frames images : ℕ) (q : Request) (w : World) : Type 0 where
   pub row : q .sandbox < 4
   pub fit : Fit q
-  pub ready : Ready images b
+  pub ready : Ready images (sandboxAt w (q .sandbox))
   pub whole : length image ≡ images * 256
-  pub filed : Filed 256 frames st
-  -- a written page is mapped, and finds a frame where it has no front
-  pub room : (q is Write) ≡ true → entry st (frontOf (q .sandbox) (pageOf q)) ≡ 0 → usedBelow (entry st) 512 < frames
+  pub filed : Filed 256 frames (w .store)
+  pub spare : Spare 256 frames (w .store) (rowsOf w)
+  -- the marks of all runs together, as a pass over them finds them
+  pub found : (f : ℕ) → f < 128 → held (keptTo (rowsOf w) 4 .held) f ≡ keptAt (rowsOf w) f
+  -- a map lies within the 64 pages
+  pub mapped : q .code ≡ Map → firstOf (slots (sandboxAt w (q .sandbox) .present)) q + q .p2 ≤ 64
+  -- a written page is mapped: without a front of its own, fronts and backs leave room for one more within the share,
+  pub fits : q .code ≡ Write → ownFront q (w .store) ≡ 0 → usedBelow (from (q .sandbox * 128) (w .store .table)) 128 < sandboxAt w (q .sandbox) .share
+  -- and where kept frames leave room too, a frame is not held
+  pub room : q .code ≡ Write → ownFront q (w .store) ≡ 0 → holdsIn (w .store) (q .sandbox) (sandboxAt w (q .sandbox)) < sandboxAt w (q .sandbox) .share
+      → (f : ℕ) × Unheld frames w f
 
--- "Which unheld frame is taken is open": the store after an accepted request, with the frame that a write took
-pub record StoreStepped (image : List ℕ) (frames : ℕ) (q : Request) (b : Sandbox) (st after : Store) : Type 0 where
-  pub frame : ℕ
-  pub free : (q is Write && eqb (entry st (frontOf (q .sandbox) (pageOf q))) 0) ≡ true → (frame < frames) × (held (st .marks) frame ≡ 0)
-  pub equals : after ≡ storeAfter image frame q b st
+-- a frame of the longest run of these
+pub record OfLongest (runs : Runs) (given : ℕ) : Type 0 where
+  pub low : given < 128
+  pub kept : held (row runs (longestRun (lengthsOf runs))) given ≡ 1
 
--- a page without a front took a frame, filled with what the page reads but for a front; one with a front is as it was
-pub record TouchStepped (image : List ℕ) (frames s page : ℕ) (committed : Bool) (source : Source) (st after : Store) : Type 0 where
+-- where a frame is given up, it is one of the longest run, which loses it; the marks of the kept frames lose it too
+pub record GaveUp (gives : Bool) (runs : Runs) (kept : Held) (r : Given) : Type 0 where
+  pub given : ℕ
+  pub gave : gives ≡ true → OfLongest runs given
+  pub left : r .runs ≡ (withRunAt (longestRun (lengthsOf runs)) (mark (row runs (longestRun (lengthsOf runs))) given 0) runs when gives else runs)
+  pub marks : r .kept ≡ (mark kept given 0 when gives else kept)
+
+-- the frame that a write takes "was unheld, or was given up by this very call"
+abbrev pub Takes : ℕ → Request → World → ℕ → ℕ → Type 0
+Takes frames q w frame given =
+    Unheld frames w frame ⊎ ((givesAt q (sandboxAt w (q .sandbox)) (w .store) ≡ true) × (frame ≡ given))
+
+-- "Which unheld frame is taken is open"; "which one is open": the store and the runs after an accepted request, with the frame that a write took and the
+-- one that it gave up
+pub record StoreStepped (image : List ℕ) (frames : ℕ) (q : Request) (w : World) (after : Store) (left : Runs) : Type 0 where
   pub frame : ℕ
-  pub free : eqb (entry st (frontOf s page)) 0 ≡ true → (frame < frames) × (held (st .marks) frame ≡ 0)
-  pub equals : after ≡ (take 256 (frontOf s page) frame (underFront committed (sourceBytes image source) (contents 256 st (backOf s page))) st when eqb (entry st (frontOf s page)) 0 else st)
+  pub given : ℕ
+  pub gave : givesAt q (sandboxAt w (q .sandbox)) (w .store) ≡ true → OfLongest (sandboxAt w (q .sandbox) .runs) given
+  pub takes : (q is Write && eqb (ownFront q (w .store)) 0) ≡ true → Takes frames q w frame given
+  pub equals : after ≡ storeAfter image frame q (sandboxAt w (q .sandbox)) (w .store)
+  pub runs : left ≡ runsAfter given q (sandboxAt w (q .sandbox)) (w .store)
+
+-- a write before its byte is stored: a page without a front took a frame, filled with what the page reads; one with a front is as it was
+pub record TouchStepped (image : List ℕ) (frames : ℕ) (q : Request) (w : World) (after : Store) (left : Runs) : Type 0 where
+  pub frame : ℕ
+  pub given : ℕ
+  pub gave : givesAt q (sandboxAt w (q .sandbox)) (w .store) ≡ true → OfLongest (sandboxAt w (q .sandbox) .runs) given
+  pub takes : eqb (ownFront q (w .store)) 0 ≡ true → Takes frames q w frame given
+  pub equals : after ≡ touched image frame (sandboxAt w (q .sandbox)) (q .sandbox) (pageOf q) (w .store)
+  pub runs : left ≡ runsAfter given q (sandboxAt w (q .sandbox)) (w .store)

@@ -4,10 +4,10 @@ ghost use Prim.Native.Nat.{_*_, _≤_, _<_};
 ghost use lib.ListN.{length};
 ghost use Rattle.interface.specs.Requests.{Write};
 ghost use Rattle.interface.specs.Slots.{isCommitted, backingAt};
-ghost use Rattle.marks.specs.Named.{usedBelow};
-ghost use Rattle.table.specs.Store.{kept, entry, frontOf, backOf, Ranged, Filed, rewindPage, rewindTo};
+ghost use Rattle.table.specs.Store.{kept, frontOf, backOf, Ranged, rewindPage, rewindTo};
 ghost use Rattle.table.specs.Source.{sourceBytes, sourceEnd};
 ghost use Rattle.areas.specs.Areas.{slots, Near};
+ghost use Rattle.state.specs.World.{worldOf};
 ghost use Rattle.rules.specs.Ready.{Ready};
 ghost use Rattle.content.specs.Content.{sourceOf, copyPage};
 ghost use Rattle.memory.specs.Memory.{keepsFront};
@@ -16,105 +16,137 @@ use areas::area::Areas;
 use areas::slot::backing_at;
 use areas::slot::is_committed;
 use content::read::source_of;
+use crate::spare::Left;
+use crate::spare::give_up;
+use crate::spare::map;
+use crate::spare::unheld_frame;
 use frames::Held;
 use interface::page::PageNo;
 use interface::request::Request;
+use state::sandbox::Machine;
 use state::sandbox::Sandbox;
-use table::source::Source;
+use state::sandbox::kept_marks;
 
-// The store after an accepted request.
+// The store and the runs after an accepted request.
 pub fn store_after(
-    held: Held,
+    machine: Machine,
     pool: &mut [u8],
     table: &mut [u16],
     image: &[u8],
-    b: Sandbox,
     q: Request,
     frames: u8,
     images: u8,
-) -> Held
-    requires { ⌜ Asked (now image) frames images q b (kept held (now pool) (now table)) ⌝ }
-    ensures { λ r. ⌜ StoreStepped (now (image .entry)) frames q b (kept held (now (pool .entry)) (now (table .entry)))
-        (kept r (now (pool .exit)) (now (table .exit))) ⌝ }
+) -> Left
+    requires { ⌜ Asked (now image) frames images q (worldOf machine (now pool) (now table)) ⌝ }
+    ensures { λ r. ⌜ StoreStepped (now (image .entry)) frames q (worldOf machine (now (pool .entry)) (now (table .entry)))
+        (kept (r .held) (now (pool .exit)) (now (table .exit))) (r .runs) ⌝ }
 {
     let code = q.code;
     let s = q.sandbox as u8;
+    let k = q.sandbox as usize;
+    let held = machine.held;
+    let b = machine.sandboxes[k];
+    let runs = b.runs;
+    if code == 2 {
+        return map(held, table, b, q, images);
+    }
     if code == 3 {
-        return table::store::free_range(held, pool, table, s, PageNo(q.p1 as u8), q.p2 as u8);
+        let h = table::store::free_range(held, pool, table, s, PageNo(q.p1 as u8), q.p2 as u8);
+        return Left {
+            held: h,
+            runs: runs,
+        };
     }
     if code == 6 {
-        return write(held, pool, table, image, b, q, frames, images);
+        return write(machine, pool, table, image, q, frames, images);
     }
     if code == 7 {
         table::entry::move_fronts(table, s);
-        return held;
+        return Left {
+            held: held,
+            runs: runs,
+        };
     }
     if code == 8 {
-        return rewind(held, pool, table, image, b, s, images);
+        let left = runs;
+        let h = rewind(held, pool, table, image, b, s, images);
+        return Left {
+            held: h,
+            runs: left,
+        };
     }
-    held
+    Left {
+        held: held,
+        runs: runs,
+    }
 }
 
 // "Write": a page without a front first takes a frame, and then one byte of its front is stored.
 fn write(
-    held: Held,
+    machine: Machine,
     pool: &mut [u8],
     table: &mut [u16],
     image: &[u8],
-    b: Sandbox,
     q: Request,
     frames: u8,
     images: u8,
-) -> Held
+) -> Left
     requires { ⌜ q .code ≡ Write ⌝ }
-    requires { ⌜ Asked (now image) frames images q b (kept held (now pool) (now table)) ⌝ }
-    ensures { λ r. ⌜ StoreStepped (now (image .entry)) frames q b (kept held (now (pool .entry)) (now (table .entry)))
-        (kept r (now (pool .exit)) (now (table .exit))) ⌝ }
+    requires { ⌜ Asked (now image) frames images q (worldOf machine (now pool) (now table)) ⌝ }
+    ensures { λ r. ⌜ StoreStepped (now (image .entry)) frames q (worldOf machine (now (pool .entry)) (now (table .entry)))
+        (kept (r .held) (now (pool .exit)) (now (table .exit))) (r .runs) ⌝ }
 {
+    let left = touch(machine, pool, table, image, q, frames, images);
     let s = q.sandbox as u8;
     let page = PageNo((q.p1 / 256) as u8);
-    let present = b.present;
-    let slot = present.slot(page);
-    let h = touch(
-        held,
-        pool,
-        table,
-        image,
-        s,
-        page,
-        is_committed(slot),
-        source_of(backing_at(slot)),
-        frames,
-    );
     table::store::store_byte(pool, table, s, page, (q.p1 % 256) as u8, q.p2 as u8);
-    h
+    left
 }
 
 // A page without a front takes a frame; one with a front keeps it.
 fn touch(
-    held: Held,
+    machine: Machine,
     pool: &mut [u8],
     table: &mut [u16],
     image: &[u8],
-    s: u8,
-    page: PageNo,
-    committed: bool,
-    source: Source,
+    q: Request,
     frames: u8,
-) -> Held
-    requires { ⌜ s < 4 ⌝ }
-    requires { ⌜ page .0 < 64 ⌝ }
-    requires { ⌜ sourceEnd source * 256 ≤ length (now image) ⌝ }
-    requires { ⌜ Filed 256 frames (kept held (now pool) (now table)) ⌝ }
-    requires { ⌜ (entry (kept held (now pool) (now table)) (frontOf s (page .0)) ≡ 0 → usedBelow (entry (kept held (now pool) (now table))) 512 < frames) ⌝ }
-    ensures { λ r. ⌜ TouchStepped (now (image .entry)) frames s (page .0) committed source (kept held (now (pool .entry)) (now (table .entry)))
-        (kept r (now (pool .exit)) (now (table .exit))) ⌝ }
+    images: u8,
+) -> Left
+    requires { ⌜ q .code ≡ Write ⌝ }
+    requires { ⌜ Asked (now image) frames images q (worldOf machine (now pool) (now table)) ⌝ }
+    ensures { λ r. ⌜ TouchStepped (now (image .entry)) frames q (worldOf machine (now (pool .entry)) (now (table .entry)))
+        (kept (r .held) (now (pool .exit)) (now (table .exit))) (r .runs) ⌝ }
 {
+    let s = q.sandbox as u8;
+    let page = PageNo((q.p1 / 256) as u8);
+    let k = q.sandbox as usize;
+    let sandboxes = machine.sandboxes;
+    let b = sandboxes[k];
+    let runs = b.runs;
+    let held = machine.held;
     let front = table::entry::front(table, s, page);
     if front != 0 {
-        return held;
+        return Left {
+            held: held,
+            runs: runs,
+        };
     }
-    table::store::touch(held, pool, table, image, s, page, committed, source, frames)
+    let found = kept_marks(sandboxes);
+    let all = found.held;
+    let given = give_up(table, runs, all, b.share, s);
+    let rest = given.kept;
+    let left = given.runs;
+    let f = unheld_frame(held, rest, frames);
+    let present = b.present;
+    let slot = present.slot(page);
+    let committed = is_committed(slot);
+    let source = source_of(backing_at(slot));
+    let h = table::store::take(held, pool, table, image, s, page, committed, source, f);
+    Left {
+        held: h,
+        runs: left,
+    }
 }
 
 // "Rewind": each front keeps its frame with the snapshot's bytes, or is freed and cleared. A committed page agrees with the snapshot's in backing, so

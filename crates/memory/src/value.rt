@@ -12,8 +12,8 @@ use interface::request::Request;
 use rules::after::first_of;
 use state::sandbox::Sandbox;
 
-// map: "Value: first page"; read: "Value: the byte"; snapshot: "Value: pages committed"; report: "Value: frames held, fronts plus backs"; call 10: "the
-// lowest page number at which the sandbox and its snapshot differ".
+// map: "Value: first page"; read: "Value: the byte"; snapshot: "Value: pages committed"; report: "Value: frames held, fronts plus backs", and kept
+// frames "count in call 9"; call 10: "the lowest page number at which the sandbox and its snapshot differ".
 pub fn value_of(
     pool: &[u8],
     table: &[u16],
@@ -44,7 +44,8 @@ pub fn value_of(
         return present.mapped_pages() as u32;
     }
     if code == 9 {
-        return marks::frames_held(table, q.sandbox as u8, frames) as u32;
+        let runs = b.runs;
+        return marks::frames_held(table, q.sandbox as u8, frames) as u32 + runs.kept() as u32;
     }
     if code == 10 {
         return lowest_difference(pool, table, image, b, q.sandbox as u8, images) as u32;

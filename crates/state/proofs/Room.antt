@@ -25,8 +25,9 @@ use Rattle.kept.proofs.SpareLaws.{frame-there as frame-kept}
 use Rattle.areas.specs.Areas.{slots}
 use Rattle.state.specs.declared.sandbox.Sandbox.{Sandbox}
 use Rattle.state.specs.World.{World, sandboxAt, copyOf, framesOf, pagesIn, rowsOf}
-use Rattle.state.specs.Sound.{SoundAt, Sound}
+use Rattle.state.specs.Sound.{SoundAt}
 use Rattle.state.proofs.SettledLaws.{copied-slots}
+use Rattle.state.proofs.TestLaws.{Tested}
 
 -- ---- sums that are no greater, and less where one place is
 
@@ -107,7 +108,7 @@ module _ (images : ℕ) (st : Store) (s : ℕ) (b : Sandbox) (S : SoundAt images
 abbrev pub holds : World → ℕ → ℕ
 holds w s = usedBelow (from (s * 128) (w .store .table)) 128 + keptBy (rowsOf w s)
 
-module _ (image : List ℕ) (w : World) (S : Sound image w) (s i : ℕ) (l : s < 4) (k : i < 64)
+module _ (image : List ℕ) (w : World) (S : Tested image w) (s i : ℕ) (l : s < 4) (k : i < 64)
     (m : isMapped (slots (sandboxAt w s .present) i) ≡ true) (e : entry (w .store) (frontOf s i) ≡ 0) where
   -- where a sandbox holds fewer frames than its share, entries and runs together hold fewer than the pool has
   pub room : holds w s < sandboxAt w s .share → usedBelow (entry (w .store)) 512 + sum (λ t. keptBy (rowsOf w t)) 4 < framesOf w

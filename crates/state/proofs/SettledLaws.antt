@@ -19,9 +19,8 @@ pub copied-slots : (images : ℕ) (st : Store) (s : ℕ) (b : Sandbox) → Sound
 copied-slots images st s b S =
     by-cases (b .taken) (λ t. rw t) (λ t. rw t (sym (ap slots (S .untaken t) ∙ none-slots)))
 
-pub settled : (image : List ℕ) (w : World) → Sound image w → (s : ℕ) → s < 4 → Settled (viewAt image w s)
-settled image w S s l =
-    let A = S .each s l in
+pub settled-at : (image : List ℕ) (w : World) (s : ℕ) → SoundAt (pagesIn (length image)) (w .store) s (sandboxAt w s) → Settled (viewAt image w s)
+settled-at image w s A =
     let images : ℕ = pagesIn (length image) in
     let copy = copied-slots images (w .store) s (sandboxAt w s) A in
     record {
@@ -30,3 +29,6 @@ settled image w S s l =
       copyFew = rw copy (few-areas images (sandboxAt w s .snapshot) (A .snapshot));
       copyMarked = rw copy (A .marked);
     }
+
+pub settled : (image : List ℕ) (w : World) → Sound image w → (s : ℕ) → s < 4 → Settled (viewAt image w s)
+settled image w S s l = settled-at image w s (S .each s l)

@@ -17,18 +17,18 @@ use Rattle.interface.specs.declared.page.Slot.{Slot}
 use Rattle.interface.specs.Slots.{isMapped, isCommitted, backingAt, follows, chargeOf}
 use Rattle.interface.specs.Limits.{between}
 use Rattle.interface.proofs.SlotLaws.{committed-mapped, Inside}
-use Rattle.frames.specs.Frames.{noneHeld, sameHeld}
+use Rattle.frames.specs.Frames.{held, noneHeld, sameHeld}
 use Rattle.frames.proofs.FrameLaws.{same-held-true, same-held-of}
 use Rattle.marks.specs.Named.{usedBelow}
 use Rattle.marks.specs.Marks.{from, marksb}
-use Rattle.marks.proofs.MarkLaws.{marksb-named, named-marksb}
+use Rattle.marks.proofs.MarkLaws.{words, marksb-named, named-marksb}
 use Rattle.table.specs.Store.{Store, entry, frontOf, backOf, Filed}
 use Rattle.runs.specs.declared.Runs.{Runs}
 use Rattle.runs.specs.Row.{row, noRuns}
 use Rattle.runs.proofs.RowLaws.{no-runs}
-use Rattle.kept.specs.Spare.{keptBy}
-use Rattle.kept.specs.Test.{spareb}
-use Rattle.kept.proofs.TestLaws.{spare-true, spare-of}
+use Rattle.kept.specs.Spare.{keptAt, keptBy, Spare}
+use Rattle.kept.specs.Test.{keptTo, spareb}
+use Rattle.kept.proofs.TestLaws.{spare-true, spare-found, spare-of}
 use Rattle.areas.specs.declared.area.Areas.{Areas}
 use Rattle.areas.specs.Areas.{slots, empty, Bounded}
 use Rattle.areas.specs.Formed.{WellFormed, wellFormed}
@@ -38,7 +38,7 @@ use Rattle.areas.proofs.FormedLaws.{formed, formed-of}
 use Rattle.areas.proofs.KeptLaws.{slots-bounded}
 use Rattle.areas.proofs.ChangeLaws.{formed-empty}
 use Rattle.state.specs.declared.sandbox.Sandbox.{Sandbox}
-use Rattle.state.specs.World.{World, sandboxAt, copyOf, framesOf, pagesIn, wholePages, lengthsOk, rowsOf}
+use Rattle.state.specs.World.{World, sandboxAt, sharesOf, copyOf, framesOf, pagesIn, wholePages, lengthsOk, rowsOf}
 use Rattle.state.specs.Sound.{SoundAt, Sound}
 use Rattle.state.specs.Test.{Typed, pageOk, pagesOk, noneKept, runsOk, recordOk, sandboxOk, sandboxesOk, runsOkAt, keptOk, soundb}
 
@@ -284,33 +284,61 @@ module _ (images : ℕ) (w : World) where
   unfolding sandboxesOk
   sandboxes-of each = every-of sandboxPasses 0 4 (λ s l d. sandbox-of images (w .store) s (sandboxAt w s) (each s (omega arith)))
 
-pub sound-true : (image : List ℕ) (w : World) → Typed w → soundb image w ≡ true → Sound image w
+-- what a test that passes shows of a state: all that `Sound` says but for the ranges of the runs' words, which their types give. (The marks are two words of
+-- 64 bits, because they are those that the pass over the entries found.)
+pub record Tested (image : List ℕ) (w : World) : Type 0 where
+  pub frames : 1 ≤ framesOf w
+  pub whole : length image ≡ pagesIn (length image) * 256
+  pub images : pagesIn (length image) ≤ 64
+  pub filed : Filed 256 (framesOf w) (w .store)
+  pub each : (s : ℕ) → s < 4 → SoundAt (pagesIn (length image)) (w .store) s (sandboxAt w s)
+  pub spare : Spare 256 (framesOf w) (w .store) (rowsOf w)
+  -- the marks of all runs together, as a pass over them finds them
+  pub found : (f : ℕ) → f < 128 → held (keptTo (rowsOf w) 4 .held) f ≡ keptAt (rowsOf w) f
+  pub pooled : sharesOf w ≤ framesOf w
+
+pub tested : (image : List ℕ) (w : World) → soundb image w ≡ true → Tested image w
 unfolding soundb keptOk
-sound-true image w T h =
+tested image w h =
     let h₁ = and-both (lengthsOk (length (w .store .pool)) (length (w .store .table)) (length image)) _ h in
     let h₂ = and-both (marksb (framesOf w) (w .store .marks) (w .store .table)) _ (h₁ .1) in
     let h₃ = and-both (sandboxesOk (pagesIn (length image)) w) _ (h₂ .1) in
     let h₄ = and-both (keptOk w) _ (h₃ .1) in
     let h₅ = and-both (every (runsOkAt w) 0 4) (spareb (framesOf w) (w .store) (rowsOf w)) (h₄ .0) in
     let L = lengths-true (length (w .store .pool)) (length (w .store .table)) (length image) (h₁ .0) in
+    let two = words (framesOf w) (w .store .marks) (w .store .table) (L .few) (h₂ .0) in
     let F : Filed 256 (framesOf w) (w .store) = record {
       few = L .few;
       pages = L .pages;
       entries = L .entries;
       names = marksb-named (framesOf w) (w .store .marks) (w .store .table) (L .few) (L .entries) (h₂ .0);
-      low = T .low;
-      high = T .high;
+      low = two .0;
+      high = two .1;
     } in
     record {
       frames = L .some;
       whole = L .whole;
       images = L .images;
-      row = T .row;
       filed = F;
       each = sandboxes-true (pagesIn (length image)) w (h₅ .0) (h₃ .0);
       spare = spare-true (framesOf w) (w .store) (rowsOf w) F (h₅ .1);
-      words = T .words;
+      found = spare-found (framesOf w) (w .store) (rowsOf w) (h₅ .1);
       pooled = leb-true _ _ (h₄ .1);
+    }
+
+pub sound-true : (image : List ℕ) (w : World) → Typed w → soundb image w ≡ true → Sound image w
+sound-true image w T h =
+    let t = tested image w h in
+    record {
+      frames = t .frames;
+      whole = t .whole;
+      images = t .images;
+      row = T .row;
+      filed = t .filed;
+      each = t .each;
+      spare = t .spare;
+      words = T .words;
+      pooled = t .pooled;
     }
 
 pub sound-of : (image : List ℕ) (w : World) → Sound image w → soundb image w ≡ true

@@ -2,7 +2,7 @@
 use mathlib.Core.Path.{_≡_}
 use mathlib.Core.Bool.{Bool, not, _&&_}
 use mathlib.Core.List.{List}
-use Prim.Native.Nat.{ℕ, _+_, _*_, _^_, _<_}
+use Prim.Native.Nat.{ℕ, _+_, _*_, _<_}
 use lib.Dec.{leb, eqb}
 use lib.ListN.{length}
 use Rattle.basics.specs.Choice.{implies}
@@ -27,8 +27,6 @@ use Rattle.state.specs.World.{World, sandboxAt, sharesOf, copyOf, frames
 -- what the types of the state say, and no test need
 pub record Typed (w : World) : Type 0 where
   pub row : length (w .sandboxes) ≡ 4
-  pub low : w .store .marks .low < 2 ^ 64
-  pub high : w .store .marks .high < 2 ^ 64
   pub words : (s : ℕ) → s < 4 → Words (rowsOf w s)
 
 -- of one page: its slot, the snapshot's, its front and its back entry

@@ -6,14 +6,12 @@ use Prim.Native.Nat.{ℕ, _+_, _*_, _^_, _≤_, _<_}
 use native.Mathlib.Nat.{le-trans, le-of-eq, mul-le-mul-right, zero-mul}
 use native.Mathlib.Omega.{arith}
 use lib.ListN.{length}
-use Rattle.frames.specs.declared.FrameNo.{FrameNo}
-use Rattle.frames.specs.declared.Free.the-variants.{Frame, None}
-use Rattle.frames.specs.Frames.{held, countHeld, greatest}
+use Rattle.frames.specs.Frames.{countHeld}
 use Rattle.frames.proofs.FrameLaws.{lt-or-ge}
 use Rattle.marks.specs.Named.{usedBelow}
 use Rattle.marks.specs.Marks.{marksTo, marksb, from}
 use Rattle.marks.proofs.NamedLaws.{by-entry}
-use Rattle.marks.proofs.MarkLaws.{past-end, marksb-named, count-named, count-run as count-run-named, free-there, never-full as never-full-named}
+use Rattle.marks.proofs.MarkLaws.{past-end, marksb-named, count-named, count-run as count-run-named}
 use Rattle.table.specs.Store.{Store, entry, Ranged, Filed}
 
 -- ---- what the code asks
@@ -43,13 +41,6 @@ module _ (size n : ℕ) (s : Store) (t : Filed size n s) where
   -- as many as entries name one
   pub count-filed : countHeld (s .marks) ≡ usedBelow (entry s) 512
   count-filed = count-named n (t .few) (s .marks) (entry s) (t .names) 512 (past-end (s .table) (t .entries))
-
-  -- where fewer entries than frames name one, there is a frame to take
-  pub free-filed-there : usedBelow (entry s) 512 < n → (f : FrameNo) × (greatest (held (s .marks)) n ≡ Frame f)
-  free-filed-there = free-there n (t .few) (s .marks) (entry s) (t .names) 512 (past-end (s .table) (t .entries))
-
-  pub never-full : usedBelow (entry s) 512 < n → greatest (held (s .marks)) n ≡ None → ⊥
-  never-full = never-full-named n (t .few) (s .marks) (entry s) (t .names) 512 (past-end (s .table) (t .entries))
 
   -- the frames that a run of entries names, counted by their marks
   pub count-run : (first m : ℕ) → countHeld (marksTo n (from first (s .table)) m .held) ≡ usedBelow (from first (s .table)) m

@@ -144,10 +144,3 @@ cleared bytes = kept noneHeld (zeros bytes) (zeros 512)
 -- the store that a start leaves over n frames
 unfoldable pub fresh : ℕ → ℕ → Store
 fresh size n = cleared (n * size)
-
--- 'Which unheld frame is taken is open': r is s after entry k took some unheld frame of n with these bytes
-pub record Touched (size n k : ℕ) (bytes : List ℕ) (s r : Store) : Type 0 where
-  pub chosen : ℕ
-  pub low : chosen < n
-  pub idle : held (s .marks) chosen ≡ 0
-  pub after : r ≡ take size k chosen bytes s

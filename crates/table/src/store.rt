@@ -5,9 +5,8 @@ ghost use lib.ListN.{length, getD};
 ghost use Rattle.basics.specs.Choice.{_when_else_};
 ghost use Rattle.frames.specs.declared.Held.{Held as Words};
 ghost use Rattle.pages.specs.Parts.{zeros, setFrame};
-ghost use Rattle.marks.specs.Named.{usedBelow};
-ghost use Rattle.table.specs.Store.{kept, entry, frontOf, backOf, pageIn, contents, pageFrom, underFront, Ranged, Filed};
-ghost use Rattle.table.specs.Store.{free, take, storeByte, rewindPage, freeTo, cleared, Touched};
+ghost use Rattle.table.specs.Store.{kept, frontOf, backOf, pageIn, contents, pageFrom, underFront, Ranged};
+ghost use Rattle.table.specs.Store.{free, take, storeByte, rewindPage, freeTo, cleared};
 ghost use Rattle.table.specs.Source.{sourceBytes, sourceEnd};
 use crate::entry::back;
 use crate::entry::frame_of;
@@ -15,7 +14,6 @@ use crate::entry::front;
 use crate::entry::front_index;
 use crate::source::Source;
 use frames::FrameNo;
-use frames::Free;
 use frames::Held;
 use interface::page::PageNo;
 
@@ -76,8 +74,8 @@ pub fn store_byte(pool: &mut [u8], table: &[u16], sandbox: u8, page: PageNo, off
     pool::store_byte(pool, frame_of(front), offset, byte);
 }
 
-// A page without a front takes some unheld frame and fills it with what the page reads. Fewer entries than frames name one, so there is one.
-pub fn touch(
+// A page's front entry takes frame `f`, filled with what the page reads but for a front. Which frame is the caller's choice.
+pub fn take(
     held: Held,
     pool: &mut [u8],
     table: &mut [u16],
@@ -86,34 +84,24 @@ pub fn touch(
     page: PageNo,
     committed: bool,
     source: Source,
-    frames: u8,
+    f: FrameNo,
 ) -> Held
     requires { ⌜ sandbox < 4 ⌝ }
     requires { ⌜ page .0 < 64 ⌝ }
+    requires { ⌜ Ranged 256 (now pool) (now table) ⌝ }
     requires { ⌜ sourceEnd source * 256 ≤ length (now image) ⌝ }
-    requires { ⌜ Filed 256 frames (kept held (now pool) (now table)) ⌝ }
-    requires { ⌜ getD (now table) (frontOf sandbox (page .0)) 0 ≡ 0 ⌝ }
-    requires { ⌜ usedBelow (entry (kept held (now pool) (now table))) 512 < frames ⌝ }
-    ensures { λ r. ⌜ Touched 256 frames (frontOf sandbox (page .0))
+    requires { ⌜ f .0 < 128 ⌝ }
+    requires { ⌜ f .0 * 256 + 256 ≤ length (now pool) ⌝ }
+    ensures { λ r. ⌜ kept r (now (pool .exit)) (now (table .exit)) ≡ take 256 (frontOf sandbox (page .0)) (f .0)
         (underFront committed (sourceBytes (now (image .entry)) source)
         (contents 256 (kept held (now (pool .entry)) (now (table .entry))) (backOf sandbox (page .0))))
-        (kept held (now (pool .entry)) (now (table .entry))) (kept r (now (pool .exit)) (now (table .exit))) ⌝ }
+        (kept held (now (pool .entry)) (now (table .entry))) ⌝ }
 {
-    let found = held.greatest_free(frames);
-    match found {
-        Free::Frame(f) => take(
-            held,
-            pool,
-            table,
-            image,
-            sandbox,
-            page,
-            committed,
-            source,
-            f,
-        ),
-        Free::None => held,
-    }
+    let under = back_if(table, sandbox, page, committed);
+    fill_frame(pool, f, under, image, source);
+    let at = front_index(sandbox, page);
+    table[at] = f.0 as u16 + 1;
+    held.with(f)
 }
 
 // A page's front, if it has one, is freed: its frame is cleared and no longer held.
@@ -185,36 +173,6 @@ pub fn restore_page(
     let back = back(table, sandbox, page);
     fill_frame(pool, frame_of(front), back, image, source);
     held
-}
-
-// A page's front entry takes frame `f`, filled with what the page reads but for a front.
-fn take(
-    held: Held,
-    pool: &mut [u8],
-    table: &mut [u16],
-    image: &[u8],
-    sandbox: u8,
-    page: PageNo,
-    committed: bool,
-    source: Source,
-    f: FrameNo,
-) -> Held
-    requires { ⌜ sandbox < 4 ⌝ }
-    requires { ⌜ page .0 < 64 ⌝ }
-    requires { ⌜ Ranged 256 (now pool) (now table) ⌝ }
-    requires { ⌜ sourceEnd source * 256 ≤ length (now image) ⌝ }
-    requires { ⌜ f .0 < 128 ⌝ }
-    requires { ⌜ f .0 * 256 + 256 ≤ length (now pool) ⌝ }
-    ensures { λ r. ⌜ kept r (now (pool .exit)) (now (table .exit)) ≡ take 256 (frontOf sandbox (page .0)) (f .0)
-        (underFront committed (sourceBytes (now (image .entry)) source)
-        (contents 256 (kept held (now (pool .entry)) (now (table .entry))) (backOf sandbox (page .0))))
-        (kept held (now (pool .entry)) (now (table .entry))) ⌝ }
-{
-    let under = back_if(table, sandbox, page, committed);
-    fill_frame(pool, f, under, image, source);
-    let at = front_index(sandbox, page);
-    table[at] = f.0 as u16 + 1;
-    held.with(f)
 }
 
 // The back entry of a committed page; none of one that is not.

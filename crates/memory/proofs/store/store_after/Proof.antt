@@ -1,88 +1,139 @@
-use native.Mathlib.Omega.{arith}
-use Rattle.table.specs.Store.{kept}
-use Rattle.table.proofs.FiledLaws.{filed-ranged}
-use Rattle.memory.proofs.MemoryLaws.{unmapped, copied, rewound, left}
-use borrow.Author.Needs.{needs}
 use Rattle.memory.proofs.store.store_after.Statement.{statement}
 use Rattle.memory.proofs.store.store_after.Tie as tie
+use Rattle.memory.proofs.store.store_after.Reads as reads
+use Rattle.memory.proofs.store.store_after.Lts as lts
+use Rattle.memory.proofs.spare.map.Reads as map-reads
+use Rattle.memory.proofs.store.rewind.Reads as rewind-reads
+use Rattle.memory.proofs.store.write.Reads as write-reads
+use Rattle.table.proofs.entry.move_fronts.Reads as move-fronts-reads
+use Rattle.table.proofs.store.free_range.Reads as free-range-reads
 
+-- src/store.rt:45:13
 cast-s : tie.Need-cast-s
-cast-s c = search needs
+cast-s c = ?
 
-cast-t16 : tie.Need-cast-t16
-cast-t16 c = omega (arith, c .before .before .before .before .before .before .before .before .pre .fit .unmapped (c .before .before .before .if1 .taken))
+-- src/store.rt:46:13
+cast-k : tie.Need-cast-k
+cast-k c = ?
 
-cast-free-range : tie.Need-cast-free-range
-cast-free-range c = omega (arith, c .before .before .before .before .before .before .before .before .before .pre .fit .unmapped (c .before .before .before .before .if1 .taken))
+-- src/store.rt:48:13
+mul-b : tie.Need-mul-b
+mul-b c = ?
 
-free-range-requires : tie.Need-free-range-requires
-free-range-requires c κs = (c .before .before .before .before .before .before .before .before .before .pre .row, (c .before .before .before .before .before .before .before .before .before .pre .fit .unmapped (c .before .before .before .before .if1 .taken), filed-ranged 256 (c .before .before .before .before .before .before .before .before .before .args .frames) (kept (c .before .before .before .before .before .before .before .before .before .args .held) (c .before .before .before .before .before .before .before .before .before .args .pool .now) (c .before .before .before .before .before .before .before .before .before .args .table .now)) (c .before .before .before .before .before .before .before .before .before .pre .filed)))
+-- src/store.rt:48:13
+element-copy-out-b : tie.Need-element-copy-out-b
+element-copy-out-b c = ?
 
+-- src/store.rt:51:9
+map-requires : tie.Need-map-requires
+map-requires c κs = ?
+
+-- src/store.rt:51:9
 same-length : tie.Need-same-length
-same-length c = search needs
+same-length c = ?
 
-same-length-2 : tie.Need-same-length-2
-same-length-2 c = search needs
-
+-- src/store.rt:51:9
 returns : tie.Need-returns
-returns c = unmapped (c .before .before .before .before .before .before .before .before .before .before .before .before .before .before .args .image .now) (c .before .before .before .before .before .before .before .before .before .before .before .before .before .before .args .frames) (c .before .before .before .before .before .before .before .before .before .before .before .before .before .before .args .q) (c .before .before .before .before .before .before .before .before .before .before .before .before .before .before .args .b) (kept (c .before .before .before .before .before .before .before .before .before .before .before .before .before .before .args .held) (c .before .before .before .before .before .before .before .before .before .before .before .before .before .before .args .pool .now) (c .before .before .before .before .before .before .before .before .before .before .before .before .before .before .args .table .now)) _ (c .before .before .before .before .before .before .before .before .before .if1 .taken) (c .before .before .before .before .free-range .ensures)
+returns c = ?
 
-write-requires : tie.Need-write-requires
-write-requires c κs = search needs
+-- src/store.rt:54:71
+cast-t29 : tie.Need-cast-t29
+cast-t29 c = ?
 
+-- src/store.rt:54:84
+cast-free-range : tie.Need-cast-free-range
+cast-free-range c = ?
+
+-- src/store.rt:54:13
+free-range-requires : tie.Need-free-range-requires
+free-range-requires c κs = ?
+
+-- src/store.rt:55:9
+same-length-2 : tie.Need-same-length-2
+same-length-2 c = ?
+
+-- src/store.rt:55:9
 same-length-3 : tie.Need-same-length-3
-same-length-3 c = search needs
+same-length-3 c = ?
 
-same-length-4 : tie.Need-same-length-4
-same-length-4 c = search needs
-
+-- src/store.rt:55:9
 returns-2 : tie.Need-returns-2
-returns-2 c = search needs
+returns-2 c = ?
 
-move-fronts-requires : tie.Need-move-fronts-requires
-move-fronts-requires c κs = search needs
+-- src/store.rt:61:9
+write-requires : tie.Need-write-requires
+write-requires c κs = ?
 
+-- src/store.rt:61:9
+same-length-4 : tie.Need-same-length-4
+same-length-4 c = ?
+
+-- src/store.rt:61:9
 same-length-5 : tie.Need-same-length-5
-same-length-5 c = search needs
+same-length-5 c = ?
 
+-- src/store.rt:61:9
 returns-3 : tie.Need-returns-3
-returns-3 c = copied (c .before .before .before .before .before .before .before .before .before .before .before .args .image .now) (c .before .before .before .before .before .before .before .before .before .before .before .args .frames) (c .before .before .before .before .before .before .before .before .before .before .before .args .q) (c .before .before .before .before .before .before .before .before .before .before .before .args .b) (kept (c .before .before .before .before .before .before .before .before .before .before .before .args .held) (c .before .before .before .before .before .before .before .before .before .before .before .args .pool .now) (c .before .before .before .before .before .before .before .before .before .before .before .args .table .now)) _ (c .before .before .before .before .if3 .taken) (c .before .before .move-fronts .ensures (c .before .before .before .before .before .before .before .before .before .before .before .args .held) (c .before .before .before .before .before .before .before .before .before .before .before .args .pool .now))
+returns-3 c = ?
 
-rewind-requires : tie.Need-rewind-requires
-rewind-requires c κs = (c .before .before .before .before .before .before .before .before .before .before .pre .row, (c .before .before .before .before .before .before .before .before .before .before .pre .ready, (c .before .before .before .before .before .before .before .before .before .before .pre .whole, filed-ranged 256 (c .before .before .before .before .before .before .before .before .before .before .args .frames) (kept (c .before .before .before .before .before .before .before .before .before .before .args .held) (c .before .before .before .before .before .before .before .before .before .before .args .pool .now) (c .before .before .before .before .before .before .before .before .before .before .args .table .now)) (c .before .before .before .before .before .before .before .before .before .before .pre .filed))))
+-- src/store.rt:64:9
+move-fronts-requires : tie.Need-move-fronts-requires
+move-fronts-requires c κs = ?
 
+-- src/store.rt:65:9
 same-length-6 : tie.Need-same-length-6
-same-length-6 c = search needs
+same-length-6 c = ?
 
-same-length-7 : tie.Need-same-length-7
-same-length-7 c = search needs
-
+-- src/store.rt:65:9
 returns-4 : tie.Need-returns-4
-returns-4 c = rewound (c .before .before .before .before .before .before .before .before .before .before .before .before .before .before .before .args .image .now) (c .before .before .before .before .before .before .before .before .before .before .before .before .before .before .before .args .frames) (c .before .before .before .before .before .before .before .before .before .before .before .before .before .before .before .args .q) (c .before .before .before .before .before .before .before .before .before .before .before .before .before .before .before .args .b) (kept (c .before .before .before .before .before .before .before .before .before .before .before .before .before .before .before .args .held) (c .before .before .before .before .before .before .before .before .before .before .before .before .before .before .before .args .pool .now) (c .before .before .before .before .before .before .before .before .before .before .before .before .before .before .before .args .table .now)) _ (c .before .before .before .before .before .before .before .if4 .taken) (c .before .before .before .before .rewind .ensures)
+returns-4 c = ?
 
+-- src/store.rt:72:13
+rewind-requires : tie.Need-rewind-requires
+rewind-requires c κs = ?
+
+-- src/store.rt:73:9
+same-length-7 : tie.Need-same-length-7
+same-length-7 c = ?
+
+-- src/store.rt:73:9
+same-length-8 : tie.Need-same-length-8
+same-length-8 c = ?
+
+-- src/store.rt:73:9
 returns-5 : tie.Need-returns-5
-returns-5 c = left (c .before .before .before .before .before .before .before .before .args .image .now) (c .before .before .before .before .before .before .before .before .args .frames) (c .before .before .before .before .before .before .before .before .args .q) (c .before .before .before .before .before .before .before .before .args .b) (kept (c .before .before .before .before .before .before .before .before .args .held) (c .before .before .before .before .before .before .before .before .args .pool .now) (c .before .before .before .before .before .before .before .before .args .table .now)) (c .before .before .before .if1 .left) (c .before .before .if2 .left) (c .before .if3 .left) (c .if4 .left)
+returns-5 c = ?
+
+-- src/store.rt:31:1
+returns-6 : tie.Need-returns-6
+returns-6 c = ?
 
 pub store-after-spec : {M : Type 1} → statement M
 store-after-spec =
     tie.close
     (tie.spec
     cast-s
-    cast-t16
+    cast-k
+    mul-b
+    element-copy-out-b
+    map-requires
+    same-length
+    returns
+    cast-t29
     cast-free-range
     free-range-requires
-    same-length
     same-length-2
-    returns
-    write-requires
     same-length-3
-    same-length-4
     returns-2
-    move-fronts-requires
+    write-requires
+    same-length-4
     same-length-5
     returns-3
-    rewind-requires
+    move-fronts-requires
     same-length-6
-    same-length-7
     returns-4
-    returns-5)
+    rewind-requires
+    same-length-7
+    same-length-8
+    returns-5
+    returns-6)
