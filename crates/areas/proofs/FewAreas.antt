@@ -26,7 +26,7 @@ unfolding follows
 follows-next Anonymous d e h = refl
 follows-next (Image first) d e h = eq-eqb (first .0 + d + 1) (first .0 + e) (omega arith)
 
-joins-next : (a : Area) (n : ℕ) → a .first .0 ≤ n → joins (slotOf a n) (slotOf a (suc n)) ≡ true
+pub joins-next : (a : Area) (n : ℕ) → a .first .0 ≤ n → joins (slotOf a n) (slotOf a (suc n)) ≡ true
 unfolding joins
 joins-next a n l =
     rw (eq-eqb (a .rights) (a .rights) refl, same-of (a .committed) (a .committed) refl)

@@ -7,5 +7,6 @@ pub mod CountedLaws
 pub mod KeptLaws
 pub mod FewAreas
 pub mod ToldLaws
+pub mod StartLaws
 pub mod ChangeLaws
 pub mod Examples

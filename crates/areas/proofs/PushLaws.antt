@@ -28,7 +28,7 @@ follows-true Anonymous (Image q) pages h = cc
 follows-true (Image p) Anonymous pages h = cc
 follows-true (Image p) (Image q) pages h = ap (λ (n : ℕ). Image (record { 0 = n })) (eqb-true (p .0 + pages) (q .0) h)
 
-follows-more : (first second : Backing) (pages : ℕ) → follows first (pages + 1) second ≡ follows (advance first pages) 1 second
+pub follows-more : (first second : Backing) (pages : ℕ) → follows first (pages + 1) second ≡ follows (advance first pages) 1 second
 unfolding follows
 follows-more Anonymous Anonymous pages = refl
 follows-more Anonymous (Image q) pages = refl

@@ -64,7 +64,7 @@ reached images s w k page m passed =
     go j l low high (no d) (no e) = (omega arith, omega (arith, order images s w k j (omega arith) l))
 
 -- what an area says of its first page
-first-slot : (images : ℕ) (s : Areas) → WellFormed images s → (k page : ℕ) → k < s .count → at s k .first .0 ≡ page
+pub first-slot : (images : ℕ) (s : Areas) → WellFormed images s → (k page : ℕ) → k < s .count → at s k .first .0 ≡ page
     → slots s page ≡ Mapped (attributesOf (at s k))
 first-slot images s w k page l e =
     let zero-on : page - at s k .first .0 ≡ 0 = omega arith in
