@@ -3,7 +3,7 @@ use Prim.Native.Nat.{ℕ, zero, suc, _+_, _-_, _≤_, _<_}
 use mathlib.Core.Path.{_≡_, refl}
 use mathlib.Core.Bool.{Bool, true, false, not, _||_}
 use native.Mathlib.Omega.{arith}
-use native.Mathlib.Decide.{decLt, ℕ-discrete}
+use native.Mathlib.Decide.{decLt}
 use lib.ListN.{getD}
 use Rattle.basics.specs.Choice.{_when_else_}
 use Rattle.basics.specs.Ranges.{one, count}
@@ -15,7 +15,7 @@ use Rattle.areas.specs.declared.area.Areas.{Areas}
 use Rattle.areas.specs.Areas.{none, slotOf, slots, counts}
 use Rattle.areas.specs.Walk.{Formed, countedPages}
 use Rattle.areas.proofs.SlotLaws.{slot-hit}
-use Rattle.areas.proofs.WalkLaws.{endOf, order, between}
+use Rattle.areas.proofs.WalkLaws.{endOf, Before, before-start, before-gap, before-last, before-next, before-none}
 
 -- a run of numbers of which all pass, or none
 count-run : (p : ℕ → Bool) (a n : ℕ) (b : Bool) → ((i : ℕ) → a ≤ i → i < a + n → p i ≡ b) → count p (a + n) ≡ count p a + (n when b else 0)
@@ -44,17 +44,15 @@ unmapped-counts false = refl
 -- n pages count among those below a page, at which the areas before place k have ended and the others have not begun
 pub record Counted (s : Areas) (c : Bool) (k n : ℕ) : Type 0 where
   pub page : ℕ
-  pub small : page ≤ 64
-  pub passed : (j : ℕ) → j < k → endOf s j ≤ page
-  pub ahead : (j : ℕ) → k ≤ j → j < s .count → page ≤ getD (s .list) j none .first .0
+  pub there : Before s k page
   pub counted : n ≡ count (λ i. counts c (slots s i)) page
 
 pub counted-small : (s : Areas) (c : Bool) (k n : ℕ) → Counted s c k n → n ≤ 64
-counted-small s c k n r = omega (arith, r .counted, count-small (λ i. counts c (slots s i)) (r .page), r .small)
+counted-small s c k n r = omega (arith, r .counted, count-small (λ i. counts c (slots s i)) (r .page), r .there .small)
 
 pub counted-start : (s : Areas) (c : Bool) → Counted s c 0 0
 unfolding count
-counted-start s c = record { page = 0; small = omega arith; passed = λ j d. absurd (omega arith); ahead = λ j d l. omega arith; counted = refl }
+counted-start s c = record { page = 0; there = before-start s; counted = refl }
 
 module _ (s : Areas) (F : Formed s) (c : Bool) where
   abbrev at : ℕ → Area
@@ -63,55 +61,32 @@ module _ (s : Areas) (F : Formed s) (c : Bool) where
   abbrev passes : ℕ → Bool
   passes i = counts c (slots s i)
 
-  upTo : (k : ℕ) (P : ℕ → Type 0) → ((j : ℕ) → j < k → P j) → P k → (j : ℕ) → j < k + 1 → P j
-  upTo k P h l j d = go (ℕ-discrete k j)
-    where
-      go : Dec (k ≡ j) → P j
-      go (yes e) = rw e at l
-      go (no e) = h j (omega arith)
-
   pub counted-next : (k n : ℕ) → Counted s c k n → Counted s c (k + 1) (n + countedPages c (at k))
   counted-next k n r = go (decLt k (s .count))
     where
       go : Dec (k < s .count) → Counted s c (k + 1) (n + countedPages c (at k))
-      go (no d) =
-          let e = F .formed .rest k (omega arith) in
-          record {
-            page = r .page;
-            small = r .small;
-            passed = upTo k (λ j. endOf s j ≤ r .page) (r .passed) (rw e (omega arith));
-            ahead = λ j g l. r .ahead j (omega arith) l;
-            counted = rw (e, none-counted c) (omega (arith, r .counted));
-          }
+      go (no d) = record {
+        page = r .page;
+        there = before-none s F k (r .page) (r .there) (omega arith);
+        counted = rw (F .formed .rest k (omega arith), none-counted c) (omega (arith, r .counted));
+      }
       go (yes d) =
-          let first = at k .first .0 in
+          let first : ℕ = at k .first .0 in
+          let ahead : r .page ≤ first = r .there .ahead k (omega arith) d in
           let gap : (i : ℕ) → r .page ≤ i → i < r .page + (first - r .page) → passes i ≡ false =
-          λ i l u. rw (between s F i k (λ j g. omega (arith, r .passed j g)) (λ j g m. before k i j d (omega (arith, r .ahead k (omega arith) d)) g m)) (unmapped-counts c) in
+          λ i l u. rw (before-gap s F k (r .page) (r .there) d i l (omega arith)) (unmapped-counts c) in
           let area : (i : ℕ) → first ≤ i → i < first + at k .pages → passes i ≡ (c || not (at k .committed)) =
           λ i l u.
-          rw (slot-hit (s .list) i k (inside-yes first (at k .pages) i l u) (λ j g. inside-past _ _ i (omega (arith, r .passed j g, r .ahead k (omega arith) d))))
+          rw (slot-hit (s .list) i k (inside-yes first (at k .pages) i l u) (λ j g. inside-past _ _ i (omega (arith, r .there .passed j g))))
           (area-counts c (at k) i) in
           let x = count-run passes (r .page) (first - r .page) false gap in
           let y = count-run passes first (at k .pages) (c || not (at k .committed)) area in
-          let e : r .page + (first - r .page) ≡ first = omega (arith, r .ahead k (omega arith) d) in
-          record {
-            page = endOf s k;
-            small = F .formed .each k d .inside;
-            passed = upTo k (λ j. endOf s j ≤ endOf s k) (λ j g. omega (arith, r .passed j g, r .ahead k (omega arith) d)) (omega arith);
-            ahead = λ j g l. order s F k j (omega arith) l;
-            counted = omega (arith, r .counted, y, rw e at x);
-          }
-        where
-          before : (k i j : ℕ) → k < s .count → i < at k .first .0 → k ≤ j → j < s .count → i < at j .first .0
-          before k i j d l g m = pick (ℕ-discrete k j)
-            where
-              pick : Dec (k ≡ j) → i < at j .first .0
-              pick (yes e) = rw e at l
-              pick (no e) = omega (arith, order s F k j (omega arith) m)
+          let e : r .page + (first - r .page) ≡ first = omega arith in
+          record { page = endOf s k; there = before-next s F k (r .page) (r .there) d; counted = omega (arith, r .counted, y, rw e at x) }
 
   pub counted-all : (n : ℕ) → Counted s c 8 n → n ≡ count passes 64
   counted-all n r =
       let gap : (i : ℕ) → r .page ≤ i → i < r .page + (64 - r .page) → passes i ≡ false =
-      λ i l u. rw (between s F i 8 (λ j g. omega (arith, r .passed j g)) (λ j g m. absurd (omega (arith, F .formed .few)))) (unmapped-counts c) in
-      let e : r .page + (64 - r .page) ≡ 64 = omega (arith, r .small) in
+      λ i l u. rw (before-last s F 8 (r .page) (r .there) (F .formed .few) i l) (unmapped-counts c) in
+      let e : r .page + (64 - r .page) ≡ 64 = omega (arith, r .there .small) in
       omega (arith, r .counted, rw e at (count-run passes (r .page) (64 - r .page) false gap))

@@ -12,11 +12,12 @@ use Rattle.basics.proofs.TestLaws.{by-cases, and-left, and-right, and-of, impli
 use Rattle.basics.proofs.LoopLaws.{every-at, every-of}
 use Rattle.interface.specs.declared.page.Backing.{Backing}
 use Rattle.interface.specs.declared.page.Backing.the-variants.{Anonymous, Image}
+use Rattle.interface.specs.Runs.{isAnonymous}
 use Rattle.interface.specs.Limits.{rightsOk}
 use Rattle.areas.specs.declared.area.Area.{Area}
 use Rattle.areas.specs.declared.area.Areas.{Areas}
 use Rattle.areas.specs.Areas.{none, startOf, Near}
-use Rattle.areas.specs.Formed.{ImagesExist, Proper, Apart, WellFormed, imagesExist, proper, isApart, isAnonymous, isNone, placeOk, wellFormed}
+use Rattle.areas.specs.Formed.{ImagesExist, Proper, Apart, WellFormed, imagesExist, proper, isApart, isNone, placeOk, wellFormed}
 
 -- the test of an area
 

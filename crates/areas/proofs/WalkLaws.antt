@@ -36,6 +36,15 @@ pub record Reached (s : Areas) (low high place : ℕ) : Type 0 where
   pub passed : (j : ℕ) → j < place → endOf s j ≤ low
   pub ahead : place + 1 < s .count → high ≤ endOf s place
 
+-- a page at which the areas before a place have ended and the others have not begun
+pub record Before (s : Areas) (place page : ℕ) : Type 0 where
+  pub small : page ≤ 64
+  pub passed : (j : ℕ) → j < place → endOf s j ≤ page
+  pub ahead : (j : ℕ) → place ≤ j → j < s .count → page ≤ getD (s .list) j none .first .0
+
+pub before-start : (s : Areas) → Before s 0 0
+before-start s = record { small = omega arith; passed = λ j d. absurd (omega arith); ahead = λ j d l. omega arith }
+
 -- the walk's place at a page, from the one before: the next one if there is one and its area has ended
 abbrev nextPlace : Areas → ℕ → ℕ → ℕ
 nextPlace s place page = place + 1 when (ltb (place + 1) (s .count) && leb (endOf s place) page) else place
@@ -67,6 +76,14 @@ module _ (s : Areas) (F : Formed s) where
       let e : j + suc (k - suc j) ≡ k = omega arith in
       rw e at (in-order j (k - suc j) (omega arith))
 
+  -- no area ends behind the last page
+  pub end-small : (k : ℕ) → endOf s k ≤ 64
+  end-small k = go (decLt k (s .count))
+    where
+      go : Dec (k < s .count) → endOf s k ≤ 64
+      go (yes d) = F .formed .each k d .inside
+      go (no d) = rw (F .formed .rest k (omega arith)) (omega arith)
+
   -- no area covers a page that lies behind those before a place and before the others
   pub between : (page place : ℕ) → ((j : ℕ) → j < place → endOf s j ≤ page) → ((j : ℕ) → place ≤ j → j < s .count → page < at j .first .0)
       → slots s page ≡ Unmapped
@@ -76,6 +93,43 @@ module _ (s : Areas) (F : Formed s) where
       go k (yes d) e = inside-past _ _ page (passed k d)
       go k (no d) (yes e) = inside-below _ _ page (ahead k (omega arith) e)
       go k (no d) (no e) = rw (F .formed .rest k (omega arith)) (covers-none page)
+
+  -- from area to area
+
+  up-to : (k : ℕ) (P : ℕ → Type 0) → ((j : ℕ) → j < k → P j) → P k → (j : ℕ) → j < k + 1 → P j
+  up-to k P h l j d = go (ℕ-discrete k j)
+    where
+      go : Dec (k ≡ j) → P j
+      go (yes e) = rw e at l
+      go (no e) = h j (omega arith)
+
+  module _ (k page : ℕ) (b : Before s k page) where
+    -- nothing is mapped from there to the area of the place
+    pub before-gap : k < s .count → (i : ℕ) → page ≤ i → i < at k .first .0 → slots s i ≡ Unmapped
+    before-gap l i d u = between i k (λ j g. omega (arith, b .passed j g)) (λ j g m. later j g m (ℕ-discrete k j))
+      where
+        later : (j : ℕ) → k ≤ j → j < s .count → Dec (k ≡ j) → i < at j .first .0
+        later j g m (yes e) = rw e at u
+        later j g m (no e) = omega (arith, order k j (omega arith) m)
+
+    -- nor from there on, where no area comes
+    pub before-last : s .count ≤ k → (i : ℕ) → page ≤ i → slots s i ≡ Unmapped
+    before-last l i d = between i k (λ j g. omega (arith, b .passed j g)) (λ j g m. absurd (omega arith))
+
+    -- behind the area, and behind a place without one
+    pub before-next : k < s .count → Before s (k + 1) (endOf s k)
+    before-next l = record {
+      small = F .formed .each k l .inside;
+      passed = up-to k (λ j. endOf s j ≤ endOf s k) (λ j g. omega (arith, b .passed j g, b .ahead k (omega arith) l)) (omega arith);
+      ahead = λ j g m. order k j (omega arith) m;
+    }
+
+    pub before-none : s .count ≤ k → Before s (k + 1) page
+    before-none l = record {
+      small = b .small;
+      passed = up-to k (λ j. endOf s j ≤ page) (b .passed) (rw (F .formed .rest k l) (omega arith));
+      ahead = λ j g m. b .ahead j (omega arith) m;
+    }
 
   -- the walk
 

@@ -9,6 +9,7 @@ use Rattle.basics.specs.Ranges.{every}
 use Rattle.interface.specs.declared.page.Backing.{Backing}
 use Rattle.interface.specs.declared.page.Backing.the-variants.{Anonymous, Image}
 use Rattle.interface.specs.Limits.{rightsOk}
+use Rattle.interface.specs.Runs.{isAnonymous}
 use Rattle.areas.specs.declared.area.Area.{Area}
 use Rattle.areas.specs.declared.area.Areas.{Areas}
 use Rattle.areas.specs.Areas.{none, attributesOf}
@@ -55,11 +56,6 @@ proper images a =
 -- "ordered, apart and longest"
 unfoldable pub isApart : Area → Area → Bool
 isApart a b = leb (a .first .0 + a .pages) (b .first .0) && not (goesOn a (b .first .0) (attributesOf b))
-
--- "backing: anonymous"
-abbrev pub isAnonymous : Backing → Bool
-isAnonymous Anonymous = true
-isAnonymous (Image first) = false
 
 -- no area stands in the place
 unfoldable pub isNone : Area → Bool

@@ -3,9 +3,10 @@ ghost use mathlib.Core.Path.{_≡_};
 ghost use Prim.Native.Nat.{_<_};
 ghost use lib.ListN.{length};
 ghost use Rattle.interface.specs.Limits.{rightsOk};
-ghost use Rattle.areas.specs.Formed.{imagesExist, proper, isApart, isAnonymous, isNone, placeOk, wellFormed};
+ghost use Rattle.areas.specs.Formed.{imagesExist, proper, isApart, isNone, placeOk, wellFormed};
 use crate::area::Area;
 use crate::area::Areas;
+use crate::slot::is_anonymous;
 use interface::page::Backing;
 use interface::page::PageNo;
 
@@ -90,15 +91,5 @@ fn images_exist(images: u8, backing: Backing, pages: u8) -> bool
     match backing {
         Backing::Anonymous => true,
         Backing::Image(first) => first.0 as usize + pages as usize <= images as usize,
-    }
-}
-
-// Whether the backing is anonymous.
-fn is_anonymous(backing: Backing) -> bool
-    ensures { λ r. ⌜ r ≡ isAnonymous backing ⌝ }
-{
-    match backing {
-        Backing::Anonymous => true,
-        Backing::Image(_) => false,
     }
 }

@@ -2,6 +2,7 @@
 ghost use mathlib.Core.Path.{_≡_};
 ghost use Prim.Native.Nat.{_+_, _<_};
 ghost use Rattle.interface.specs.Slots.{isMapped, isCommitted, isUncommitted, rightsAt, backingAt, withRights, withCommitted, advance, follows};
+ghost use Rattle.interface.specs.Runs.{isAnonymous};
 ghost use Rattle.interface.specs.Outcome.{pageOn};
 ghost use Rattle.areas.specs.Areas.{startOf};
 use interface::page::Attributes;
@@ -59,6 +60,16 @@ pub fn backing_at(slot: Slot) -> Backing
             let backing = t.backing;
             backing
         }
+    }
+}
+
+// Whether the backing is anonymous.
+pub fn is_anonymous(backing: Backing) -> bool
+    ensures { λ r. ⌜ r ≡ isAnonymous backing ⌝ }
+{
+    match backing {
+        Backing::Anonymous => true,
+        Backing::Image(_) => false,
     }
 }
 

@@ -17,7 +17,7 @@ use Rattle.frames.specs.declared.Held.{Held}
 use Rattle.basics.specs.Ranges.{sum}
 use Rattle.frames.specs.Frames.{held, noneHeld, countHeld}
 use Rattle.frames.proofs.SumLaws.{sum-le}
-use Rattle.frames.proofs.FrameLaws.{held-lt}
+use Rattle.frames.proofs.FrameLaws.{held-lt, held-zero, none-count}
 use Rattle.runs.specs.declared.Runs.{Runs}
 use Rattle.runs.specs.Row.{row, lengthsOf, noRuns, withRunAt, rowTo, tabled, betterOf, shiftTo, movedRuns, pushed}
 
@@ -100,6 +100,11 @@ module _ (r : Runs) (run : Held) (c n m : ℕ) (place : c ≡ best noLonger (len
 pub push-moves : (r : Runs) (run : Held) (c n m : ℕ) (q : Runs) → c ≡ best noLonger (lengthsOf r) 8 → n ≡ countHeld run → m ≡ lengthsOf r c → m < n → q ≡ movedRuns c run r → q ≡ pushed r run
 unfolding pushed
 push-moves r run c n m q place size old h d = rw (← place, ← size, ← old, lt-leb n m h) d
+
+-- a run of none changes nothing
+pub pushed-none : (r : Runs) → pushed r noneHeld ≡ r
+unfolding pushed
+pushed-none r = rw (none-count noneHeld (λ f d. held-zero f), le-leb 0 (lengthsOf r (best noLonger (lengthsOf r) 8)) (omega arith))
 
 -- ---- it is `push` of the row
 

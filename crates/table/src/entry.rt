@@ -68,7 +68,7 @@ pub fn front_index(sandbox: u8, page: PageNo) -> usize
 }
 
 // The frame that an entry names, which names one.
-pub(crate) fn frame_of(entry: u16) -> FrameNo
+pub fn frame_of(entry: u16) -> FrameNo
     requires { ⌜ 0 < entry ⌝ }
     requires { ⌜ entry ≤ 128 ⌝ }
     ensures { λ r. ⌜ r .0 ≡ entry - 1 ⌝ }

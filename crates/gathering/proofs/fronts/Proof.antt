@@ -1,0 +1,51 @@
+-- The run has the frames of the first i pages.
+use mathlib.Core.Path.{_≡_, refl, ap, _∙_}
+use Prim.Native.Nat.{_≤_, _-_}
+use native.Mathlib.Omega.{arith}
+use borrow.Author.Needs.{needs}
+use Rattle.gathering.specs.AreaRun.{frontsTo}
+use Rattle.gathering.proofs.AreaLaws.{fronts-more}
+use Rattle.gathering.proofs.fronts.Statement.{statement}
+use Rattle.gathering.proofs.fronts.Tie as tie
+
+abbrev Inv-loop : tie.InvT-loop
+Inv-loop table sandbox first pages run₀ i₀ run i = (i ≤ pages) × (run ≡ frontsTo table sandbox (first .0) i)
+
+abbrev μ-loop : tie.MeasureT-loop
+μ-loop table sandbox first pages run₀ i₀ run i = pages - i
+
+none-requires : tie.Need-none-requires Inv-loop μ-loop
+none-requires c κs = search needs
+
+loop-holds : tie.Need-loop-holds Inv-loop μ-loop
+unfolding frontsTo
+loop-holds c = (omega arith, c .none .ensures)
+
+add-t9 : tie.Need-add-t9 Inv-loop μ-loop
+add-t9 c = search needs
+
+front-requires : tie.Need-front-requires Inv-loop μ-loop
+front-requires c κs = search needs
+
+with-entry-requires : tie.Need-with-entry-requires Inv-loop μ-loop
+with-entry-requires c κs = rw (c .front .ensures) (c .before .before .before .before .before .before .pre .1 .1 .1 _)
+
+add-i : tie.Need-add-i Inv-loop μ-loop
+add-i c = search needs
+
+loop-less : tie.Need-loop-less Inv-loop μ-loop
+loop-less c = search needs
+
+loop-again : tie.Need-loop-again Inv-loop μ-loop
+loop-again c =
+    let l = c .before .before .before .before .loop in
+    (search needs, fronts-more _ _ _ (l .i) _ (l .run) _ (l .inv .1) (c .before .front .ensures) (c .with-entry .ensures))
+
+returns : tie.Need-returns Inv-loop μ-loop
+returns c =
+    let l = c .before .loop in
+    let end : l .i ≡ c .before .before .before .before .args .pages = omega (arith, l .inv .0, c .loop-test .left) in
+    l .inv .1 ∙ ap (frontsTo _ _ _) end
+
+pub fronts-spec : {M : Type 1} → statement M
+fronts-spec = tie.close (tie.spec Inv-loop μ-loop none-requires loop-holds add-t9 front-requires with-entry-requires add-i loop-less loop-again returns)

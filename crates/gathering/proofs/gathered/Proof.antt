@@ -1,0 +1,59 @@
+-- The runs of the first k places are pushed, whatever marks and pool there are.
+use mathlib.Core.Path.{_≡_, refl}
+use mathlib.Core.List.{List}
+use Prim.Native.Nat.{ℕ, _+_, _≤_, _-_}
+use native.Mathlib.Omega.{arith}
+use lib.ListN.{length}
+use borrow.Author.Needs.{needs}
+use Rattle.basics.proofs.TestLaws.{length-mapped}
+use Rattle.frames.specs.declared.Held.{Held}
+use Rattle.table.specs.Store.{kept}
+use Rattle.areas.proofs.WalkLaws.{end-small}
+use Rattle.gathering.proofs.AreaLaws.{Gathered, gathered-start, gathered-next, gathered-all}
+use Rattle.gathering.proofs.gathered.Statement.{statement}
+use Rattle.gathering.proofs.gathered.Tie as tie
+
+abbrev Inv-loop : tie.InvT-loop
+Inv-loop table sandbox present all₀ k₀ all k = (k ≤ 8) × ((h : Held) (pool : List ℕ) → Gathered (kept h pool table) sandbox present all₀ k all)
+
+abbrev μ-loop : tie.MeasureT-loop
+μ-loop table sandbox present all₀ k₀ all k = 8 - k
+
+eight : (c : tie.Start Inv-loop μ-loop) → length (c .args .runs .list) ≡ 8
+eight c = search length-mapped
+
+loop-holds : tie.Need-loop-holds Inv-loop μ-loop
+loop-holds c = (omega arith, λ h pool. gathered-start _ _ _ (c .before .pre .1 .0) _)
+
+mul-area : tie.Need-mul-area Inv-loop μ-loop
+mul-area c = search needs
+
+element-copy-out-area : tie.Need-element-copy-out-area Inv-loop μ-loop
+element-copy-out-area c = search needs
+
+push-area-requires : tie.Need-push-area-requires Inv-loop μ-loop
+push-area-requires c κs =
+    let p = c .before .before .before .before .pre in
+    (p .0, (end-small _ (p .1 .0) (c .before .before .loop .k), p .1 .1))
+
+add-k : tie.Need-add-k Inv-loop μ-loop
+add-k c = search needs
+
+loop-less : tie.Need-loop-less Inv-loop μ-loop
+loop-less c = search needs
+
+loop-again : tie.Need-loop-again Inv-loop μ-loop
+loop-again c =
+    let l = c .before .before .before .loop in
+    let formed = c .before .before .before .before .before .pre .1 .0 in
+    (search needs, λ h pool. rw (c .push-area .ensures) (gathered-next _ _ _ formed _ (l .k) (l .all) (l .inv .1 h pool)))
+
+returns : tie.Need-returns Inv-loop μ-loop
+returns c = λ h pool.
+    let l = c .before .loop in
+    let start = c .before .before .before in
+    let end : l .k ≡ 8 = omega (arith, l .inv .0, c .loop-test .left) in
+    gathered-all _ _ _ (start .pre .1 .0) _ (eight start) (l .all) (rw end at (l .inv .1 h pool))
+
+pub gathered-spec : {M : Type 1} → statement M
+gathered-spec = tie.close (tie.spec Inv-loop μ-loop loop-holds mul-area element-copy-out-area push-area-requires add-k loop-less loop-again returns)

@@ -1,0 +1,27 @@
+use borrow.Author.Needs.{needs}
+use borrow.Author.Tests.{not-true, not-false}
+use Rattle.gathering.proofs.AreaLaws.{area-left, area-pushed}
+use Rattle.gathering.proofs.push_area.Statement.{statement}
+use Rattle.gathering.proofs.push_area.Tie as tie
+
+is-spared-requires : tie.Need-is-spared-requires
+is-spared-requires c κs = search needs
+
+returns : tie.Need-returns
+returns c =
+    let a = c .before .before .before .args in
+    area-left (a .table .now) (a .sandbox) (a .area) (a .runs) _ (c .before .is-spared .ensures) (not-true _ (c .if1 .taken))
+
+fronts-requires : tie.Need-fronts-requires
+fronts-requires c κs = search needs
+
+push-requires : tie.Need-push-requires
+push-requires c κs = search needs
+
+returns-2 : tie.Need-returns-2
+returns-2 c =
+    let a = c .before .before .before .before .before .args in
+    area-pushed (a .table .now) (a .sandbox) (a .area) (a .runs) _ (c .before .before .before .is-spared .ensures) _ _ (not-false _ (c .before .before .if1 .left)) (c .before .fronts .ensures) (c .push .ensures)
+
+pub push-area-spec : {M : Type 1} → statement M
+push-area-spec = tie.close (tie.spec is-spared-requires returns fronts-requires push-requires returns-2)

@@ -1,0 +1,90 @@
+// The runs that a rewind makes (A3), worked out area by area from the table before the rewind.
+// It promises: the runs are those that the definition gathers page by page (`rowRewound`); nothing is done for committed and image areas,
+// so that the work goes with the pages of the uncommitted anonymous ones.
+// It stands on `areas` for the areas, on `table` for the fronts, on `runs` for the competition of runs, and on `kept` for the definition.
+ghost use mathlib.Core.Path.{_≡_};
+ghost use mathlib.Core.List.{List};
+ghost use Prim.Native.Nat.{ℕ, _+_, _≤_, _<_};
+ghost use lib.ListN.{length, getD};
+ghost use Rattle.interface.specs.Runs.{isSpared};
+ghost use Rattle.interface.specs.declared.page.Slot.the-variants.{Mapped};
+ghost use Rattle.frames.specs.declared.Held.{Held as Words};
+ghost use Rattle.table.specs.Store.{kept as storeOf};
+ghost use Rattle.runs.specs.Row.{row, tabled, pushed};
+ghost use Rattle.kept.specs.Spare.{rowRewound};
+ghost use Rattle.areas.specs.Areas.{attributesOf, slots};
+ghost use Rattle.areas.specs.Walk.{Formed};
+ghost use Rattle.gathering.specs.AreaRun.{withEntry, frontsTo, runOf};
+use areas::area::Area;
+use areas::area::Areas;
+use areas::slot::is_anonymous;
+use frames::Held;
+use interface::page::PageNo;
+use runs::Runs;
+use table::entry::frame_of;
+use table::entry::front;
+
+// "the frames of each uncommitted anonymous area, if any, are .. kept as one run": the runs with those of the areas, the lower page the older.
+pub fn gathered(table: &[u16], present: Areas, runs: Runs, sandbox: u8) -> Runs
+    requires { ⌜ sandbox < 4 ⌝ }
+    requires { ⌜ Formed present ⌝ }
+    requires { ⌜ length (now table) ≡ 512 ⌝ }
+    requires { ⌜ ((k : ℕ) → getD (now table) k 0 ≤ 128) ⌝ }
+    ensures { λ r. ⌜ ((h : Words) (pool : List ℕ) → r ≡ tabled (rowRewound (storeOf h pool (now (table .entry))) sandbox (slots present) (row runs))) ⌝ }
+{
+    let mut all = runs;
+    for k in 0..Area::MOST {
+        let area = present.list[k];
+        all = push_area(table, area, all, sandbox);
+    }
+    all
+}
+
+// The run of one area more. An area without a front makes a run of none, which changes nothing.
+fn push_area(table: &[u16], area: Area, runs: Runs, sandbox: u8) -> Runs
+    requires { ⌜ sandbox < 4 ⌝ }
+    requires { ⌜ area .first .0 + area .pages ≤ 64 ⌝ }
+    requires { ⌜ length (now table) ≡ 512 ⌝ }
+    requires { ⌜ ((k : ℕ) → getD (now table) k 0 ≤ 128) ⌝ }
+    ensures { λ r. ⌜ r ≡ pushed runs (runOf (now (table .entry)) sandbox area) ⌝ }
+{
+    if !is_spared(area) {
+        return runs;
+    }
+    let run = fronts(table, sandbox, area.first, area.pages);
+    runs.push(run)
+}
+
+// Whether the area is uncommitted and anonymous.
+fn is_spared(area: Area) -> bool
+    ensures { λ r. ⌜ r ≡ isSpared (Mapped (attributesOf area)) ⌝ }
+{
+    let backing = area.backing;
+    !area.committed & is_anonymous(backing)
+}
+
+// The frames of the fronts of so many pages.
+fn fronts(table: &[u16], sandbox: u8, first: PageNo, pages: u8) -> Held
+    requires { ⌜ sandbox < 4 ⌝ }
+    requires { ⌜ first .0 + pages ≤ 64 ⌝ }
+    requires { ⌜ length (now table) ≡ 512 ⌝ }
+    requires { ⌜ ((k : ℕ) → getD (now table) k 0 ≤ 128) ⌝ }
+    ensures { λ r. ⌜ r ≡ frontsTo (now (table .entry)) sandbox (first .0) pages ⌝ }
+{
+    let mut run = Held::none();
+    for i in 0..pages {
+        run = with_entry(run, front(table, sandbox, PageNo(first.0 + i)));
+    }
+    run
+}
+
+// The frame that an entry names, if it names one, comes to the run.
+fn with_entry(run: Held, entry: u16) -> Held
+    requires { ⌜ entry ≤ 128 ⌝ }
+    ensures { λ r. ⌜ r ≡ withEntry entry run ⌝ }
+{
+    if entry == 0 {
+        return run;
+    }
+    run.with(frame_of(entry))
+}
