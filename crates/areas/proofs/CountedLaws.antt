@@ -6,7 +6,7 @@ use native.Mathlib.Omega.{arith}
 use native.Mathlib.Decide.{decLt}
 use lib.ListN.{getD}
 use Rattle.basics.specs.Choice.{_when_else_}
-use Rattle.basics.specs.Ranges.{one, count}
+use Rattle.basics.specs.Ranges.{count}
 use Rattle.basics.proofs.RangeLaws.{inside-yes, inside-past}
 use Rattle.basics.proofs.CountLaws.{count-small}
 use Rattle.interface.specs.declared.page.Slot.the-variants.{Unmapped}

@@ -12,7 +12,6 @@ use Rattle.basics.specs.Choice.{_when_else_}
 use Rattle.basics.proofs.TestLaws.{by-cases}
 use Rattle.interface.specs.declared.page.Backing.{Backing}
 use Rattle.interface.specs.declared.page.Backing.the-variants.{Anonymous, Image}
-use Rattle.interface.specs.declared.page.Slot.{Slot}
 use Rattle.interface.specs.declared.page.Slot.the-variants.{Unmapped, Mapped}
 use Rattle.interface.specs.Slots.{Slots, advance, startsArea}
 use Rattle.interface.specs.Runs.{isAnonymous, isSpared}
@@ -145,7 +144,8 @@ module _ (st : Store) (s : ℕ) (present : Areas) (F : Formed present) (r : Runs
       λ i d u. starts-inside (F .images) present w k l i d (omega arith) in
       let alike : (i : ℕ) → first ≤ i → i < first + suc (at k .pages - 1) → isSpared (slots present i) ≡ isSpared (Mapped (attributesOf (at k))) =
       λ i d u. rw (area-slot (F .images) present w i k l d (omega arith)) (area-spared (at k) i) in
-      rw e at (along st s (slots present) r first (at k .pages - 1) (isSpared (Mapped (attributesOf (at k)))) (starts-first (F .images) present w k l) inside alike)
+      let start = starts-first (F .images) present w k l in
+      rw e at (along st s (slots present) r first (at k .pages - 1) (isSpared (Mapped (attributesOf (at k)))) start inside alike)
 
   none-run : runOf (st .table) s none ≡ noneHeld
   unfolding frontsTo

@@ -60,7 +60,8 @@ fn is_spared(area: Area) -> bool
     ensures { λ r. ⌜ r ≡ isSpared (Mapped (attributesOf area)) ⌝ }
 {
     let backing = area.backing;
-    !area.committed & is_anonymous(backing)
+    let anonymous = is_anonymous(backing);
+    !area.committed & anonymous
 }
 
 // The frames of the fronts of so many pages.

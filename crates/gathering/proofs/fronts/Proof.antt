@@ -1,5 +1,5 @@
 -- The run has the frames of the first i pages.
-use mathlib.Core.Path.{_≡_, refl, ap, _∙_}
+use mathlib.Core.Path.{_≡_, ap, _∙_}
 use Prim.Native.Nat.{_≤_, _-_}
 use native.Mathlib.Omega.{arith}
 use borrow.Author.Needs.{needs}
@@ -9,7 +9,7 @@ use Rattle.gathering.proofs.fronts.Statement.{statement}
 use Rattle.gathering.proofs.fronts.Tie as tie
 
 abbrev Inv-loop : tie.InvT-loop
-Inv-loop table sandbox first pages run₀ i₀ run i = (i ≤ pages) × (run ≡ frontsTo table sandbox (first .0) i)
+Inv-loop table sandbox first pages run₀ i₀ run i = (run ≡ frontsTo table sandbox (first .0) i) × (i ≤ pages)
 
 abbrev μ-loop : tie.MeasureT-loop
 μ-loop table sandbox first pages run₀ i₀ run i = pages - i
@@ -19,7 +19,7 @@ none-requires c κs = search needs
 
 loop-holds : tie.Need-loop-holds Inv-loop μ-loop
 unfolding frontsTo
-loop-holds c = (omega arith, c .none .ensures)
+loop-holds c = (c .none .ensures, omega arith)
 
 add-t9 : tie.Need-add-t9 Inv-loop μ-loop
 add-t9 c = search needs
@@ -39,13 +39,13 @@ loop-less c = search needs
 loop-again : tie.Need-loop-again Inv-loop μ-loop
 loop-again c =
     let l = c .before .before .before .before .loop in
-    (search needs, fronts-more _ _ _ (l .i) _ (l .run) _ (l .inv .1) (c .before .front .ensures) (c .with-entry .ensures))
+    (fronts-more _ _ _ (l .i) _ (l .run) _ (l .inv .0) (c .before .front .ensures) (c .with-entry .ensures), search needs)
 
 returns : tie.Need-returns Inv-loop μ-loop
 returns c =
     let l = c .before .loop in
-    let end : l .i ≡ c .before .before .before .before .args .pages = omega (arith, l .inv .0, c .loop-test .left) in
-    l .inv .1 ∙ ap (frontsTo _ _ _) end
+    let end : l .i ≡ c .before .before .before .before .args .pages = omega (arith, l .inv .1, c .loop-test .left) in
+    l .inv .0 ∙ ap (frontsTo _ _ _) end
 
 pub fronts-spec : {M : Type 1} → statement M
 fronts-spec = tie.close (tie.spec Inv-loop μ-loop none-requires loop-holds add-t9 front-requires with-entry-requires add-i loop-less loop-again returns)

@@ -6,7 +6,7 @@ is-anonymous-requires : tie.Need-is-anonymous-requires
 is-anonymous-requires c κs = search needs
 
 returns : tie.Need-returns
-returns c = rw (c .is-anonymous .ensures)
+returns c = rw (c .before .is-anonymous .ensures)
 
 pub is-spared-spec : {M : Type 1} → statement M
 is-spared-spec = tie.close (tie.spec is-anonymous-requires returns)

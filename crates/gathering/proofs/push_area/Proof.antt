@@ -21,7 +21,8 @@ push-requires c κs = search needs
 returns-2 : tie.Need-returns-2
 returns-2 c =
     let a = c .before .before .before .before .before .args in
-    area-pushed (a .table .now) (a .sandbox) (a .area) (a .runs) _ (c .before .before .before .is-spared .ensures) _ _ (not-false _ (c .before .before .if1 .left)) (c .before .fronts .ensures) (c .push .ensures)
+    area-pushed (a .table .now) (a .sandbox) (a .area) (a .runs) _ (c .before .before .before .is-spared .ensures) _ _
+    (not-false _ (c .before .before .if1 .left)) (c .before .fronts .ensures) (c .push .ensures)
 
 pub push-area-spec : {M : Type 1} → statement M
 push-area-spec = tie.close (tie.spec is-spared-requires returns fronts-requires push-requires returns-2)
