@@ -70,14 +70,14 @@ module _ (image : List ℕ) (frames images : ℕ) (q : Request) (w : World) (A :
       → TouchStepped image frames q w after (r .runs)
   unfolding touched runsAfter
   touch-made after r f z g low unnamed unkept a =
-      let is = gives-is image frames images q w A e z in
+      let same = gives-is image frames images q w A e z in
       record {
         frame = f;
         given = g .given;
-        gave = λ t. g .gave (sym is ∙ t);
+        gave = λ t. g .gave (sym same ∙ t);
         takes = λ _. takes-of image frames images q w A e z r g f low unnamed unkept;
         equals = a ∙ rw (eq-eqb (ownFront q (w .store)) 0 z);
-        runs = g .left ∙ rw (e, is);
+        runs = g .left ∙ rw (e, same);
       }
 
   tidy-of : Tidy (λ f. ⊥) 256 frames (w .store)

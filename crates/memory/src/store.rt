@@ -21,6 +21,7 @@ use crate::spare::give_up;
 use crate::spare::map;
 use crate::spare::unheld_frame;
 use frames::Held;
+use gathering::gathered;
 use interface::page::PageNo;
 use interface::request::Request;
 use state::sandbox::Machine;
@@ -47,6 +48,7 @@ pub fn store_after(
     let held = machine.held;
     let b = machine.sandboxes[k];
     let runs = b.runs;
+    let present = b.present;
     if code == 2 {
         return map(held, table, b, q, images);
     }
@@ -68,7 +70,7 @@ pub fn store_after(
         };
     }
     if code == 8 {
-        let left = runs;
+        let left = gathered(table, present, runs, s);
         let h = rewind(held, pool, table, image, b, s, images);
         return Left {
             held: h,
