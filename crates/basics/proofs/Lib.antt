@@ -4,3 +4,4 @@ pub mod LoopLaws
 pub mod CountLaws
 pub mod ListLaws
 pub mod RowLaws
+pub mod LongestLaws

@@ -2,3 +2,4 @@
 pub mod Choice
 pub mod Ranges
 pub mod Rows
+pub mod Longest

@@ -8,3 +8,4 @@ pub mod AloneLaws
 pub mod CompareLaws
 pub mod EdgeLaws
 pub mod RunLaws
+pub mod KeepingLaws

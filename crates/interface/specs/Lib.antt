@@ -13,3 +13,4 @@ pub mod Gaps
 pub mod Edges
 pub mod Differences
 pub mod Runs
+pub mod Keeping

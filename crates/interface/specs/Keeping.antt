@@ -1,0 +1,67 @@
+-- Request A3 in its own words: what the definitions of specs/Runs come to (proved in proofs/KeepingLaws). A run is its length, and the oldest stands first;
+-- length 0 is no run.
+use Prim.Native.Nat.{ℕ, suc, _+_, _≤_, _<_}
+use mathlib.Core.Path.{_≡_}
+use mathlib.Core.Bool.{Bool, true, _&&_}
+use lib.Dec.{eqb}
+use Rattle.basics.specs.Ranges.{count}
+use Rattle.basics.specs.Longest.{byAge, Longest}
+use Rattle.interface.specs.Slots.{Slots, isMapped, startsArea, areas}
+use Rattle.interface.specs.Runs.{runPlaces, isSpared, runFor, granted, longestRun, runsRewound}
+
+-- ---- what a rewind keeps
+
+-- page i is of area number a, counted from 0 in page order: it is mapped, and so many areas have started before its own
+abbrev pub isOfArea : Slots → ℕ → ℕ → Bool
+isOfArea f a i = isMapped (f i) && eqb (count (startsArea f) (suc i)) (suc a)
+
+-- "each uncommitted anonymous area": of one area all pages are spared or none
+abbrev pub AreasAreSpared : Type 0
+AreasAreSpared = (f : Slots) (a i j : ℕ) → isOfArea f a i ≡ true → isOfArea f a j ≡ true → isSpared (f i) ≡ isSpared (f j)
+
+-- "the frames of each uncommitted anonymous area, if any, are cleared and kept as one run, whose length is its number of frames": the fronts on its pages
+abbrev pub runOf : Slots → (ℕ → Bool) → ℕ → ℕ
+runOf f front a = count (λ i. isOfArea f a i && (front i && isSpared (f i))) 64
+
+-- "At most 8 runs are kept, the longest. All ties go to the older run; of one rewind's runs the lower page is older.": of the old runs and, after them,
+-- those of the areas in page order, the 8 longest are left
+abbrev pub KeepsTheLongest : Type 0
+KeepsTheLongest =
+    (f : Slots) (front : ℕ → Bool) (lengths : ℕ → ℕ)
+    → Longest (λ length. length) (byAge runPlaces lengths (runOf f front)) (runPlaces + areas f) (runsRewound f front lengths) runPlaces
+
+-- ---- which run is chosen
+
+-- "the longest", "All ties go to the older run"
+pub record IsLongest (lengths : ℕ → ℕ) (c : ℕ) : Type 0 where
+  pub inRow : c < runPlaces
+  pub longest : (i : ℕ) → i < runPlaces → lengths i ≤ lengths c
+  pub oldest : (i : ℕ) → i < c → lengths i < lengths c
+
+-- "the shortest run at least as long as its pages", "All ties go to the older run"
+pub record IsShortestFor (pages : ℕ) (lengths : ℕ → ℕ) (c : ℕ) : Type 0 where
+  pub inRow : c < runPlaces
+  pub suffices : pages ≤ lengths c
+  pub shortest : (i : ℕ) → i < runPlaces → pages ≤ lengths i → lengths c ≤ lengths i
+  pub oldest : (i : ℕ) → i < c → pages ≤ lengths i → lengths c < lengths i
+
+-- "An anonymous map at 64 takes the shortest run at least as long as its pages": where there is one
+abbrev pub TakesTheShortest : Type 0
+TakesTheShortest =
+    (pages : ℕ) (lengths : ℕ → ℕ) (i : ℕ) → i < runPlaces → pages ≤ lengths i → IsShortestFor pages lengths (runFor pages lengths)
+
+-- "if none is that long, the longest"
+abbrev pub ElseTheLongest : Type 0
+ElseTheLongest = (pages : ℕ) (lengths : ℕ → ℕ) → ((i : ℕ) → i < runPlaces → lengths i < pages) → IsLongest lengths (runFor pages lengths)
+
+-- "The first new pages get these frames as fronts": all of them where the run is long enough, else as many as it has
+pub record IsGranted (pages length given : ℕ) : Type 0 where
+  pub all : pages ≤ length → given ≡ pages
+  pub some : length ≤ pages → given ≡ length
+
+abbrev pub GrantsTheFirst : Type 0
+GrantsTheFirst = (pages : ℕ) (lengths : ℕ → ℕ) → IsGranted pages (lengths (runFor pages lengths)) (granted pages lengths)
+
+-- "one frame of the longest run is given up first"
+abbrev pub GivesUpTheLongest : Type 0
+GivesUpTheLongest = (lengths : ℕ → ℕ) → IsLongest lengths (longestRun lengths)
