@@ -9,3 +9,4 @@ pub mod CleanLaws
 pub mod Claims
 pub mod Corollaries
 pub mod OverGapsLaws
+pub mod KeepsNothingLaws

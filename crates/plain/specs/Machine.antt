@@ -113,16 +113,21 @@ coreAfter g q c = record {
 unfoldable pub held : Traces → ℕ
 held t = count (t .front) 64 + count (t .back) 64 + sum (t .runs) runPlaces
 
--- A map that takes a run: "The first new pages get these frames as fronts". "Unmap takes away .. front mark"; "Write .. sets its page's front mark";
--- "Snapshot .. turns front marks into back marks"; Rewind: "a front mark stays only where the page was still committed"
+-- "Unmap takes away .. front mark"; "Write .. sets its page's front mark"; "Snapshot .. turns front marks into back marks";
+-- Rewind: "a front mark stays only where the page was still committed"
+abbrev pub frontAlone : Request → Slots → (ℕ → Bool) → ℕ → Bool
+frontAlone q f front =
+    over (q .p1) (q .p2) (λ i. false) front when q is Unmap else
+    (λ i. eqb i (pageOf q) || front i) when q is Write else
+    (λ i. false) when q is Snapshot else
+    (λ i. front i && isCommitted (f i)) when q is Rewind else
+    front
+
+-- and a map that takes a run (A3): "The first new pages get these frames as fronts"
 unfoldable pub frontAfter : Request → Slots → Traces → ℕ → Bool
 frontAfter q f t =
     over (firstOf f q) (granted (q .p2) (t .runs)) (λ i. true) (t .front) when takesRun q else
-    over (q .p1) (q .p2) (λ i. false) (t .front) when q is Unmap else
-    (λ i. eqb i (pageOf q) || t .front i) when q is Write else
-    (λ i. false) when q is Snapshot else
-    (λ i. t .front i && isCommitted (f i)) when q is Rewind else
-    t .front
+    frontAlone q f (t .front)
 
 -- "Snapshot .. turns front marks into back marks and copies all pages"; "Rewind puts the whole copy in place"
 unfoldable pub backAfter : Request → Traces → ℕ → Bool
