@@ -4,12 +4,12 @@ use mathlib.Core.Path.{_≡_, refl, sym, ap, _∙_, fun-ext}
 use mathlib.Core.Bool.{Bool, true, false, not, _&&_, false≢true}
 use native.Mathlib.Omega.{arith}
 use lib.Dec.{leb, ltb, eqb}
-use borrow.Author.Tests.{eqb-true, eqb-false, ne-eqb, leb-true, leb-false, le-leb, lt-leb, le-ltb, ltb-true}
+use borrow.Author.Tests.{eqb-true, eqb-false, eq-eqb, ne-eqb, leb-true, leb-false, le-leb, lt-leb, le-ltb, lt-ltb, ltb-true}
 use Rattle.basics.specs.Choice.{same}
 use Rattle.basics.specs.Ranges.{count}
 use Rattle.basics.specs.Rows.{best, longer, fitter}
 use Rattle.basics.specs.Longest.{pushAll, takenOf}
-use Rattle.basics.proofs.TestLaws.{by-cases, and-left, and-right, and-both, same-true}
+use Rattle.basics.proofs.TestLaws.{by-cases, and-left, and-right, and-both, and-of, same-true}
 use Rattle.basics.proofs.CountLaws.{count-equal, count-zero}
 use Rattle.basics.proofs.RowLaws.{best-low, longest-top, longest-oldest, fit-shortest, fit-longest, fit-oldest}
 use Rattle.basics.proofs.LongestLaws.{count-next, count-up, keeps-longest, push-all-none, walked-pushes}
@@ -17,10 +17,34 @@ use Rattle.interface.specs.declared.page.Backing.{Backing}
 use Rattle.interface.specs.declared.page.Backing.the-variants.{Anonymous, Image}
 use Rattle.interface.specs.declared.page.Slot.{Slot}
 use Rattle.interface.specs.declared.page.Slot.the-variants.{Unmapped, Mapped}
+use Rattle.interface.specs.Requests.{_is_, Map}
 use Rattle.interface.specs.Slots.{Slots, isMapped, joins, follows, startsArea, areas}
 use Rattle.interface.specs.Runs.{runPlaces, isAnonymous, isSpared, runFor, granted, longestRun, runsRewound}
-use Rattle.interface.specs.Keeping.{AreasAreSpared, runOf, KeepsTheLongest}
+use Rattle.interface.specs.Keeping.{SparesUncommittedAnonymous, AreasAreSpared, runOf, KeepsTheLongest, TakesAtSixtyFour, GivesUpAboveShare}
 use Rattle.interface.specs.Keeping.{TakesTheShortest, ElseTheLongest, GrantsTheFirst, GivesUpTheLongest}
+
+-- ---- the tests
+
+anonymous-is : (b : Backing) → isAnonymous b ≡ true → b ≡ Anonymous
+anonymous-is Anonymous e = refl
+anonymous-is (Image page) e = absurd (false≢true e)
+
+pub spares-uncommitted-anonymous : SparesUncommittedAnonymous
+spares-uncommitted-anonymous Unmapped = (λ e. absurd (false≢true e), λ e. e .0)
+spares-uncommitted-anonymous (Mapped t) =
+    (λ e. let both = and-both (not (t .committed)) (isAnonymous (t .backing)) e in (both .0, anonymous-is (t .backing) (both .1)),
+    λ e. and-of (e .0) (ap isAnonymous (e .1)))
+
+pub takes-at-sixty-four : TakesAtSixtyFour
+takes-at-sixty-four q =
+    (λ e. let both = and-both (q is Map) (eqb (q .p1) 64 && eqb (q .p3) 0) e in
+    let there = and-both (eqb (q .p1) 64) (eqb (q .p3) 0) (both .1) in
+    (eqb-true (q .code) Map (both .0), (eqb-true (q .p1) 64 (there .0), eqb-true (q .p3) 0 (there .1))),
+    λ e. and-of (eq-eqb (q .code) Map (e .0)) (and-of (eq-eqb (q .p1) 64 (e .1 .0)) (eq-eqb (q .p3) 0 (e .1 .1))))
+
+pub gives-up-above-share : GivesUpAboveShare
+gives-up-above-share true share held = (λ e. absurd (false≢true e), λ e. absurd (false≢true (sym (e .0))))
+gives-up-above-share false share held = (λ e. (refl, ltb-true share (held + 1) e), λ e. lt-ltb share (held + 1) (e .1))
 
 -- ---- which run is chosen
 

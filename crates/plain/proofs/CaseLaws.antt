@@ -1,4 +1,4 @@
--- The starred cases, "Turned back", "Still clean?" and "Unmapping over gaps", by computation.
+-- The starred cases, "Turned back", "Still clean?", "Unmapping over gaps" and "Keep the frames of a finished request", by computation.
 use mathlib.Core.Path.{_≡_, refl}
 use mathlib.Core.Bool.{true}
 use Rattle.basics.specs.Ranges.{count, sum, every, lowest, inside, over, alike}
@@ -14,6 +14,7 @@ use Rattle.plain.specs.Cases.{cases, casesOver, noImage, allGiven}
 use Rattle.plain.specs.TurnedBack.{turnedBackCases}
 use Rattle.plain.specs.StillClean.{stillClean}
 use Rattle.plain.specs.OverGaps.{overGaps}
+use Rattle.plain.specs.KeptRuns.{keptRuns}
 
 pub starred-cases : allGiven (casesOver noImage cases) ≡ true
 unfolding allGiven count sum every lowest inside over follows joins areas mappedPages uncommittedPages lowestGap chargeOf
@@ -38,3 +39,9 @@ unfolding allGiven count sum every lowest inside over alike follows joins areas 
     within firstOf slotsAfter copyAfter allMapped refusal bytesAfter frontAfter backAfter copiedBackAfter
     best movedUp push walkTo walked runFor granted longestRun runsRewound runsAfter held differing coreValue answer after answers
 over-gaps = refl
+
+pub kept-runs : allGiven keptRuns ≡ true
+unfolding allGiven count sum every lowest inside over alike follows joins areas mappedPages uncommittedPages lowestGap chargeOf agree lowestDifference
+    within firstOf slotsAfter copyAfter allMapped refusal bytesAfter frontAfter backAfter copiedBackAfter
+    best movedUp push walkTo walked runFor granted longestRun runsRewound runsAfter held differing coreValue answer after answers
+kept-runs = refl

@@ -8,3 +8,4 @@ pub mod Cases
 pub mod TurnedBack
 pub mod StillClean
 pub mod OverGaps
+pub mod KeptRuns
