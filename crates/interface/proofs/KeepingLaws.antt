@@ -31,16 +31,18 @@ anonymous-is (Image page) e = absurd (false≢true e)
 
 pub spares-uncommitted-anonymous : SparesUncommittedAnonymous
 spares-uncommitted-anonymous Unmapped = (λ e. absurd (false≢true e), λ e. e .0)
-spares-uncommitted-anonymous (Mapped t) =
-    (λ e. let both = and-both (not (t .committed)) (isAnonymous (t .backing)) e in (both .0, anonymous-is (t .backing) (both .1)),
-    λ e. and-of (e .0) (ap isAnonymous (e .1)))
+spares-uncommitted-anonymous (Mapped t) = (
+  λ e. let both = and-both (not (t .committed)) (isAnonymous (t .backing)) e in (both .0, anonymous-is (t .backing) (both .1)),
+  λ e. and-of (e .0) (ap isAnonymous (e .1)),
+)
 
 pub takes-at-sixty-four : TakesAtSixtyFour
-takes-at-sixty-four q =
-    (λ e. let both = and-both (q is Map) (eqb (q .p1) 64 && eqb (q .p3) 0) e in
-    let there = and-both (eqb (q .p1) 64) (eqb (q .p3) 0) (both .1) in
-    (eqb-true (q .code) Map (both .0), (eqb-true (q .p1) 64 (there .0), eqb-true (q .p3) 0 (there .1))),
-    λ e. and-of (eq-eqb (q .code) Map (e .0)) (and-of (eq-eqb (q .p1) 64 (e .1 .0)) (eq-eqb (q .p3) 0 (e .1 .1))))
+takes-at-sixty-four q = (
+  λ e. let both = and-both (q is Map) (eqb (q .p1) 64 && eqb (q .p3) 0) e in
+      let there = and-both (eqb (q .p1) 64) (eqb (q .p3) 0) (both .1) in
+      (eqb-true (q .code) Map (both .0), (eqb-true (q .p1) 64 (there .0), eqb-true (q .p3) 0 (there .1))),
+  λ e. and-of (eq-eqb (q .code) Map (e .0)) (and-of (eq-eqb (q .p1) 64 (e .1 .0)) (eq-eqb (q .p3) 0 (e .1 .1))),
+)
 
 pub gives-up-above-share : GivesUpAboveShare
 gives-up-above-share true share held = (λ e. absurd (false≢true e), λ e. absurd (false≢true (sym (e .0))))
