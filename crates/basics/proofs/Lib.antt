@@ -1,3 +1,4 @@
+pub mod CaseLaws
 pub mod TestLaws
 pub mod RangeLaws
 pub mod LoopLaws

@@ -3,3 +3,4 @@ pub mod Choice
 pub mod Ranges
 pub mod Rows
 pub mod Longest
+pub mod RowCases
