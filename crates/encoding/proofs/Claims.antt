@@ -2,7 +2,7 @@
 use mathlib.Core.Path.{refl, sym, ap, _∙_}
 use Rattle.pages.specs.Parts.{zeros}
 use Rattle.encoding.specs.Rows.{digits, joined}
-use Rattle.encoding.specs.Layout.{stateBytes, sandboxBytes, areasBytes, areaBytes, stateFrom}
+use Rattle.encoding.specs.Layout.{stateBytes, sandboxBytes, areasBytes, areaBytes, runsBytes, marksBytes, stateFrom}
 use Rattle.encoding.specs.Claims.{OneLength, DecodesBack, Passes, OnlyCanonical, GivesShaped, BytesTell, SoundIsShaped, FreshIsZero}
 use Rattle.encoding.proofs.LengthLaws.{length-state}
 use Rattle.encoding.proofs.LayoutLaws.{state-again, state-passes, state-bytes-again, state-shaped}
@@ -28,11 +28,15 @@ bytes-tell m l h k e = sym (state-again m h) ∙ ap stateFrom e ∙ state-again 
 pub sound-is-shaped : SoundIsShaped
 sound-is-shaped image w s = record {
   row = s .row;
-  each = λ k l. record { present = s .each k l .present .eight; snapshot = s .each k l .snapshot .eight };
-  low = s .filed .low;
-  high = s .filed .high;
+  each = λ k l. record {
+    present = s .each k l .present .eight;
+    snapshot = s .each k l .snapshot .eight;
+    runs = s .each k l .places;
+    words = λ i b. record { low = s .words k l .low i b; high = s .words k l .high i b };
+  };
+  held = record { low = s .filed .low; high = s .filed .high };
 }
 
 pub fresh-is-zero : FreshIsZero
-unfolding stateBytes sandboxBytes areasBytes areaBytes joined digits zeros
+unfolding stateBytes sandboxBytes areasBytes areaBytes runsBytes marksBytes joined digits zeros
 fresh-is-zero = refl

@@ -3,10 +3,11 @@
 use Prim.Native.Nat.{ℕ, _+_, _*_, _<_}
 use mathlib.Core.Path.{_≡_, refl, sym, ap, _∙_, subst}
 use mathlib.Core.Bool.{Bool, true, false, _&&_, _||_}
-use mathlib.Core.List.{List, [], _∷_, _++_}
+use mathlib.Core.List.{List, [], _∷_, _++_, append-nil}
 use native.Mathlib.Omega.{arith}
 use lib.Dec.{leb, eqb}
 use lib.ListN.{length, getD, take, drop, length-drop}
+use lib.Seq.{take-all}
 use borrow.Author.Tests.{leb-true, eqb-true, eqb-false, eq-eqb}
 use Rattle.basics.specs.Ranges.{one}
 use Rattle.basics.proofs.TestLaws.{by-cases, and-left, and-right, and-of}
@@ -15,21 +16,25 @@ use Rattle.interface.specs.declared.page.Backing.{Backing}
 use Rattle.interface.specs.declared.page.Backing.the-variants.{Anonymous, Image}
 use Rattle.pages.specs.Parts.{partAt}
 use Rattle.pages.proofs.PartLaws.{length-part}
+use Rattle.frames.specs.declared.Held.{Held}
+use Rattle.frames.specs.Frames.{noneHeld}
+use Rattle.runs.specs.declared.Runs.{Runs}
+use Rattle.runs.specs.Row.{row}
 use Rattle.areas.specs.declared.area.Area.{Area}
 use Rattle.areas.specs.declared.area.Areas.{Areas}
 use Rattle.areas.specs.Areas.{none, startOf}
 use Rattle.state.specs.declared.sandbox.Sandbox.{Sandbox}
 use Rattle.state.specs.declared.sandbox.Machine.{Machine}
 use Rattle.state.specs.World.{closedSandbox}
-use Rattle.encoding.specs.Rows.{digits, spelled, firsts, partIn}
-use Rattle.encoding.specs.Layout.{areaSize, placesSize, areasSize, presentAt, snapshotAt, sandboxSize, wordSize, lowAt, highAt, stateSize}
-use Rattle.encoding.specs.Layout.{kindOf, areaBytes, areasBytes, sandboxParts, sandboxBytes, stateParts, stateBytes}
-use Rattle.encoding.specs.Layout.{backingFrom, areaFrom, areasFrom, sandboxFrom, stateFrom, Placed}
+use Rattle.encoding.specs.Rows.{spelled, firsts, Bytes, partIn, rowBytes, rowFrom}
+use Rattle.encoding.specs.Layout.{areaSize, placesSize, areasSize, wordSize, marksSize, runsSize, presentAt, snapshotAt, runsAt, sandboxSize, heldAt, stateSize}
+use Rattle.encoding.specs.Layout.{kindOf, areaBytes, areasBytes, marksParts, marksBytes, runsBytes, sandboxParts, sandboxBytes, stateParts, stateBytes}
+use Rattle.encoding.specs.Layout.{backingFrom, areaFrom, areasFrom, marksFrom, runsFrom, sandboxFrom, stateFrom, Words, Placed}
 use Rattle.encoding.specs.Layout.{isArea, isAreas, isSandbox, areSandboxes, isState}
 use Rattle.encoding.specs.Claims.{DecodesBack, Passes, OnlyCanonical, GivesShaped}
 use Rattle.encoding.proofs.RowLaws.{spelled-digits, firsts-of, length-firsts, getD-firsts, row-again, row-passes, row-bytes-again}
-use Rattle.encoding.proofs.PartsLaws.{placeOf, nth, part-flat, flat-cut, part-byte, number-again, number-small}
-use Rattle.encoding.proofs.LengthLaws.{length-area, length-sandbox, length-state, sized-sandbox, sized-state}
+use Rattle.encoding.proofs.PartsLaws.{placeOf, nth, part-flat, flat-cut, part-byte, bytes-part, number-again, number-small}
+use Rattle.encoding.proofs.LengthLaws.{length-area, length-marks, length-sandbox, length-state, sized-marks, sized-sandbox, sized-state}
 
 -- ---- flags and backings
 
@@ -108,6 +113,56 @@ areas-bytes-again l e h =
     rw (row-bytes-again areaBytes none areaSize areaFrom 8 (drop 1 l) place)
     (rw (part-byte l 0 (omega arith)) at (flat-cut (1 ∷ placesSize ∷ []) l 0 e))
 
+-- ---- marks, and the runs of a sandbox
+
+module _ (h : Held) where
+  word-of : (i : ℕ) → partAt (marksBytes h) (placeOf (marksParts h) i) (nth (marksParts h) i .width) ≡ nth (marksParts h) i .bytes
+  unfolding marksBytes
+  word-of = part-flat (marksParts h) (sized-marks h)
+
+  marks-again : Words h → marksFrom (marksBytes h) ≡ h
+  unfolding marksFrom
+  marks-again z = λ i. record {
+    low = (ap spelled (word-of 0) ∙ spelled-digits wordSize (h .low) (z .low)) i;
+    high = (ap spelled (word-of 1) ∙ spelled-digits wordSize (h .high) (z .high)) i;
+  }
+
+marks-bytes-again : (l : List ℕ) → Bytes l → length l ≡ marksSize → marksBytes (marksFrom l) ≡ l
+unfolding marksBytes marksFrom
+marks-bytes-again l bytes e =
+    rw (number-again l bytes 0 wordSize (omega arith), number-again l bytes wordSize wordSize (omega arith))
+    (flat-cut (wordSize ∷ wordSize ∷ []) l 0 e)
+
+marks-small : (l : List ℕ) → Bytes l → length l ≡ marksSize → Words (marksFrom l)
+unfolding marksFrom
+marks-small l bytes e = record { low = number-small l bytes 0 wordSize (omega arith); high = number-small l bytes wordSize wordSize (omega arith) }
+
+runs-again : (r : Runs) → length (r .list) ≡ 8 → ((i : ℕ) → i < 8 → Words (row r i)) → runsFrom (runsBytes r) ≡ r
+unfolding runsFrom runsBytes
+runs-again r e z =
+    let runs : List ℕ = rowBytes marksBytes noneHeld 8 (r .list) in
+    let alone : rowFrom marksFrom marksSize 8 runs ≡ rowFrom marksFrom marksSize 8 (runs ++ []) = ap (rowFrom marksFrom marksSize 8) (sym (append-nil runs)) in
+    λ i. record {
+      list = (alone ∙ row-again marksBytes noneHeld marksSize marksFrom length-marks 8 (r .list) [] e (λ k l. marks-again (row r k) (z k l))) i;
+    }
+
+module _ (l : List ℕ) (bytes : Bytes l) (e : length l ≡ runsSize) where
+  run-long : (k : ℕ) → k < 8 → length (partIn marksSize l k) ≡ marksSize
+  run-long k b = length-part l (k * marksSize) marksSize (omega arith)
+
+  runs-bytes-again : runsBytes (runsFrom l) ≡ l
+  unfolding runsBytes runsFrom
+  runs-bytes-again =
+      let place : (k : ℕ) → k < 8 → marksBytes (marksFrom (partIn marksSize l k)) ≡ partIn marksSize l k =
+      λ k b. marks-bytes-again (partIn marksSize l k) (bytes-part l bytes (k * marksSize) marksSize) (run-long k b) in
+      row-bytes-again marksBytes noneHeld marksSize marksFrom 8 l place ∙ take-all runsSize l (omega arith)
+
+  runs-small : (i : ℕ) → i < 8 → Words (row (runsFrom l) i)
+  unfolding runsFrom
+  runs-small i b =
+      subst Words (sym (getD-firsts (λ k. marksFrom (partIn marksSize l k)) 8 i noneHeld b))
+      (marks-small (partIn marksSize l i) (bytes-part l bytes (i * marksSize) marksSize) (run-long i b))
+
 -- ---- a sandbox
 
 module _ (b : Sandbox) where
@@ -127,6 +182,7 @@ module _ (b : Sandbox) where
     taken = (ap (λ (n : ℕ). eqb n 1) (heads .1 .1) ∙ flag-again (b .taken)) i;
     present = (ap areasFrom (part-of 3) ∙ areas-again (b .present) (p .present)) i;
     snapshot = (ap areasFrom (part-of 4) ∙ areas-again (b .snapshot) (p .snapshot)) i;
+    runs = (ap runsFrom (part-of 5) ∙ runs-again (b .runs) (p .runs) (p .words)) i;
   }
 
   sandbox-passes : isSandbox (sandboxBytes b) ≡ true
@@ -136,9 +192,9 @@ module _ (b : Sandbox) where
       (and-of (ap (λ (n : ℕ). leb n 1) (heads .1 .1) ∙ flag-small (b .taken))
       (and-of (ap isAreas (part-of 3) ∙ areas-pass (b .present)) (ap isAreas (part-of 4) ∙ areas-pass (b .snapshot))))
 
-sandbox-bytes-again : (l : List ℕ) → length l ≡ sandboxSize → isSandbox l ≡ true → sandboxBytes (sandboxFrom l) ≡ l
+sandbox-bytes-again : (l : List ℕ) → Bytes l → length l ≡ sandboxSize → isSandbox l ≡ true → sandboxBytes (sandboxFrom l) ≡ l
 unfolding sandboxBytes sandboxFrom isSandbox
-sandbox-bytes-again l e h =
+sandbox-bytes-again l bytes e h =
     let present : List ℕ = partAt l presentAt areasSize in
     let snapshot : List ℕ = partAt l snapshotAt areasSize in
     let areas : Bool = isAreas present && isAreas snapshot in
@@ -149,8 +205,19 @@ sandbox-bytes-again l e h =
       flag-told (getD l 2 0) (and-left (leb (getD l 2 0) 1) areas rest),
       areas-bytes-again present (length-part l presentAt areasSize (omega arith)) (and-left (isAreas present) (isAreas snapshot) both),
       areas-bytes-again snapshot (length-part l snapshotAt areasSize (omega arith)) (and-right (isAreas present) (isAreas snapshot) both),
+      runs-bytes-again (partAt l runsAt runsSize) (bytes-part l bytes runsAt runsSize) (length-part l runsAt runsSize (omega arith)),
     )
-    (rw (part-byte l 0 (omega arith), part-byte l 1 (omega arith), part-byte l 2 (omega arith)) at (flat-cut (1 ∷ 1 ∷ 1 ∷ areasSize ∷ areasSize ∷ []) l 0 e))
+    (rw (part-byte l 0 (omega arith), part-byte l 1 (omega arith), part-byte l 2 (omega arith))
+    at (flat-cut (1 ∷ 1 ∷ 1 ∷ areasSize ∷ areasSize ∷ runsSize ∷ []) l 0 e))
+
+placed : (l : List ℕ) → Bytes l → length l ≡ sandboxSize → Placed (sandboxFrom l)
+unfolding sandboxFrom areasFrom runsFrom
+placed l bytes e = record {
+  present = length-firsts _ 8;
+  snapshot = length-firsts _ 8;
+  runs = length-firsts _ 8;
+  words = runs-small (partAt l runsAt runsSize) (bytes-part l bytes runsAt runsSize) (length-part l runsAt runsSize (omega arith));
+}
 
 -- ---- the state
 
@@ -159,62 +226,62 @@ module _ (m : Machine) where
   unfolding stateBytes
   state-part = part-flat (stateParts m) (sized-state m)
 
-  words : List ℕ
-  words = digits wordSize (m .held .low) ++ (digits wordSize (m .held .high) ++ [])
-
 pub state-again : DecodesBack
-unfolding stateFrom stateBytes words
+unfolding stateFrom stateBytes
 state-again m h =
     let each : (s : ℕ) → s < 4 → sandboxFrom (sandboxBytes (getD (m .sandboxes) s closedSandbox)) ≡ getD (m .sandboxes) s closedSandbox
     = λ s l. sandbox-again (getD (m .sandboxes) s closedSandbox) (h .each s l) in
     λ i. record {
-      sandboxes = row-again sandboxBytes closedSandbox sandboxSize sandboxFrom length-sandbox 4 (m .sandboxes) (words m) (h .row) each i;
-      held = record {
-        low = (ap spelled (state-part m 1) ∙ spelled-digits wordSize (m .held .low) (h .low)) i;
-        high = (ap spelled (state-part m 2) ∙ spelled-digits wordSize (m .held .high) (h .high)) i;
-      };
+      sandboxes = row-again sandboxBytes closedSandbox sandboxSize sandboxFrom length-sandbox 4 (m .sandboxes) (marksBytes (m .held) ++ []) (h .row) each i;
+      held = (ap marksFrom (state-part m 1) ∙ marks-again (m .held) (h .held)) i;
     }
 
 pub state-passes : Passes
-unfolding isState areSandboxes stateBytes words
+unfolding isState areSandboxes stateBytes
 state-passes m =
     and-of (eq-eqb (length (stateBytes m)) stateSize (length-state m))
-    (row-passes sandboxBytes closedSandbox sandboxSize isSandbox length-sandbox sandbox-passes 4 (m .sandboxes) (words m))
+    (row-passes sandboxBytes closedSandbox sandboxSize isSandbox length-sandbox sandbox-passes 4 (m .sandboxes) (marksBytes (m .held) ++ []))
 
 pub state-long : (l : List ℕ) → isState l ≡ true → length l ≡ stateSize
 unfolding isState
 state-long l h = eqb-true (length l) stateSize (and-left (eqb (length l) stateSize) (areSandboxes l) h)
 
-whole-again : (l : List ℕ) → length l ≡ stateSize → take lowAt l ++ (partAt l lowAt wordSize ++ (partAt l highAt wordSize ++ [])) ≡ l
+whole-again : (l : List ℕ) → length l ≡ stateSize → take heldAt l ++ (partAt l heldAt marksSize ++ []) ≡ l
 unfolding partAt
-whole-again l e = flat-cut (lowAt ∷ wordSize ∷ wordSize ∷ []) l 0 e
+whole-again l e = flat-cut (heldAt ∷ marksSize ∷ []) l 0 e
+
+module _ (l : List ℕ) (bytes : Bytes l) (h : isState l ≡ true) where
+  sandbox-long : (s : ℕ) → s < 4 → length (partIn sandboxSize l s) ≡ sandboxSize
+  sandbox-long s b = length-part l (s * sandboxSize) sandboxSize (omega (arith, state-long l h))
+
+  sandbox-of : (s : ℕ) → Bytes (partIn sandboxSize l s)
+  sandbox-of s = bytes-part l bytes (s * sandboxSize) sandboxSize
+
+  held-of : Bytes (partAt l heldAt marksSize)
+  held-of = bytes-part l bytes heldAt marksSize
+
+  held-long : length (partAt l heldAt marksSize) ≡ marksSize
+  held-long = length-part l heldAt marksSize (omega (arith, state-long l h))
 
 pub state-bytes-again : OnlyCanonical
 unfolding stateBytes stateFrom isState areSandboxes
 state-bytes-again l bytes h =
-    let e = state-long l h in
     let each = and-right (eqb (length l) stateSize) (areSandboxes l) h in
     let place : (s : ℕ) → s < 4 → sandboxBytes (sandboxFrom (partIn sandboxSize l s)) ≡ partIn sandboxSize l s =
-    λ s b. sandbox-bytes-again (partIn sandboxSize l s) (length-part l (s * sandboxSize) sandboxSize (omega arith))
+    λ s b. sandbox-bytes-again (partIn sandboxSize l s) (sandbox-of l bytes h s) (sandbox-long l bytes h s b)
     (every-at (λ j. isSandbox (partIn sandboxSize l j)) 0 4 each s (omega arith) (omega arith)) in
     rw (
       row-bytes-again sandboxBytes closedSandbox sandboxSize sandboxFrom 4 l place,
-      number-again l bytes lowAt wordSize (omega arith),
-      number-again l bytes highAt wordSize (omega arith),
+      marks-bytes-again (partAt l heldAt marksSize) (held-of l bytes h) (held-long l bytes h),
     )
-    (whole-again l e)
-
-placed : (b : List ℕ) → Placed (sandboxFrom b)
-unfolding sandboxFrom areasFrom
-placed b = record { present = length-firsts _ 8; snapshot = length-firsts _ 8 }
+    (whole-again l (state-long l h))
 
 pub state-shaped : GivesShaped
 unfolding stateFrom
 state-shaped l bytes h =
-    let e = state-long l h in
     record {
       row = length-firsts (λ s. sandboxFrom (partIn sandboxSize l s)) 4;
-      each = λ s b. subst Placed (sym (getD-firsts (λ j. sandboxFrom (partIn sandboxSize l j)) 4 s closedSandbox b)) (placed (partIn sandboxSize l s));
-      low = number-small l bytes lowAt wordSize (omega arith);
-      high = number-small l bytes highAt wordSize (omega arith);
+      each = λ s b. subst Placed (sym (getD-firsts (λ j. sandboxFrom (partIn sandboxSize l j)) 4 s closedSandbox b))
+          (placed (partIn sandboxSize l s) (sandbox-of l bytes h s) (sandbox-long l bytes h s b));
+      held = marks-small (partAt l heldAt marksSize) (held-of l bytes h) (held-long l bytes h);
     }

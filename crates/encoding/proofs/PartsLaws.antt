@@ -126,17 +126,20 @@ past : (l : List ℕ) (at n i : ℕ) → n ≤ i → getD (partAt l at n) i 0 �
 unfolding partAt
 past l at n i h = List·getD-eq-default (take n (drop at l)) 0 {n = i} (rw (length-take n (drop at l)) (omega arith))
 
-pub part-small : (l : List ℕ) → Bytes l → (at n i : ℕ) → getD (partAt l at n) i 0 < 256
+part-small : (l : List ℕ) → Bytes l → (at n i : ℕ) → getD (partAt l at n) i 0 < 256
 part-small l bytes at n i =
     by-cases (ltb i n) (λ t. rw (part-getD l at n i (ltb-true i n t)) (bytes .at (at + i)))
     (λ t. rw (past l at n i (ltb-false i n t)) (omega arith))
+
+pub bytes-part : (l : List ℕ) → Bytes l → (at n : ℕ) → Bytes (partAt l at n)
+bytes-part l bytes at n = record { at = part-small l bytes at n }
 
 -- a number of n bytes
 pub number-again : (l : List ℕ) → Bytes l → (at n : ℕ) → at + n ≤ length l → digits n (spelled (partAt l at n)) ≡ partAt l at n
 number-again l bytes at n h =
     let e = length-part l at n h in
-    ap (λ (k : ℕ). digits k (spelled (partAt l at n))) (sym e) ∙ digits-spelled (partAt l at n) (record { at = part-small l bytes at n })
+    ap (λ (k : ℕ). digits k (spelled (partAt l at n))) (sym e) ∙ digits-spelled (partAt l at n) (bytes-part l bytes at n)
 
 pub number-small : (l : List ℕ) → Bytes l → (at n : ℕ) → at + n ≤ length l → spelled (partAt l at n) < 256 ^ n
 number-small l bytes at n h =
-    subst (λ (k : ℕ). spelled (partAt l at n) < 256 ^ k) (length-part l at n h) (spelled-small (partAt l at n) (record { at = part-small l bytes at n }))
+    subst (λ (k : ℕ). spelled (partAt l at n) < 256 ^ k) (length-part l at n h) (spelled-small (partAt l at n) (bytes-part l bytes at n))

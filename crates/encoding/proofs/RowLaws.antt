@@ -99,6 +99,9 @@ module _ {A : Type 0} (f : ℕ → A) where
 -- ---- a row of parts, one for each element
 
 module _ {A : Type 0} (bytes : A → List ℕ) (d : A) (w : ℕ) where
+  pub length-row : ((x : A) → length (bytes x) ≡ w) → (n : ℕ) (l : List A) → length (rowBytes bytes d n l) ≡ n * w
+  length-row each n l = length-joined (λ k. bytes (getD l k d)) w (λ k. each (getD l k d)) n
+
   -- what each element gives again, the row gives
   pub row-again : (from : List ℕ → A) → ((x : A) → length (bytes x) ≡ w) → (n : ℕ) (l : List A) (rest : List ℕ) → length l ≡ n
       → ((k : ℕ) → k < n → from (bytes (getD l k d)) ≡ getD l k d) → rowFrom from w n (rowBytes bytes d n l ++ rest) ≡ l

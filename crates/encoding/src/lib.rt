@@ -1,24 +1,24 @@
-// The state in bytes, so that a host can keep it between calls: one layout of 420 bytes, each part of it a table (specs/Layout).
+// The state in bytes, so that a host can keep it between calls: one layout of 932 bytes, each part of it a table (specs/Layout).
 // It promises (specs/Claims): the bytes of a state give that state again, only canonical bytes pass the test, so that a state has one form and equal bytes
-// are equal states, and every sound state can be written so. A fresh state is 420 zero bytes.
-// It stands on `state`, with `areas` and `frames`, for what is laid out, and knows nothing of calls.
+// are equal states, and every sound state can be written so. A fresh state is 932 zero bytes.
+// It stands on `state`, with `areas`, `runs` and `frames`, for what is laid out, and knows nothing of calls.
 ghost use mathlib.Core.Path.{_≡_};
 ghost use lib.ListN.{length};
-ghost use Rattle.encoding.specs.Layout.{lowAt, stateSize, sandboxBytes, stateBytes, stateFrom, areSandboxes, isState};
+ghost use Rattle.encoding.specs.Layout.{heldAt, stateSize, sandboxBytes, stateBytes, stateFrom, areSandboxes, isState};
 ghost use Rattle.encoding.specs.Rows.{rowBytes};
 ghost use Rattle.state.specs.World.{closedSandbox};
+use crate::run::decode_marks;
+use crate::run::encode_marks;
 use crate::sandbox::decode_sandbox;
 use crate::sandbox::encode_sandbox;
 use crate::sandbox::is_sandbox;
 use crate::size::At;
 use crate::size::Size;
-use crate::word::decode_word;
-use crate::word::encode_word;
-use frames::Held;
 use state::sandbox::Machine;
 use state::sandbox::Sandbox;
 
 pub mod area;
+pub mod run;
 pub mod sandbox;
 pub mod size;
 pub mod word;
@@ -29,9 +29,9 @@ pub fn encode(machine: Machine, out: &mut [u8])
     ensures { λ r. ⌜ now (out .exit) ≡ stateBytes machine ⌝ }
 {
     let sandboxes = machine.sandboxes;
-    encode_sandboxes(sandboxes, &mut out[..At::LOW]);
-    encode_word(machine.held.low, &mut out[At::LOW..At::HIGH]);
-    encode_word(machine.held.high, &mut out[At::HIGH..Size::STATE]);
+    let held = machine.held;
+    encode_sandboxes(sandboxes, &mut out[0..At::HELD]);
+    encode_marks(held, &mut out[At::HELD..Size::STATE]);
 }
 
 // The state that bytes give, whatever they are: `is_state` says whether they are its own.
@@ -48,10 +48,7 @@ pub fn decode(bytes: &[u8]) -> Machine
         machine.sandboxes[s] = sandbox;
         s += 1;
     }
-    let held = Held {
-        low: decode_word(&bytes[At::LOW..At::HIGH]),
-        high: decode_word(&bytes[At::HIGH..Size::STATE]),
-    };
+    let held = decode_marks(&bytes[At::HELD..Size::STATE]);
     machine.held = held;
     machine
 }
@@ -67,7 +64,7 @@ pub fn is_state(bytes: &[u8]) -> bool
 }
 
 fn encode_sandboxes(sandboxes: [Sandbox; 4], out: &mut [u8])
-    requires { ⌜ length (now out) ≡ lowAt ⌝ }
+    requires { ⌜ length (now out) ≡ heldAt ⌝ }
     ensures { λ r. ⌜ now (out .exit) ≡ rowBytes sandboxBytes closedSandbox 4 sandboxes ⌝ }
 {
     let mut s: usize = 0;

@@ -5,6 +5,8 @@ ghost use Rattle.encoding.specs.Layout.{sandboxSize, sandboxBytes, sandb
 use crate::area::decode_areas;
 use crate::area::encode_areas;
 use crate::area::is_areas;
+use crate::run::decode_runs;
+use crate::run::encode_runs;
 use crate::size::At;
 use crate::size::Size;
 use crate::word::flag;
@@ -16,8 +18,10 @@ pub fn encode_sandbox(sandbox: Sandbox, out: &mut [u8])
 {
     let present = sandbox.present;
     let snapshot = sandbox.snapshot;
+    let runs = sandbox.runs;
     encode_areas(present, &mut out[At::PRESENT..At::SNAPSHOT]);
-    encode_areas(snapshot, &mut out[At::SNAPSHOT..Size::SANDBOX]);
+    encode_areas(snapshot, &mut out[At::SNAPSHOT..At::RUNS]);
+    encode_runs(runs, &mut out[At::RUNS..Size::SANDBOX]);
     out[0] = flag(sandbox.opened);
     out[1] = sandbox.share;
     out[2] = flag(sandbox.taken);
@@ -28,13 +32,15 @@ pub fn decode_sandbox(bytes: &[u8]) -> Sandbox
     ensures { λ r. ⌜ r ≡ sandboxFrom (now (bytes .entry)) ⌝ }
 {
     let present = decode_areas(&bytes[At::PRESENT..At::SNAPSHOT]);
-    let snapshot = decode_areas(&bytes[At::SNAPSHOT..Size::SANDBOX]);
+    let snapshot = decode_areas(&bytes[At::SNAPSHOT..At::RUNS]);
+    let runs = decode_runs(&bytes[At::RUNS..Size::SANDBOX]);
     Sandbox {
         opened: bytes[0] == 1,
         share: bytes[1],
         present: present,
         taken: bytes[2] == 1,
         snapshot: snapshot,
+        runs: runs,
     }
 }
 
@@ -43,6 +49,6 @@ pub fn is_sandbox(bytes: &[u8]) -> bool
     ensures { λ r. ⌜ r ≡ isSandbox (now (bytes .entry)) ⌝ }
 {
     let areas = is_areas(&bytes[At::PRESENT..At::SNAPSHOT])
-        & is_areas(&bytes[At::SNAPSHOT..Size::SANDBOX]);
+        & is_areas(&bytes[At::SNAPSHOT..At::RUNS]);
     (bytes[0] <= 1) & ((bytes[2] <= 1) & areas)
 }

@@ -1,21 +1,26 @@
 // How many bytes each part of the layout has, and where it stands: the numbers of specs/Layout, under the same names.
 use areas::area::Area;
+use runs::Runs;
 use state::sandbox::Machine;
 
 pub struct Size;
 
 impl Size {
-    pub const WORD: usize = 8;
-
     pub const AREA: usize = 6;
 
     pub const PLACES: usize = Area::MOST * Size::AREA;
 
     pub const AREAS: usize = 1 + Size::PLACES;
 
-    pub const SANDBOX: usize = At::SNAPSHOT + Size::AREAS;
+    pub const WORD: usize = 8;
 
-    pub const STATE: usize = At::HIGH + Size::WORD;
+    pub const MARKS: usize = 2 * Size::WORD;
+
+    pub const RUNS: usize = Runs::PLACES * Size::MARKS;
+
+    pub const SANDBOX: usize = At::RUNS + Size::RUNS;
+
+    pub const STATE: usize = At::HELD + Size::MARKS;
 }
 
 pub struct At;
@@ -25,7 +30,7 @@ impl At {
 
     pub const SNAPSHOT: usize = At::PRESENT + Size::AREAS;
 
-    pub const LOW: usize = Machine::SANDBOXES * Size::SANDBOX;
+    pub const RUNS: usize = At::SNAPSHOT + Size::AREAS;
 
-    pub const HIGH: usize = At::LOW + Size::WORD;
+    pub const HELD: usize = Machine::SANDBOXES * Size::SANDBOX;
 }

@@ -71,38 +71,25 @@ loop-again c =
     filled-next (sandboxIn bytes) 4 (replicate 4 closedSandbox) closedSandbox (at .machine .sandboxes) (at .s) (c .decode-sandbox .result) (omega arith)
     (at .inv) more got
 
-sub-decode-word : tie.Need-sub-decode-word Inv-loop μ-loop
-sub-decode-word c = search needs
+sub-decode-marks : tie.Need-sub-decode-marks Inv-loop μ-loop
+sub-decode-marks c = search needs
 
-part-decode-word-start : tie.Need-part-decode-word-start Inv-loop μ-loop
-part-decode-word-start c = search needs
+part-decode-marks-start : tie.Need-part-decode-marks-start Inv-loop μ-loop
+part-decode-marks-start c = search needs
 
-part-decode-word-end : tie.Need-part-decode-word-end Inv-loop μ-loop
-part-decode-word-end c = search needs
+part-decode-marks-end : tie.Need-part-decode-marks-end Inv-loop μ-loop
+part-decode-marks-end c = search needs
 
-decode-word-requires : tie.Need-decode-word-requires Inv-loop μ-loop
-decode-word-requires c κs = search needs
-
-sub-decode-word-2 : tie.Need-sub-decode-word-2 Inv-loop μ-loop
-sub-decode-word-2 c = search needs
-
-part-decode-word-start-2 : tie.Need-part-decode-word-start-2 Inv-loop μ-loop
-part-decode-word-start-2 c = search needs
-
-part-decode-word-end-2 : tie.Need-part-decode-word-end-2 Inv-loop μ-loop
-part-decode-word-end-2 c = search needs
-
-decode-word-requires-2 : tie.Need-decode-word-requires-2 Inv-loop μ-loop
-decode-word-requires-2 c κs = search needs
+decode-marks-requires : tie.Need-decode-marks-requires Inv-loop μ-loop
+decode-marks-requires c κs = search needs
 
 returns : tie.Need-returns Inv-loop μ-loop
 unfolding stateFrom partAt
 returns c =
-    let at = c .before .before .before .before .before .loop in
-    let bytes = c .before .before .before .before .before .before .before .before .args .bytes .now in
-    let stop = c .before .before .before .before .loop-test .left in
-    let row = filled-all (sandboxIn bytes) 4 (replicate 4 closedSandbox) (at .machine .sandboxes) (at .s) refl (at .inv) (omega (arith, stop)) in
-    λ i. record { sandboxes = row i; held = record { low = c .before .before .decode-word .ensures i; high = c .decode-word2 .ensures i } }
+    let at = c .before .before .before .loop in
+    let bytes = c .before .before .before .before .before .before .args .bytes .now in
+    let row = filled-all (sandboxIn bytes) 4 (replicate 4 closedSandbox) (at .machine .sandboxes) (at .s) refl (at .inv) (omega (arith, c .before .before .loop-test .left)) in
+    λ i. record { sandboxes = row i; held = c .decode-marks .ensures i }
 
 pub decode-spec : {M : Type 1} → statement M
 decode-spec =
@@ -123,12 +110,8 @@ decode-spec =
     add-s
     loop-less
     loop-again
-    sub-decode-word
-    part-decode-word-start
-    part-decode-word-end
-    decode-word-requires
-    sub-decode-word-2
-    part-decode-word-start-2
-    part-decode-word-end-2
-    decode-word-requires-2
+    sub-decode-marks
+    part-decode-marks-start
+    part-decode-marks-end
+    decode-marks-requires
     returns)

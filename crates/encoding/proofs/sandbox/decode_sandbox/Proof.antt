@@ -28,6 +28,18 @@ part-decode-areas-end-2 c = search needs
 decode-areas-requires-2 : tie.Need-decode-areas-requires-2
 decode-areas-requires-2 c κs = search needs
 
+sub-decode-runs : tie.Need-sub-decode-runs
+sub-decode-runs c = search needs
+
+part-decode-runs-start : tie.Need-part-decode-runs-start
+part-decode-runs-start c = search needs
+
+part-decode-runs-end : tie.Need-part-decode-runs-end
+part-decode-runs-end c = search needs
+
+decode-runs-requires : tie.Need-decode-runs-requires
+decode-runs-requires c κs = search needs
+
 shared-slice-read-t12 : tie.Need-shared-slice-read-t12
 shared-slice-read-t12 c = search needs
 
@@ -40,9 +52,9 @@ shared-slice-read-t17 c = search needs
 returns : tie.Need-returns
 unfolding sandboxFrom partAt
 returns c =
-    let present = c .before .before .before .before .before .decode-areas .ensures in
-    let snapshot = c .before .before .before .decode-areas2 .ensures in
-    rw (present, snapshot)
+    let present = c .before .before .before .before .before .before .before .decode-areas .ensures in
+    let snapshot = c .before .before .before .before .before .decode-areas2 .ensures in
+    rw (present, snapshot, c .before .before .before .decode-runs .ensures)
 
 pub decode-sandbox-spec : {M : Type 1} → statement M
 decode-sandbox-spec =
@@ -56,6 +68,10 @@ decode-sandbox-spec =
     part-decode-areas-start-2
     part-decode-areas-end-2
     decode-areas-requires-2
+    sub-decode-runs
+    part-decode-runs-start
+    part-decode-runs-end
+    decode-runs-requires
     shared-slice-read-t12
     shared-slice-read-t15
     shared-slice-read-t17

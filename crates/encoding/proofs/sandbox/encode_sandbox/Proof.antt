@@ -4,8 +4,8 @@ use native.Mathlib.Omega.{arith}
 use lib.ListN.{length-set}
 use Rattle.basics.specs.Ranges.{one}
 use Rattle.encoding.specs.Rows.{Part, part}
-use Rattle.encoding.specs.Layout.{areasSize, areasBytes, sandboxBytes}
-use Rattle.encoding.proofs.LengthLaws.{length-areas}
+use Rattle.encoding.specs.Layout.{areasSize, runsSize, areasBytes, runsBytes, sandboxBytes}
+use Rattle.encoding.proofs.LengthLaws.{length-areas, length-runs}
 use Rattle.encoding.proofs.PartsLaws.{laid-out}
 use borrow.Author.Needs.{needs}
 use Rattle.encoding.proofs.sandbox.encode_sandbox.Statement.{statement}
@@ -35,6 +35,18 @@ part-encode-areas-end-2 c = search needs
 encode-areas-requires-2 : tie.Need-encode-areas-requires-2
 encode-areas-requires-2 c κs = search needs
 
+sub-encode-runs : tie.Need-sub-encode-runs
+sub-encode-runs c = search needs
+
+part-encode-runs-start : tie.Need-part-encode-runs-start
+part-encode-runs-start c = search needs
+
+part-encode-runs-end : tie.Need-part-encode-runs-end
+part-encode-runs-end c = search needs
+
+encode-runs-requires : tie.Need-encode-runs-requires
+encode-runs-requires c κs = search needs
+
 flag-requires : tie.Need-flag-requires
 flag-requires c κs = search needs
 
@@ -56,14 +68,15 @@ same-length c = simp length-set (search needs)
 returns : tie.Need-returns
 unfolding sandboxBytes
 returns c =
-    let k = c .before .before .before .before .before .before .before .before .before .before .before .before .before in
+    let k = c .before .before .before .before .before .before .before .before .before .before .before .before .before .before .before .before .before in
     let s = k .args .sandbox in
-    let present = c .before .before .before .before .before .before .before .before .encode-areas .ensures in
-    let snapshot = c .before .before .before .before .encode-areas2 .ensures in
+    let present = c .before .before .before .before .before .before .before .before .before .before .before .before .encode-areas .ensures in
+    let snapshot = c .before .before .before .before .before .before .before .before .encode-areas2 .ensures in
+    let runs = c .before .before .before .before .encode-runs .ensures in
     let bytes : List ℕ = one (s .opened) ∷ s .share ∷ one (s .taken) ∷ [] in
-    let parts : List Part = part areasSize (areasBytes (s .present)) ∷ part areasSize (areasBytes (s .snapshot)) ∷ [] in
-    rw (c .flag2 .ensures, c .before .flag .ensures, present, snapshot)
-    (laid-out bytes parts (k .args .out .now) (k .pre) (length-areas (s .present), (length-areas (s .snapshot), tt)))
+    let parts : List Part = part areasSize (areasBytes (s .present)) ∷ part areasSize (areasBytes (s .snapshot)) ∷ part runsSize (runsBytes (s .runs)) ∷ [] in
+    rw (c .flag2 .ensures, c .before .flag .ensures, present, snapshot, runs)
+    (laid-out bytes parts (k .args .out .now) (k .pre) (length-areas (s .present), (length-areas (s .snapshot), (length-runs (s .runs), tt))))
 
 pub encode-sandbox-spec : {M : Type 1} → statement M
 encode-sandbox-spec =
@@ -77,6 +90,10 @@ encode-sandbox-spec =
     part-encode-areas-start-2
     part-encode-areas-end-2
     encode-areas-requires-2
+    sub-encode-runs
+    part-encode-runs-start
+    part-encode-runs-end
+    encode-runs-requires
     flag-requires
     slice-write-out
     slice-write-out-2
