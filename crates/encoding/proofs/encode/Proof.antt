@@ -36,7 +36,7 @@ same-length c = search needs
 returns : tie.Need-returns
 unfolding stateBytes
 returns c =
-    let k = c .before .before .before .before .before .before .before .before .before in
+    let k = c .before .before .before .before .before .before .before .before .before .before .before in
     rw (c .before .before .before .before .before .before .encode-sandboxes .ensures, c .before .before .encode-marks .ensures)
     (laid-out [] (stateParts (k .args .machine)) (k .args .out .now) (k .pre) (sized-state (k .args .machine)))
 

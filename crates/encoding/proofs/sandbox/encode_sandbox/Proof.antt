@@ -5,7 +5,7 @@ use lib.ListN.{length-set}
 use Rattle.basics.specs.Ranges.{one}
 use Rattle.encoding.specs.Rows.{Part, part}
 use Rattle.encoding.specs.Layout.{areasSize, runsSize, areasBytes, runsBytes, sandboxBytes}
-use Rattle.encoding.proofs.LengthLaws.{length-areas, length-runs}
+use Rattle.encoding.proofs.LengthLaws.{sized-sandbox}
 use Rattle.encoding.proofs.PartsLaws.{laid-out}
 use borrow.Author.Needs.{needs}
 use Rattle.encoding.proofs.sandbox.encode_sandbox.Statement.{statement}
@@ -54,13 +54,13 @@ slice-write-out : tie.Need-slice-write-out
 slice-write-out c = search needs
 
 slice-write-out-2 : tie.Need-slice-write-out-2
-slice-write-out-2 c = simp length-set (omega (arith, c .before .before .out2 .given))
+slice-write-out-2 c = simp length-set (omega (arith, c .before .before .out3 .given))
 
 flag-requires-2 : tie.Need-flag-requires-2
 flag-requires-2 c κs = search needs
 
 slice-write-out-3 : tie.Need-slice-write-out-3
-slice-write-out-3 c = simp length-set (omega (arith, c .before .before .before .out2 .given))
+slice-write-out-3 c = simp length-set (omega (arith, c .before .before .before .out3 .given))
 
 same-length : tie.Need-same-length
 same-length c = simp length-set (search needs)
@@ -68,15 +68,16 @@ same-length c = simp length-set (search needs)
 returns : tie.Need-returns
 unfolding sandboxBytes
 returns c =
-    let k = c .before .before .before .before .before .before .before .before .before .before .before .before .before .before .before .before .before in
+    let first = c .before .before .before .before .before .before .before .before .before in
+    let k = first .before .before .before .before .before .before .before .before .before in
     let s = k .args .sandbox in
-    let present = c .before .before .before .before .before .before .before .before .before .before .before .before .encode-areas .ensures in
+    let present = first .before .before .before .encode-areas .ensures in
     let snapshot = c .before .before .before .before .before .before .before .before .encode-areas2 .ensures in
     let runs = c .before .before .before .before .encode-runs .ensures in
     let bytes : List ℕ = one (s .opened) ∷ s .share ∷ one (s .taken) ∷ [] in
     let parts : List Part = part areasSize (areasBytes (s .present)) ∷ part areasSize (areasBytes (s .snapshot)) ∷ part runsSize (runsBytes (s .runs)) ∷ [] in
     rw (c .flag2 .ensures, c .before .flag .ensures, present, snapshot, runs)
-    (laid-out bytes parts (k .args .out .now) (k .pre) (length-areas (s .present), (length-areas (s .snapshot), (length-runs (s .runs), tt))))
+    (laid-out bytes parts (k .args .out .now) (k .pre) (sized-sandbox s .1 .1 .1))
 
 pub encode-sandbox-spec : {M : Type 1} → statement M
 encode-sandbox-spec =
