@@ -32,9 +32,10 @@ sound-is-shaped image w s = record {
     present = s .each k l .present .eight;
     snapshot = s .each k l .snapshot .eight;
     runs = s .each k l .places;
-    words = λ i b. record { low = s .words k l .low i b; high = s .words k l .high i b };
+    words = s .words k l;
   };
-  held = record { low = s .filed .low; high = s .filed .high };
+  low = s .filed .low;
+  high = s .filed .high;
 }
 
 pub fresh-is-zero : FreshIsZero

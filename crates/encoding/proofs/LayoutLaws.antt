@@ -1,6 +1,6 @@
 -- The two laws of each table, from an area up to the state: the bytes give again what they were made from, and bytes that pass the test are those of
 -- what they give.
-use Prim.Native.Nat.{ℕ, _+_, _*_, _<_}
+use Prim.Native.Nat.{ℕ, _+_, _*_, _^_, _<_}
 use mathlib.Core.Path.{_≡_, refl, sym, ap, _∙_, subst}
 use mathlib.Core.Bool.{Bool, true, false, _&&_, _||_}
 use mathlib.Core.List.{List, [], _∷_, _++_, append-nil}
@@ -20,6 +20,7 @@ use Rattle.frames.specs.declared.Held.{Held}
 use Rattle.frames.specs.Frames.{noneHeld}
 use Rattle.runs.specs.declared.Runs.{Runs}
 use Rattle.runs.specs.Row.{row}
+use Rattle.kept.specs.Spare.{Words}
 use Rattle.areas.specs.declared.area.Area.{Area}
 use Rattle.areas.specs.declared.area.Areas.{Areas}
 use Rattle.areas.specs.Areas.{none, startOf}
@@ -29,7 +30,7 @@ use Rattle.state.specs.World.{closedSandbox}
 use Rattle.encoding.specs.Rows.{spelled, firsts, Bytes, partIn, rowBytes, rowFrom}
 use Rattle.encoding.specs.Layout.{areaSize, placesSize, areasSize, wordSize, marksSize, runsSize, presentAt, snapshotAt, runsAt, sandboxSize, heldAt, stateSize}
 use Rattle.encoding.specs.Layout.{kindOf, areaBytes, areasBytes, marksParts, marksBytes, runsBytes, sandboxParts, sandboxBytes, stateParts, stateBytes}
-use Rattle.encoding.specs.Layout.{backingFrom, areaFrom, areasFrom, marksFrom, runsFrom, sandboxFrom, stateFrom, Words, Placed}
+use Rattle.encoding.specs.Layout.{backingFrom, areaFrom, areasFrom, marksFrom, runsFrom, sandboxFrom, stateFrom, Placed}
 use Rattle.encoding.specs.Layout.{isArea, isAreas, isSandbox, areSandboxes, isState}
 use Rattle.encoding.specs.Claims.{DecodesBack, Passes, OnlyCanonical, GivesShaped}
 use Rattle.encoding.proofs.RowLaws.{spelled-digits, firsts-of, length-firsts, getD-firsts, row-again, row-passes, row-bytes-again}
@@ -120,11 +121,11 @@ module _ (h : Held) where
   unfolding marksBytes
   word-of = part-flat (marksParts h) (sized-marks h)
 
-  marks-again : Words h → marksFrom (marksBytes h) ≡ h
+  marks-again : h .low < 2 ^ 64 → h .high < 2 ^ 64 → marksFrom (marksBytes h) ≡ h
   unfolding marksFrom
-  marks-again z = λ i. record {
-    low = (ap spelled (word-of 0) ∙ spelled-digits wordSize (h .low) (z .low)) i;
-    high = (ap spelled (word-of 1) ∙ spelled-digits wordSize (h .high) (z .high)) i;
+  marks-again low high = λ i. record {
+    low = (ap spelled (word-of 0) ∙ spelled-digits wordSize (h .low) low) i;
+    high = (ap spelled (word-of 1) ∙ spelled-digits wordSize (h .high) high) i;
   }
 
 marks-bytes-again : (l : List ℕ) → Bytes l → length l ≡ marksSize → marksBytes (marksFrom l) ≡ l
@@ -133,17 +134,17 @@ marks-bytes-again l bytes e =
     rw (number-again l bytes 0 wordSize (omega arith), number-again l bytes wordSize wordSize (omega arith))
     (flat-cut (wordSize ∷ wordSize ∷ []) l 0 e)
 
-marks-small : (l : List ℕ) → Bytes l → length l ≡ marksSize → Words (marksFrom l)
+marks-small : (l : List ℕ) → Bytes l → length l ≡ marksSize → (marksFrom l .low < 2 ^ 64) × (marksFrom l .high < 2 ^ 64)
 unfolding marksFrom
-marks-small l bytes e = record { low = number-small l bytes 0 wordSize (omega arith); high = number-small l bytes wordSize wordSize (omega arith) }
+marks-small l bytes e = (number-small l bytes 0 wordSize (omega arith), number-small l bytes wordSize wordSize (omega arith))
 
-runs-again : (r : Runs) → length (r .list) ≡ 8 → ((i : ℕ) → i < 8 → Words (row r i)) → runsFrom (runsBytes r) ≡ r
+runs-again : (r : Runs) → length (r .list) ≡ 8 → Words (row r) → runsFrom (runsBytes r) ≡ r
 unfolding runsFrom runsBytes
 runs-again r e z =
     let runs : List ℕ = rowBytes marksBytes noneHeld 8 (r .list) in
     let alone : rowFrom marksFrom marksSize 8 runs ≡ rowFrom marksFrom marksSize 8 (runs ++ []) = ap (rowFrom marksFrom marksSize 8) (sym (append-nil runs)) in
     λ i. record {
-      list = (alone ∙ row-again marksBytes noneHeld marksSize marksFrom length-marks 8 (r .list) [] e (λ k l. marks-again (row r k) (z k l))) i;
+      list = (alone ∙ row-again marksBytes noneHeld marksSize marksFrom length-marks 8 (r .list) [] e (λ k l. marks-again (row r k) (z .low k l) (z .high k l))) i;
     }
 
 module _ (l : List ℕ) (bytes : Bytes l) (e : length l ≡ runsSize) where
@@ -157,11 +158,14 @@ module _ (l : List ℕ) (bytes : Bytes l) (e : length l ≡ runsSize) where
       λ k b. marks-bytes-again (partIn marksSize l k) (bytes-part l bytes (k * marksSize) marksSize) (run-long k b) in
       row-bytes-again marksBytes noneHeld marksSize marksFrom 8 l place ∙ take-all runsSize l (omega arith)
 
-  runs-small : (i : ℕ) → i < 8 → Words (row (runsFrom l) i)
+  run-small : (k : ℕ) → k < 8 → (row (runsFrom l) k .low < 2 ^ 64) × (row (runsFrom l) k .high < 2 ^ 64)
   unfolding runsFrom
-  runs-small i b =
-      subst Words (sym (getD-firsts (λ k. marksFrom (partIn marksSize l k)) 8 i noneHeld b))
-      (marks-small (partIn marksSize l i) (bytes-part l bytes (i * marksSize) marksSize) (run-long i b))
+  run-small k b =
+      rw (getD-firsts (λ j. marksFrom (partIn marksSize l j)) 8 k noneHeld b)
+      (marks-small (partIn marksSize l k) (bytes-part l bytes (k * marksSize) marksSize) (run-long k b))
+
+  runs-small : Words (row (runsFrom l))
+  runs-small = record { low = λ k b. run-small k b .0; high = λ k b. run-small k b .1 }
 
 -- ---- a sandbox
 
@@ -233,7 +237,7 @@ state-again m h =
     = λ s l. sandbox-again (getD (m .sandboxes) s closedSandbox) (h .each s l) in
     λ i. record {
       sandboxes = row-again sandboxBytes closedSandbox sandboxSize sandboxFrom length-sandbox 4 (m .sandboxes) (marksBytes (m .held) ++ []) (h .row) each i;
-      held = (ap marksFrom (state-part m 1) ∙ marks-again (m .held) (h .held)) i;
+      held = (ap marksFrom (state-part m 1) ∙ marks-again (m .held) (h .low) (h .high)) i;
     }
 
 pub state-passes : Passes
@@ -283,5 +287,6 @@ state-shaped l bytes h =
       row = length-firsts (λ s. sandboxFrom (partIn sandboxSize l s)) 4;
       each = λ s b. subst Placed (sym (getD-firsts (λ j. sandboxFrom (partIn sandboxSize l j)) 4 s closedSandbox b))
           (placed (partIn sandboxSize l s) (sandbox-of l bytes h s) (sandbox-long l bytes h s b));
-      held = marks-small (partAt l heldAt marksSize) (held-of l bytes h) (held-long l bytes h);
+      low = marks-small (partAt l heldAt marksSize) (held-of l bytes h) (held-long l bytes h) .0;
+      high = marks-small (partAt l heldAt marksSize) (held-of l bytes h) (held-long l bytes h) .1;
     }

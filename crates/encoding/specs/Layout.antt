@@ -14,6 +14,7 @@ use Rattle.frames.specs.declared.Held.{Held}
 use Rattle.frames.specs.Frames.{noneHeld}
 use Rattle.runs.specs.declared.Runs.{Runs}
 use Rattle.runs.specs.Row.{row}
+use Rattle.kept.specs.Spare.{Words}
 use Rattle.areas.specs.declared.area.Area.{Area}
 use Rattle.areas.specs.declared.area.Areas.{Areas}
 use Rattle.areas.specs.Areas.{none, startOf}
@@ -194,19 +195,16 @@ areSandboxes b = isRow isSandbox sandboxSize 4 b
 unfoldable pub isState : List ℕ → Bool
 isState b = eqb (length b) stateSize && areSandboxes b
 
--- ---- what the types of a state say: words of 64 bits, 8 places for areas and 8 for runs, a row of 4
-
-pub record Words (h : Held) : Type 0 where
-  pub low : h .low < 2 ^ 64
-  pub high : h .high < 2 ^ 64
+-- ---- what the types of a state say: 8 places for areas and 8 for runs, a row of 4, words of 64 bits
 
 pub record Placed (b : Sandbox) : Type 0 where
   pub present : length (b .present .list) ≡ 8
   pub snapshot : length (b .snapshot .list) ≡ 8
   pub runs : length (b .runs .list) ≡ 8
-  pub words : (i : ℕ) → i < 8 → Words (row (b .runs) i)
+  pub words : Words (row (b .runs))
 
 pub record Shaped (m : Machine) : Type 0 where
   pub row : length (m .sandboxes) ≡ 4
   pub each : (s : ℕ) → s < 4 → Placed (getD (m .sandboxes) s closedSandbox)
-  pub held : Words (m .held)
+  pub low : m .held .low < 2 ^ 64
+  pub high : m .held .high < 2 ^ 64

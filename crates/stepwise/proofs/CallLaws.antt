@@ -15,7 +15,9 @@ use Rattle.interface.specs.Requests.{isCall}
 use Rattle.interface.specs.Answers.{Answered, numberOf}
 use Rattle.state.specs.World.{World, worldOf}
 use Rattle.state.specs.Start.{startAnswer, startedBy}
+use Rattle.state.specs.Test.{Typed}
 use Rattle.state.specs.declared.sandbox.Machine.{Machine}
+use Rattle.state.proofs.TestLaws.{sound-true}
 use Rattle.encoding.specs.Rows.{Bytes}
 use Rattle.encoding.specs.Layout.{stateSize, stateBytes, stateFrom, isState, Shaped}
 use Rattle.encoding.specs.Claims.{machineOf}
@@ -23,7 +25,6 @@ use Rattle.encoding.proofs.Claims.{decodes-back, passes, only-canonical, gives-
 use Rattle.machine.specs.declared.call.Reply.{Reply}
 use Rattle.machine.specs.Step.{numberAt, Outcome, Stepped}
 use Rattle.machine.specs.Parts.{outcomeOf}
-use Rattle.machine.proofs.CallLaws.{sound-of-test}
 use Rattle.claims.proofs.StepLaws.{was-sound, refused-leaves}
 use Rattle.claims.proofs.Claims.{claim-1}
 use Rattle.stepwise.specs.declared.Told.{Told}
@@ -70,11 +71,15 @@ module _ (image : List ℕ) (h : Handed) (q : Request) where
     passed : isState (h .state) ≡ true
     passed = ap (λ (k : Handed). isState (k .state)) own ∙ passes (stateFrom (h .state))
 
+    -- what the types of that world say
+    typed : Typed (worldIn h)
+    typed = record { row = shaped .row; low = shaped .low; high = shaped .high; words = λ s l. shaped .each s l .words }
+
     -- a step leaves a state that its bytes give again: a refused one the state itself, an accepted one a sound state
     next-shaped : (o : Outcome) → Stepped image (worldIn h) q o → Shaped (machineOf (o .world))
     next-shaped o s =
         by-cases (eqb (numberAt image (worldIn h) q) 0)
-        (λ z. let sound = sound-of-test image (worldIn h) (shaped .row) (was-sound image (worldIn h) q (eqb-true (numberAt image (worldIn h) q) 0 z)) in
+        (λ z. let sound = sound-true image (worldIn h) typed (was-sound image (worldIn h) q (eqb-true (numberAt image (worldIn h) q) 0 z)) in
         sound-is-shaped image (o .world) (claim-1 image (worldIn h) q o s .sound sound))
         (λ z. subst (λ (w : World). Shaped (machineOf w)) (sym (refused-leaves image (worldIn h) q o s z .1)) shaped)
 
