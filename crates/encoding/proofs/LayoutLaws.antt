@@ -1,13 +1,12 @@
 -- The two laws of each table, from an area up to the state: the bytes give again what they were made from, and bytes that pass the test are those of
--- what they give.
-use Prim.Native.Nat.{ℕ, _+_, _*_, _^_, _<_}
+-- what they give. Those of marks and runs stand in MarksLaws.
+use Prim.Native.Nat.{ℕ, _+_, _*_, _<_}
 use mathlib.Core.Path.{_≡_, refl, sym, ap, _∙_, subst}
 use mathlib.Core.Bool.{Bool, true, false, _&&_, _||_}
-use mathlib.Core.List.{List, [], _∷_, _++_, append-nil}
+use mathlib.Core.List.{List, [], _∷_, _++_}
 use native.Mathlib.Omega.{arith}
 use lib.Dec.{leb, eqb}
 use lib.ListN.{length, getD, take, drop, length-drop}
-use lib.Seq.{take-all}
 use borrow.Author.Tests.{leb-true, eqb-true, eqb-false, eq-eqb}
 use Rattle.basics.specs.Ranges.{one}
 use Rattle.basics.proofs.TestLaws.{by-cases, and-left, and-right, and-of}
@@ -16,26 +15,22 @@ use Rattle.interface.specs.declared.page.Backing.{Backing}
 use Rattle.interface.specs.declared.page.Backing.the-variants.{Anonymous, Image}
 use Rattle.pages.specs.Parts.{partAt}
 use Rattle.pages.proofs.PartLaws.{length-part}
-use Rattle.frames.specs.declared.Held.{Held}
-use Rattle.frames.specs.Frames.{noneHeld}
-use Rattle.runs.specs.declared.Runs.{Runs}
-use Rattle.runs.specs.Row.{row}
-use Rattle.kept.specs.Spare.{Words}
 use Rattle.areas.specs.declared.area.Area.{Area}
 use Rattle.areas.specs.declared.area.Areas.{Areas}
 use Rattle.areas.specs.Areas.{none, startOf}
 use Rattle.state.specs.declared.sandbox.Sandbox.{Sandbox}
 use Rattle.state.specs.declared.sandbox.Machine.{Machine}
 use Rattle.state.specs.World.{closedSandbox}
-use Rattle.encoding.specs.Rows.{spelled, firsts, Bytes, partIn, rowBytes, rowFrom}
-use Rattle.encoding.specs.Layout.{areaSize, placesSize, areasSize, wordSize, marksSize, runsSize, presentAt, snapshotAt, runsAt, sandboxSize, heldAt, stateSize}
-use Rattle.encoding.specs.Layout.{kindOf, areaBytes, areasBytes, marksParts, marksBytes, runsBytes, sandboxParts, sandboxBytes, stateParts, stateBytes}
+use Rattle.encoding.specs.Rows.{firsts, Bytes, partIn}
+use Rattle.encoding.specs.Layout.{areaSize, placesSize, areasSize, marksSize, runsSize, presentAt, snapshotAt, runsAt, sandboxSize, heldAt, stateSize}
+use Rattle.encoding.specs.Layout.{kindOf, areaBytes, areasBytes, marksBytes, sandboxParts, sandboxBytes, stateParts, stateBytes}
 use Rattle.encoding.specs.Layout.{backingFrom, areaFrom, areasFrom, marksFrom, runsFrom, sandboxFrom, stateFrom, Placed}
 use Rattle.encoding.specs.Layout.{isArea, isAreas, isSandbox, areSandboxes, isState}
 use Rattle.encoding.specs.Claims.{DecodesBack, Passes, OnlyCanonical, GivesShaped}
-use Rattle.encoding.proofs.RowLaws.{spelled-digits, firsts-of, length-firsts, getD-firsts, row-again, row-passes, row-bytes-again}
-use Rattle.encoding.proofs.PartsLaws.{placeOf, nth, part-flat, flat-cut, part-byte, bytes-part, number-again, number-small}
-use Rattle.encoding.proofs.LengthLaws.{length-area, length-marks, length-sandbox, length-state, sized-marks, sized-sandbox, sized-state}
+use Rattle.encoding.proofs.RowLaws.{firsts-of, length-firsts, getD-firsts, row-again, row-passes, row-bytes-again}
+use Rattle.encoding.proofs.PartsLaws.{placeOf, nth, part-flat, flat-cut, part-byte, bytes-part}
+use Rattle.encoding.proofs.LengthLaws.{length-area, length-sandbox, length-state, sized-sandbox, sized-state}
+use Rattle.encoding.proofs.MarksLaws.{marks-again, marks-bytes-again, marks-small, runs-again, runs-bytes-again, runs-small}
 
 -- ---- flags and backings
 
@@ -113,59 +108,6 @@ areas-bytes-again l e h =
     (every-at (λ j. isArea (partIn areaSize (drop 1 l) j)) 0 8 h k (omega arith) (omega arith)) in
     rw (row-bytes-again areaBytes none areaSize areaFrom 8 (drop 1 l) place)
     (rw (part-byte l 0 (omega arith)) at (flat-cut (1 ∷ placesSize ∷ []) l 0 e))
-
--- ---- marks, and the runs of a sandbox
-
-module _ (h : Held) where
-  word-of : (i : ℕ) → partAt (marksBytes h) (placeOf (marksParts h) i) (nth (marksParts h) i .width) ≡ nth (marksParts h) i .bytes
-  unfolding marksBytes
-  word-of = part-flat (marksParts h) (sized-marks h)
-
-  marks-again : h .low < 2 ^ 64 → h .high < 2 ^ 64 → marksFrom (marksBytes h) ≡ h
-  unfolding marksFrom
-  marks-again low high = λ i. record {
-    low = (ap spelled (word-of 0) ∙ spelled-digits wordSize (h .low) low) i;
-    high = (ap spelled (word-of 1) ∙ spelled-digits wordSize (h .high) high) i;
-  }
-
-marks-bytes-again : (l : List ℕ) → Bytes l → length l ≡ marksSize → marksBytes (marksFrom l) ≡ l
-unfolding marksBytes marksFrom
-marks-bytes-again l bytes e =
-    rw (number-again l bytes 0 wordSize (omega arith), number-again l bytes wordSize wordSize (omega arith))
-    (flat-cut (wordSize ∷ wordSize ∷ []) l 0 e)
-
-marks-small : (l : List ℕ) → Bytes l → length l ≡ marksSize → (marksFrom l .low < 2 ^ 64) × (marksFrom l .high < 2 ^ 64)
-unfolding marksFrom
-marks-small l bytes e = (number-small l bytes 0 wordSize (omega arith), number-small l bytes wordSize wordSize (omega arith))
-
-runs-again : (r : Runs) → length (r .list) ≡ 8 → Words (row r) → runsFrom (runsBytes r) ≡ r
-unfolding runsFrom runsBytes
-runs-again r e z =
-    let runs : List ℕ = rowBytes marksBytes noneHeld 8 (r .list) in
-    let alone : rowFrom marksFrom marksSize 8 runs ≡ rowFrom marksFrom marksSize 8 (runs ++ []) = ap (rowFrom marksFrom marksSize 8) (sym (append-nil runs)) in
-    λ i. record {
-      list = (alone ∙ row-again marksBytes noneHeld marksSize marksFrom length-marks 8 (r .list) [] e (λ k l. marks-again (row r k) (z .low k l) (z .high k l))) i;
-    }
-
-module _ (l : List ℕ) (bytes : Bytes l) (e : length l ≡ runsSize) where
-  run-long : (k : ℕ) → k < 8 → length (partIn marksSize l k) ≡ marksSize
-  run-long k b = length-part l (k * marksSize) marksSize (omega arith)
-
-  runs-bytes-again : runsBytes (runsFrom l) ≡ l
-  unfolding runsBytes runsFrom
-  runs-bytes-again =
-      let place : (k : ℕ) → k < 8 → marksBytes (marksFrom (partIn marksSize l k)) ≡ partIn marksSize l k =
-      λ k b. marks-bytes-again (partIn marksSize l k) (bytes-part l bytes (k * marksSize) marksSize) (run-long k b) in
-      row-bytes-again marksBytes noneHeld marksSize marksFrom 8 l place ∙ take-all runsSize l (omega arith)
-
-  run-small : (k : ℕ) → k < 8 → (row (runsFrom l) k .low < 2 ^ 64) × (row (runsFrom l) k .high < 2 ^ 64)
-  unfolding runsFrom
-  run-small k b =
-      rw (getD-firsts (λ j. marksFrom (partIn marksSize l j)) 8 k noneHeld b)
-      (marks-small (partIn marksSize l k) (bytes-part l bytes (k * marksSize) marksSize) (run-long k b))
-
-  runs-small : Words (row (runsFrom l))
-  runs-small = record { low = λ k b. run-small k b .0; high = λ k b. run-small k b .1 }
 
 -- ---- a sandbox
 

@@ -13,7 +13,8 @@ use Rattle.state.specs.declared.sandbox.Machine.{Machine}
 use Rattle.state.specs.World.{closedSandbox}
 use Rattle.encoding.specs.Rows.{rowBytes}
 use Rattle.encoding.specs.Layout.{areaSize, placesSize, areasSize, wordSize, marksSize, runsSize, sandboxSize, heldAt}
-use Rattle.encoding.specs.Layout.{areaBytes, areasParts, areasBytes, marksParts, marksBytes, runsBytes, sandboxParts, sandboxBytes, stateParts, stateBytes}
+use Rattle.encoding.specs.Layout.{areaBytes, areasParts, areasBytes, marksParts, marksBytes, runsBytes}
+use Rattle.encoding.specs.Layout.{sandboxParts, sandboxBytes, stateParts, stateBytes}
 use Rattle.encoding.specs.Claims.{OneLength}
 use Rattle.encoding.proofs.RowLaws.{length-digits, length-row}
 use Rattle.encoding.proofs.PartsLaws.{Sized, length-flat}

@@ -88,7 +88,8 @@ unfolding stateFrom partAt
 returns c =
     let at = c .before .before .before .loop in
     let bytes = c .before .before .before .before .before .before .args .bytes .now in
-    let row = filled-all (sandboxIn bytes) 4 (replicate 4 closedSandbox) (at .machine .sandboxes) (at .s) refl (at .inv) (omega (arith, c .before .before .loop-test .left)) in
+    let stop = c .before .before .loop-test .left in
+    let row = filled-all (sandboxIn bytes) 4 (replicate 4 closedSandbox) (at .machine .sandboxes) (at .s) refl (at .inv) (omega (arith, stop)) in
     λ i. record { sandboxes = row i; held = c .decode-marks .ensures i }
 
 pub decode-spec : {M : Type 1} → statement M
