@@ -77,7 +77,7 @@ module _ (image : List ℕ) (frames images : ℕ) (q : Request) (w : World) (A :
         gave = λ t. g .gave (sym same ∙ t);
         takes = λ _. takes-of image frames images q w A e z r g f low unnamed unkept;
         equals = a ∙ rw (eq-eqb (ownFront q (w .store)) 0 z);
-        runs = g .left ∙ rw (e, same);
+        runs = g .left ∙ rw (same, e);
       }
 
   tidy-of : Tidy (λ f. ⊥) 256 frames (w .store)

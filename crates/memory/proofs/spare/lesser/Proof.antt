@@ -1,15 +1,12 @@
+use borrow.Author.Tests.{le-leb, lt-leb}
 use Rattle.memory.proofs.spare.lesser.Statement.{statement}
 use Rattle.memory.proofs.spare.lesser.Tie as tie
-use Rattle.memory.proofs.spare.lesser.Reads as reads
-use Rattle.memory.proofs.spare.lesser.Lts as lts
 
--- src/spare.rt:76:1
 returns : tie.Need-returns
-returns c = ?
+returns c = rw (le-leb (c .before .args .a) (c .before .args .b) (c .if1 .taken))
 
--- src/spare.rt:76:1
 returns-2 : tie.Need-returns-2
-returns-2 c = ?
+returns-2 c = rw (lt-leb (c .before .args .a) (c .before .args .b) (c .if1 .left))
 
 pub lesser-spec : {M : Type 1} → statement M
 lesser-spec = tie.close (tie.spec returns returns-2)
