@@ -1,13 +1,14 @@
 //! The plain machine of "Rewinding sandboxes: pages, frames and the call roll",
 //! and the player of its roll.
 //!
-//! Sentences in quotation marks are the document's, or those of the requests that added call 10
-//! and let unmap pass over gaps; MACHINE and a number is a clause of docs/MACHINE.md, which
-//! states all of them whole. The machine knows no frames: where a program holds a frame, it
-//! keeps a front or a back mark on a page.
+//! Sentences in quotation marks are the document's, or those of the requests that added call 10,
+//! let unmap pass over gaps and keep the frames of a finished request; MACHINE and a number is a
+//! clause of docs/MACHINE.md, which states all of them whole. The machine knows no frames: where
+//! a program holds a frame, it keeps a front or a back mark on a page, or counts it in a run.
 //!
 //! Read in this order:
 //! - `page`: one page, and how pages run together into areas;
+//! - `runs`: lengths and ages of the runs of kept frames;
 //! - `sandbox`: what is kept for a sandbox, and what each call does to it;
 //! - `request`: the limits of the parameters (refusal 6);
 //! - `machine`: four sandboxes, and the refusals in their order;
@@ -23,12 +24,14 @@ mod machine;
 mod page;
 mod request;
 mod roll;
+mod runs;
 mod sandbox;
 
 pub use fault::Fault;
 pub use faulty::Faulty;
 pub use machine::{Answering, Machine, Refusal, Reply, CODES, FRAMES, IMAGE_PAGES, SANDBOXES};
-pub use page::{count_areas, Backing, Page, Pages, PAGES, PAGE_BYTES};
+pub use page::{areas_of, count_areas, Backing, Page, Pages, PAGES, PAGE_BYTES};
 pub use request::{Place, Request, ADDRESSES};
 pub use roll::{call_line, parse_line, play, play_on, reply_line, Call, LINES, LINE_BYTES};
+pub use runs::{Runs, RUNS};
 pub use sandbox::{Sandbox, AREAS};

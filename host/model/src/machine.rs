@@ -1,6 +1,6 @@
 //! Four sandboxes, and the refusals in their order.
 
-use crate::page::PAGE_BYTES;
+use crate::page::{Backing, PAGE_BYTES};
 use crate::request::{Place, Request};
 use crate::roll::Call;
 use crate::sandbox::{Sandbox, AREAS};
@@ -187,6 +187,8 @@ fn carry_out(
             0
         }
         Request::Map { place, count, backing, rights } => {
+            // "An anonymous map at 64 takes" a run of kept frames, and no other map does.
+            let takes_run = place == Place::LowestGap && backing == Backing::Anonymous;
             let first = match place {
                 Place::Named(first) => {
                     let free = sandbox.none_mapped(first..first + count);
@@ -196,6 +198,9 @@ fn carry_out(
                 Place::LowestGap => sandbox.lowest_gap(count).ok_or(Refusal::NoGap)?,
             };
             sandbox.map(first..first + count, backing, rights, image);
+            if takes_run {
+                sandbox.take_run(first..first + count);
+            }
             first
         }
         Request::Unmap { pages } => {

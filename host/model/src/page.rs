@@ -1,5 +1,7 @@
 //! One page, and how neighbouring pages form areas.
 
+use std::ops::Range;
+
 /// MACHINE 3.1: "frames of 256 bytes": a page has as many.
 pub const PAGE_BYTES: usize = 256;
 /// MACHINE 3.1: "Each has 64 pages".
@@ -62,6 +64,11 @@ impl Page {
             && self.backing.further(1) == next.backing
     }
 
+    /// Of an "uncommitted anonymous area", whose frames a rewind keeps.
+    pub fn is_spared(&self) -> bool {
+        self.mapped && !self.committed && self.backing == Backing::Anonymous
+    }
+
     /// MACHINE 4.20: Whether this page and the snapshot's of the same number do not "differ
     /// in being mapped, in rights or in bytes; a page unmapped in both agrees".
     pub fn agrees_with(&self, kept: &Page) -> bool {
@@ -75,9 +82,22 @@ impl Page {
 pub type Pages = [Page; PAGES];
 
 /// MACHINE 2.7: "Areas are the longest runs of neighbouring pages that agree": an area
-/// begins at every mapped page that does not go on from the page before it.
+/// begins at every mapped page that does not go on from the page before it, and ends with the
+/// last page that does. In page order.
+pub fn areas_of(pages: &Pages) -> Vec<Range<usize>> {
+    let mut areas: Vec<Range<usize>> = Vec::new();
+    for at in (0..PAGES).filter(|&at| pages[at].mapped) {
+        match areas.last_mut() {
+            Some(area) if area.end == at && pages[at - 1].same_area_as_next(&pages[at]) => {
+                area.end += 1;
+            }
+            _ => areas.push(at..at + 1),
+        }
+    }
+    areas
+}
+
+/// MACHINE 2.7: how many areas there are.
 pub fn count_areas(pages: &Pages) -> usize {
-    let begins_area =
-        |at: usize| pages[at].mapped && (at == 0 || !pages[at - 1].same_area_as_next(&pages[at]));
-    (0..PAGES).filter(|&at| begins_area(at)).count()
+    areas_of(pages).len()
 }

@@ -2,7 +2,8 @@
 //!
 //! The methods that change something suppose that the call is not refused.
 
-use crate::page::{count_areas, Backing, Page, Pages, PAGES, PAGE_BYTES};
+use crate::page::{areas_of, count_areas, Backing, Page, Pages, PAGES, PAGE_BYTES};
+use crate::runs::Runs;
 use std::ops::Range;
 use std::sync::Arc;
 
@@ -18,13 +19,16 @@ pub struct Sandbox {
     pub pages: Pages,
     /// Shared, since a copy once taken never changes.
     pub copy: Option<Arc<Pages>>,
+    /// "the plain machine also carries run lengths and ages".
+    pub runs: Runs,
 }
 
 impl Sandbox {
     /// MACHINE 9.3: "Fresh, all are closed, nothing is mapped or marked, and there is no
     /// copy."
     pub fn closed() -> Sandbox {
-        Sandbox { open: false, share: 0, pages: [Page::FRESH; PAGES], copy: None }
+        let runs = Runs::default();
+        Sandbox { open: false, share: 0, pages: [Page::FRESH; PAGES], copy: None, runs }
     }
 
     // Counts.
@@ -54,11 +58,25 @@ impl Sandbox {
         }
     }
 
-    /// MACHINE 9.14: "report counts front and back marks".
+    /// MACHINE 9.14: "report counts front and back marks"; kept frames "count in call 9 but not
+    /// in the charge".
     pub fn held(&self) -> usize {
+        self.marks() + self.runs.frames()
+    }
+
+    /// Front and back marks alone: as many frames have an entry.
+    pub fn marks(&self) -> usize {
         let fronts = self.pages.iter().filter(|page| page.front).count();
         let backs = self.pages.iter().filter(|page| page.back).count();
         fronts + backs
+    }
+
+    /// "the frames of each uncommitted anonymous area, if any [...] as one run, whose length is
+    /// its number of frames": for each such area, in page order, how many fronts it has.
+    pub fn fronts_to_keep(&self) -> Vec<usize> {
+        let areas = areas_of(&self.pages).into_iter().map(|area| &self.pages[area]);
+        let kept = areas.filter(|area| area[0].is_spared());
+        kept.map(|area| area.iter().filter(|page| page.front).count()).collect()
     }
 
     // Questions about pages.
@@ -117,6 +135,13 @@ impl Sandbox {
         }
     }
 
+    /// "An anonymous map at 64 takes" a run: "The first new pages get these frames as fronts".
+    /// They are zero, as the pages' bytes are.
+    pub fn take_run(&mut self, pages: Range<usize>) {
+        let taken = self.runs.take(pages.len());
+        self.pages[pages].iter_mut().take(taken).for_each(|page| page.front = true);
+    }
+
     /// MACHINE 9.8 and 4.8: "Unmap takes away mapping, mark and front mark", and "passes over
     /// unmapped pages": such a page stays as it is. A back mark stays: it is the snapshot's.
     pub fn unmap(&mut self, pages: Range<usize>) {
@@ -134,8 +159,13 @@ impl Sandbox {
         }
     }
 
-    /// MACHINE 9.10: "Write stores the byte and sets its page's front mark."
+    /// MACHINE 9.10: "Write stores the byte and sets its page's front mark." And: "When a write
+    /// would bring fronts, backs and kept frames above the share, one frame of the longest run is
+    /// given up first".
     pub fn write(&mut self, page: usize, offset: usize, byte: u8) {
+        if !self.pages[page].front && self.held() + 1 > self.share {
+            self.runs.give_up();
+        }
         self.pages[page].bytes[offset] = byte;
         self.pages[page].front = true;
     }
@@ -153,8 +183,10 @@ impl Sandbox {
     }
 
     /// MACHINE 9.12: "Rewind puts the whole copy in place; a front mark stays only where
-    /// the page was still committed."
+    /// the page was still committed." And: "At rewind, the frames of each uncommitted anonymous
+    /// area, if any, are cleared and kept as one run".
     pub fn rewind(&mut self, copy: &Pages) {
+        self.runs.keep(self.fronts_to_keep());
         for (page, kept) in self.pages.iter_mut().zip(copy) {
             let front = page.front && page.committed;
             *page = Page { front, ..*kept };
