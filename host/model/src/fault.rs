@@ -133,11 +133,81 @@ pub enum Fault {
     ReadPassesOverGap,
     /// A write to an unmapped page is accepted and does nothing.
     WritePassesOverGap,
+
+    // Slips near the request that keeps the frames of a finished request.
+    /// Nine runs are kept.
+    NinthRunKept,
+    /// Where eight are kept, a new run is freed, however long it is.
+    RunsNeverCompete,
+    /// Where eight are kept, a new run takes the place of the oldest, however long it is.
+    OldestRunGoes,
+    /// Of more than eight runs the shortest are kept.
+    ShortestRunsKept,
+    /// A rewind keeps the fronts of uncommitted image areas too.
+    ImageAreaKept,
+    /// A rewind keeps the fronts of committed anonymous pages in a run, and not as fronts.
+    CommittedFrontKept,
+    /// A rewind makes a run of each page, and not of each area.
+    RunForEachPage,
+    /// A rewind makes one run of all areas together.
+    RunForEachRewind,
+    /// Neighbours with other rights go into one run.
+    RightsDivideNoRun,
+    /// A run is as long as its area has pages, written or not.
+    RunAsLongAsItsArea,
+    /// The runs of a rewind take the place of all that were kept.
+    RewindDropsOldRuns,
+    /// Nothing is kept: all fronts of uncommitted pages are freed, as before the request.
+    RewindKeepsNothing,
+    /// A page that gets a kept frame shows what a finished request wrote.
+    KeptFramesNotCleared,
+    /// An unmap keeps the fronts of uncommitted anonymous pages as a run.
+    UnmapKeepsFronts,
+    /// An anonymous map at a named page takes a run.
+    NamedMapTakesRun,
+    /// An image map at 64 takes a run.
+    ImageMapTakesRun,
+    /// A map with rights 1 takes none.
+    ReadOnlyMapTakesNone,
+    /// No map takes a run.
+    MapTakesNone,
+    /// A map takes the longest run, though a shorter one suffices.
+    MapTakesLongest,
+    /// A map takes the oldest run that suffices.
+    MapTakesOldest,
+    /// A map that no run suffices for takes none.
+    MapNeedsEnough,
+    /// A map that no run suffices for takes the next longest too, until all its pages have fronts.
+    MapTakesSeveral,
+    /// What a map leaves of a run is freed.
+    SurplusFreed,
+    /// The frames that a map takes are freed, and its pages get no fronts.
+    TakenRunFreed,
+    /// A map at 64 refused for want of a gap, of frames or of areas frees the run all the same.
+    RefusedMapTakesRun,
+    /// Runs are kept in common: where its own sandbox keeps none, a map takes a run of another.
+    MapTakesOthersRun,
+    /// Call 9 counts fronts and backs alone.
+    ReportForgetsKept,
+    /// Kept frames count in the charge: refusal 13 while the share still suffices.
+    KeptCharged,
+    /// A write gives up no frame, and the share is exceeded.
+    WriteGivesUpNone,
+    /// A frame is given up only where the share is exceeded already.
+    GivesUpLate,
+    /// A frame is given up where the share would just be filled.
+    GivesUpEarly,
+    /// A frame of the shortest run is given up.
+    GivesUpFromShortest,
+    /// The whole longest run is given up.
+    GivesUpWholeRun,
+    /// With a full share a write gives up a frame though its page has a front.
+    GivesUpForFront,
 }
 
 impl Fault {
     /// Every fault, without `None`.
-    pub const ALL: [Fault; 57] = [
+    pub const ALL: [Fault; 91] = [
         Fault::HandsOutRewoundPlace,
         Fault::SearchesPastRewoundPlace,
         Fault::DropsSnapshotFrame,
@@ -195,5 +265,44 @@ impl Fault {
         Fault::ProtectOfNothingAccepted,
         Fault::ReadPassesOverGap,
         Fault::WritePassesOverGap,
+        Fault::NinthRunKept,
+        Fault::RunsNeverCompete,
+        Fault::OldestRunGoes,
+        Fault::ShortestRunsKept,
+        Fault::ImageAreaKept,
+        Fault::CommittedFrontKept,
+        Fault::RunForEachPage,
+        Fault::RunForEachRewind,
+        Fault::RightsDivideNoRun,
+        Fault::RunAsLongAsItsArea,
+        Fault::RewindDropsOldRuns,
+        Fault::RewindKeepsNothing,
+        Fault::KeptFramesNotCleared,
+        Fault::UnmapKeepsFronts,
+        Fault::NamedMapTakesRun,
+        Fault::ImageMapTakesRun,
+        Fault::ReadOnlyMapTakesNone,
+        Fault::MapTakesNone,
+        Fault::MapTakesLongest,
+        Fault::MapTakesOldest,
+        Fault::MapNeedsEnough,
+        Fault::MapTakesSeveral,
+        Fault::SurplusFreed,
+        Fault::TakenRunFreed,
+        Fault::RefusedMapTakesRun,
+        Fault::MapTakesOthersRun,
+        Fault::ReportForgetsKept,
+        Fault::KeptCharged,
+        Fault::WriteGivesUpNone,
+        Fault::GivesUpLate,
+        Fault::GivesUpEarly,
+        Fault::GivesUpFromShortest,
+        Fault::GivesUpWholeRun,
+        Fault::GivesUpForFront,
     ];
+    /// Whether it is a slip near kept runs. A roll that tells one maps and writes several areas
+    /// and rewinds them, so that it has more lines than others.
+    pub fn is_near_runs(self) -> bool {
+        self as usize >= Fault::NinthRunKept as usize
+    }
 }

@@ -6,6 +6,7 @@
 use crate::fault::Fault;
 use crate::faulty_compare::{free_agreeing_fronts, wrong_difference};
 use crate::faulty_gaps::{accept_unmapped, wrong_unmap};
+use crate::faulty_runs::{spoil_runs, take_though_refused};
 use crate::machine::{Answering, Machine, Refusal, Reply, SANDBOXES};
 use crate::page::{count_areas, Backing, Page, PAGES, PAGE_BYTES};
 use crate::roll::Call;
@@ -99,6 +100,10 @@ impl Faulty {
                 let (later, _) = plenty.answer(call);
                 return (number.max(later), 0);
             }
+            (Fault::RefusedMapTakesRun, 2) if number > Refusal::MeetsMapped as u16 => {
+                take_though_refused(call, sandbox);
+                return (number, 0);
+            }
             (Fault::SnapshotsAgain, 7) if number == Refusal::SnapshotTaken as u16 => {
                 return (0, sandbox.snapshot() as u32);
             }
@@ -121,7 +126,11 @@ impl Faulty {
         let memory = &mut self.memory[number];
         let all_shared_out = self.machine.shares() == self.machine.frames;
         let Machine { image, sandboxes, .. } = &mut self.machine;
+        let wrong_runs = spoil_runs(self.fault, call, &before, sandboxes, value);
         let sandbox = &mut sandboxes[number];
+        if let Err(refusal) = wrong_runs {
+            return refuse(sandbox, before, refusal);
+        }
         match (self.fault, call.code) {
             (Fault::RefusesAll, _) => return refuse(sandbox, before, Refusal::TooFewFrames),
             (Fault::RefusesThirteenEarly, 2) if sandbox.charge() == sandbox.share => {
@@ -137,6 +146,7 @@ impl Faulty {
                 return refuse(sandbox, before, Refusal::TooManyAreas);
             }
             (Fault::InventsHeldCount, 9) => return (0, sandbox.charge() as u32),
+            (Fault::ReportForgetsKept, 9) => return (0, sandbox.marks() as u32),
             (Fault::DropsSnapshotFrame, 2) => {
                 drop_snapshot_frames(sandbox, &before, image.as_deref().unwrap_or(&[]));
             }

@@ -13,13 +13,14 @@
 //! - `request`: the limits of the parameters (refusal 6);
 //! - `machine`: four sandboxes, and the refusals in their order;
 //! - `roll`: lines of calls, lines of replies, and the player;
-//! - `fault`, `faulty`, `faulty_compare` and `faulty_gaps`: wrong machines, which a test must
-//!   tell from the right one.
+//! - `fault`, `faulty`, `faulty_compare`, `faulty_gaps` and `faulty_runs`: wrong machines, which a
+//!   test must tell from the right one.
 
 mod fault;
 mod faulty;
 mod faulty_compare;
 mod faulty_gaps;
+mod faulty_runs;
 mod machine;
 mod page;
 mod request;

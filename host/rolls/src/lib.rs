@@ -7,6 +7,7 @@
 //! - `mood`: what a whole roll tends to;
 //! - `put_back`: calls that undo what was changed since the snapshot;
 //! - `gaps`: ranges that meet unmapped pages;
+//! - `request`: areas mapped, written and rewound, again and again;
 //! - `spoil`: calls at and past the limits, and malformed lines;
 //! - `case`: a roll with its image and its number of frames;
 //! - `shrink`: a smaller case that still fails;
@@ -18,6 +19,7 @@ mod mood;
 mod pair;
 mod prng;
 mod put_back;
+mod request;
 mod shrink;
 mod spoil;
 mod steering;

@@ -14,16 +14,30 @@ pub(crate) struct Mood {
     pub lowest_gap: usize,
     /// Small shares are soon filled.
     pub share: usize,
+    /// Percentage of calls that are of requests: map, write, rewind, again and again.
+    pub requests: usize,
 }
 
 impl Mood {
     pub(crate) fn random(prng: &mut Prng) -> Mood {
-        Mood {
+        let mut mood = Mood {
             sandboxes: prng.weighted(&[(4, 1), (3, 2), (2, 3), (2, 4)]),
             scattered: prng.chance(40),
             image: prng.pick(&[0, 30, 60, 90]),
             lowest_gap: prng.pick(&[20, 50, 80]),
             share: prng.pick(&[3, 8, 16, 32, 64, 128]),
+            requests: prng.weighted(&[(15, 0), (2, 75), (3, 90)]),
+        };
+        if mood.requests > 0 {
+            // Enough lines for each sandbox, and shares that kept frames can fill.
+            mood.sandboxes = prng.weighted(&[(6, 1), (2, 2), (1, 4)]);
+            mood.share = prng.pick(&[4, 8, 14, 24, 40]);
+            mood.lowest_gap = prng.pick(&[5, 25, 60, 90]);
+            if mood.requests == 90 {
+                // More runs come to be kept than maps take, and they compete.
+                (mood.share, mood.lowest_gap) = (prng.pick(&[24, 40]), prng.pick(&[2, 15]));
+            }
         }
+        mood
     }
 }

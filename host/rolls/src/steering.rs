@@ -7,6 +7,7 @@ use crate::gaps::{around, over_gaps, unmapped_or_inside};
 use crate::mood::Mood;
 use crate::prng::Prng;
 use crate::put_back::{map_alike, put_back};
+use crate::request::call_of_request;
 use model::{Backing, Call, Machine, Page, Sandbox, AREAS, PAGES, PAGE_BYTES, SANDBOXES};
 
 /// Offsets met again and again, so that reads meet what was written.
@@ -76,6 +77,13 @@ impl Steering {
         let sandbox = machine.sandbox(number);
         if !sandbox.open && self.prng.chance(88) {
             return self.open(machine, number);
+        }
+        if self.prng.chance(self.mood.requests) {
+            let lowest_gap = self.mood.lowest_gap;
+            let call = call_of_request(&mut self.prng, machine, number, lowest_gap);
+            if let Some(call) = call {
+                return call;
+            }
         }
         if let Some((_, page)) = self.gone.take_if(|(gone_from, _)| *gone_from == number) {
             match (self.prng.below(10), &sandbox.copy) {

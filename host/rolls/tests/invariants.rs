@@ -1,7 +1,10 @@
 //! The other demands on lists, and what makes a state sound, after every call of
 //! random rolls.
 
-use model::{count_areas, parse_line, Answering, Call, Machine, Page, Sandbox, LINE_BYTES};
+use model::{
+    count_areas, parse_line, Answering, Call, Fault, Faulty, Machine, Page, Sandbox, LINE_BYTES,
+    RUNS,
+};
 use rolls::Case;
 
 const ROLLS: u64 = 600;
@@ -20,6 +23,9 @@ fn check(sandbox: &Sandbox) {
     assert_eq!(count(pages, |page| page.front && !page.mapped), 0);
     assert_eq!(count(pages, |page| page.committed && !page.mapped), 0);
     assert_eq!(count(pages, |page| page.mapped && page.rights != 1 && page.rights != 3), 0);
+    // "At most 8 runs are kept"; kept frames "with fronts and backs stay within the share"
+    assert!(sandbox.runs.lengths().len() <= RUNS && !sandbox.runs.lengths().contains(&0));
+    assert!(sandbox.held() <= sandbox.share);
     // "a closed one has nothing"
     assert!(sandbox.open || *sandbox == Sandbox::closed());
     match &sandbox.copy {
@@ -63,6 +69,32 @@ fn check_rewound(before: &Sandbox, after: &Sandbox) {
         assert_eq!(page.front, was.front && was.committed);
         assert!(!page.front || kept.mapped);
     }
+    // "the frames of each uncommitted anonymous area": none is lost but where runs compete.
+    let kept = before.runs.frames() + before.fronts_to_keep().iter().sum::<usize>();
+    let runs = before.runs.lengths().len() + before.fronts_to_keep().len();
+    assert!(after.runs.frames() == kept || after.runs.frames() < kept && runs > RUNS);
+}
+
+/// A machine that keeps nothing answers the same, but for call 9: "Places, bytes and refusals are
+/// those of a machine that keeps nothing."
+#[test]
+fn a_machine_that_keeps_nothing_answers_the_same_but_for_call_9() {
+    let (mut compared, mut reports) = (0, 0);
+    for seed in 0..ROLLS {
+        let case = Case::random(seed);
+        let mut keeping = Machine::fresh(&case.image, case.frames);
+        let mut other = Faulty::fresh(&case.image, case.frames, Fault::RewindKeepsNothing);
+        for call in case.roll.chunks(LINE_BYTES).filter_map(parse_line) {
+            let (reply, without) = (keeping.answer(&call), other.answer(&call));
+            if call.code == 9 {
+                reports += usize::from(reply != without);
+            } else {
+                assert_eq!(reply, without, "seed {seed}: {call:?}");
+                compared += 1;
+            }
+        }
+    }
+    assert!(compared > 10_000 && reports > 300, "{compared} calls, {reports} reports differ");
 }
 
 #[test]

@@ -51,6 +51,7 @@ fn a_telling_roll_shrinks_to_a_few_lines() {
         let lines = small.roll.len().div_ceil(LINE_BYTES);
         println!("{fault:?}, image of {} bytes, {} frames:", small.image.len(), small.frames);
         println!("{}", String::from_utf8_lossy(&small.roll));
-        assert!(lines <= 12, "{fault:?}: {lines} lines");
+        let most = if fault.is_near_runs() { 36 } else { 12 };
+        assert!(lines <= most, "{fault:?}: {lines} lines");
     }
 }

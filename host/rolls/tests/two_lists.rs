@@ -101,6 +101,10 @@ fn pairs_tell_the_machines_that_leak() {
         Fault::RewindsOnlyOnce,
         Fault::RewindLeavesNewAreas,
         Fault::StaleBytesInNewPage,
+        // Kept frames that are not cleared are read by the next request; and a machine that
+        // charges them tells how many there are.
+        Fault::KeptFramesNotCleared,
+        Fault::KeptCharged,
         // A front that outlasts the rewind is told by a compare.
         Fault::CompareTakesFrontForDifference,
     ];

@@ -83,7 +83,7 @@ fn random_rolls_unmap_over_gaps_in_every_way() {
         ("over two gaps or more, after a snapshot", 42),
         ("starting in a gap", 250),
         ("ending in a gap", 520),
-        ("over a gap, a back passed over", 65),
+        ("over a gap, a back passed over", 55),
         ("over a gap, with eight areas", 48),
         ("a front freed behind a gap", 225),
         ("a committed page unmapped behind a gap", 165),
@@ -94,9 +94,9 @@ fn random_rolls_unmap_over_gaps_in_every_way() {
         ("of nothing, after a snapshot", 415),
         ("of nothing, a back passed over", 45),
         ("of nothing, with eight areas", 18),
-        ("refused 14", 36),
-        ("protect refused 9, over a gap", 62),
-        ("protect refused 9, of nothing", 330),
+        ("refused 14", 27),
+        ("protect refused 9, over a gap", 52),
+        ("protect refused 9, of nothing", 290),
     ]);
     for case_of in [Case::random, Case::for_player] {
         let mut rolls = BTreeMap::<&str, usize>::new();

@@ -2,6 +2,7 @@
 
 mod compare;
 mod gaps;
+mod runs;
 
 use model::{parse_line, Answering, Backing, Call, Machine, Sandbox, CODES, LINE_BYTES, SANDBOXES};
 use rolls::Case;
