@@ -89,7 +89,7 @@ pub fn check_entries(
         let kept = machine.sandbox(sandbox);
         let entries = &table[sandbox * 2 * PAGES..][..2 * PAGES];
         let program = entries.iter().filter(|&&entry| entry != 0).count();
-        let model = kept.held();
+        let model = kept.marks();
         require(program == model, || Difference::Held { sandbox, program, model })?;
         for page in 0..PAGES {
             let now = &kept.pages[page];

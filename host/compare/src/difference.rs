@@ -36,6 +36,14 @@ pub enum Difference {
     OutsidePool { place: Place, entry: u16, frames: usize },
     /// An entry that names a frame which an earlier entry names.
     NamedTwice { place: Place, frame: usize },
+    /// An entry other than the one that the calls so far leave.
+    Table { at: usize, program: u16, expected: u16 },
+    /// A run other than the one that the calls so far leave: one bit a frame.
+    Run { sandbox: usize, place: usize, program: u128, expected: u128 },
+    /// A write that takes a frame which an entry names, a run keeps or the pool does not have.
+    Taken { place: Place, entry: u16 },
+    /// A write above the share that does not give up just one frame of the longest run.
+    GivenUp { sandbox: usize, place: usize, frames: usize },
     /// A frame that does not hold its page's bytes.
     Bytes { place: Place, offset: usize, program: u8, model: u8 },
     /// A frame that no entry names and that is not zero.
@@ -96,6 +104,25 @@ impl fmt::Display for Difference {
             Difference::NamedTwice { place, frame } => {
                 write!(to, "{place} names frame {frame}, which another entry names too")
             }
+            Difference::Table { at, program, expected } => {
+                write!(to, "entry {at} of the table is {program}, expected is {expected}")
+            }
+            Difference::Run { sandbox, place, program, expected } => {
+                let [program, expected] = [program, expected].map(|run| frames_of(*run));
+                write!(
+                    to,
+                    "run {place} of sandbox {sandbox} keeps {program}, expected is {expected}"
+                )
+            }
+            Difference::Taken { place, entry } => {
+                write!(to, "{place} takes the entry {entry}, whose frame is not unheld")
+            }
+            Difference::GivenUp { sandbox, place, frames } => {
+                write!(
+                    to,
+                    "run {place} of sandbox {sandbox}, the longest, gives up {frames} frames"
+                )
+            }
             Difference::Bytes { place, offset, program, model } => {
                 write!(to, "{place} holds {program} at offset {offset}, the model {model}")
             }
@@ -117,6 +144,17 @@ impl fmt::Display for Difference {
                 write!(to, "line {line}, a call at a time: {difference}")
             }
         }
+    }
+}
+
+/// The frames of a run, in words.
+fn frames_of(run: u128) -> String {
+    let frames = (0..128).filter(|frame| run >> frame & 1 == 1).map(|frame| frame.to_string());
+    let frames: Vec<String> = frames.collect();
+    match frames.len() {
+        0 => "no frame".to_string(),
+        1 => format!("frame {}", frames[0]),
+        _ => format!("frames {}", frames.join(" ")),
     }
 }
 

@@ -4,18 +4,22 @@
 //! |---|---|
 //! | area, 6 | first page, pages, rights, mark (0, 1), kind of backing (0 anonymous, 1 image), first image page (0 when anonymous) |
 //! | areas, 49 | count, then 8 areas |
-//! | sandbox, 101 | open (0, 1), share, snapshot taken (0, 1), areas, snapshot's areas |
-//! | state, 420 | 4 sandboxes, then the two words of the held marks, 8 bytes each, lowest first |
+//! | marks, 16 | two words with one bit a frame, 8 bytes each, lowest first |
+//! | sandbox, 229 | open (0, 1), share, snapshot taken (0, 1), areas, snapshot's areas, the marks of 8 kept runs, the oldest first |
+//! | state, 932 | 4 sandboxes, then the held marks: those of the frames that entries name |
 //!
-//! A place without an area is zero, and so are the bytes of a fresh state.
+//! A place without an area or a run is zero, and so are the bytes of a fresh state.
 
-use model::{Backing, AREAS, SANDBOXES};
+use crate::row::Row;
+use model::{Backing, AREAS, RUNS, SANDBOXES};
 
 pub const AREA_BYTES: usize = 6;
 pub const AREAS_BYTES: usize = 1 + AREAS * AREA_BYTES;
-pub const SANDBOX_BYTES: usize = 3 + 2 * AREAS_BYTES;
+pub const MARKS_BYTES: usize = 16;
+const RUNS_BYTES: usize = RUNS * MARKS_BYTES;
+pub const SANDBOX_BYTES: usize = 3 + 2 * AREAS_BYTES + RUNS_BYTES;
 pub const HELD_AT: usize = SANDBOXES * SANDBOX_BYTES;
-pub const STATE_BYTES: usize = HELD_AT + 16;
+pub const STATE_BYTES: usize = HELD_AT + MARKS_BYTES;
 
 /// A place for an area; a place without one has no pages.
 #[derive(Clone, Copy, PartialEq, Eq, Debug)]
@@ -40,6 +44,8 @@ pub struct Record {
     pub taken: bool,
     pub present: Areas,
     pub snapshot: Areas,
+    /// One bit a frame, frame 0 the lowest.
+    pub runs: Row,
 }
 
 #[derive(Clone, Copy, PartialEq, Eq, Debug)]
@@ -113,14 +119,16 @@ impl Areas {
 
 impl Record {
     fn of(bytes: &[u8]) -> Option<Record> {
-        let (head, areas) = bytes.split_at(3);
-        let (present, snapshot) = areas.split_at(AREAS_BYTES);
+        let (head, rest) = bytes.split_at(3);
+        let (present, rest) = rest.split_at(AREAS_BYTES);
+        let (snapshot, runs) = rest.split_at(AREAS_BYTES);
         Some(Record {
             open: flag(head[0])?,
             share: head[1],
             taken: flag(head[2])?,
             present: Areas::of(present)?,
             snapshot: Areas::of(snapshot)?,
+            runs: row_of(runs),
         })
     }
 }
@@ -132,8 +140,9 @@ impl State {
             bytes.extend([u8::from(record.open), record.share, u8::from(record.taken)]);
             record.present.write(&mut bytes);
             record.snapshot.write(&mut bytes);
+            // Two words, each lowest first, are one number of 16 bytes, lowest first.
+            record.runs.iter().for_each(|run| bytes.extend(run.to_le_bytes()));
         }
-        // Two words, each lowest first, are one number of 16 bytes, lowest first.
         bytes.extend(self.held.to_le_bytes());
         bytes
     }
@@ -149,6 +158,18 @@ impl State {
         let held = u128::from_le_bytes(held.try_into().ok()?);
         Some(State { sandboxes: records.try_into().ok()?, held })
     }
+}
+
+fn row_of(bytes: &[u8]) -> Row {
+    std::array::from_fn(|place| {
+        let marks = &bytes[place * MARKS_BYTES..][..MARKS_BYTES];
+        u128::from_le_bytes(marks.try_into().expect("16 bytes"))
+    })
+}
+
+/// The kept runs alone, in bytes of a state's length.
+pub fn rows(state: &[u8]) -> [Row; SANDBOXES] {
+    std::array::from_fn(|sandbox| row_of(&state[run_at(sandbox, 0)..][..RUNS_BYTES]))
 }
 
 fn flag(byte: u8) -> Option<bool> {
@@ -190,6 +211,10 @@ pub fn area_at(sandbox: usize, which: Which, area: usize) -> usize {
     count_at(sandbox, which) + 1 + area * AREA_BYTES
 }
 
+pub fn run_at(sandbox: usize, place: usize) -> usize {
+    sandbox * SANDBOX_BYTES + 3 + 2 * AREAS_BYTES + place * MARKS_BYTES
+}
+
 /// What the byte says, in words.
 pub fn name(at: usize) -> String {
     if at >= HELD_AT {
@@ -200,6 +225,10 @@ pub fn name(at: usize) -> String {
         0 => "open".to_string(),
         1 => "share".to_string(),
         2 => "snapshot taken".to_string(),
+        _ if at >= run_at(sandbox, 0) => {
+            let within = at - run_at(sandbox, 0);
+            format!("run {}'s byte {}", within / MARKS_BYTES, within % MARKS_BYTES)
+        }
         _ => {
             let within = within - 3;
             let which = if within < AREAS_BYTES { "area" } else { "snapshot area" };

@@ -4,31 +4,37 @@
 //! - `difference`: what can differ, in words;
 //! - `check`: replies and memory of a program against the plain machine;
 //! - `played`: a case played by the proved machine, in memory that was not clean;
+//! - `row`: the places for kept runs; `frames`: which frames a call moves;
 //! - `layout`: the state in bytes; `state`: from the plain machine to the state, and back;
 //! - `stepwise`: a case played a call at a time, in step with the plain machine;
 //! - `sound`: what makes a state unsound, clause by clause;
 //! - `run`: many random rolls over all cores, and a failing one shrunk;
 //! - `coverage`: which calls were accepted and which refusals were met;
 //! - `pairs`: the two lists of demand 3, played by the proved machine;
-//! - `with_frames`: the plain machine with frames, and faults that only memory shows;
+//! - `with_frames` and `with_runs`: the plain machine with frames, and faults that only memory
+//!   shows;
 //! - `mutants`: wrong machines, and the roll that tells each of them.
 
 mod check;
 mod coverage;
 mod difference;
+mod frames;
 pub mod layout;
 mod mutants;
 mod pairs;
 mod played;
+pub mod row;
 mod run;
 mod sound;
 mod state;
 mod stepwise;
 mod with_frames;
+mod with_runs;
 
 pub use check::{check, check_entries, Expected};
 pub use coverage::Coverage;
 pub use difference::{Difference, Place, Side};
+pub use frames::{check_rows, check_table, Frames};
 pub use mutants::{table, tell, Mutant, Told};
 pub use pairs::{compare_pair, PairSeen};
 pub use played::{play, Lengths};

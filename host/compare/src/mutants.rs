@@ -34,7 +34,9 @@ impl Mutant {
                 check(&play(case, lengths), &expected).err()
             }
             Mutant::Memory(fault) => {
-                check(&WithFrames::play(case, fault), &Expected::of(case, lengths)).err()
+                let whole = check(&WithFrames::play(case, fault), &Expected::of(case, lengths));
+                // Numbers of frames and ages of runs show only from one call to the next.
+                whole.and_then(|()| WithFrames::in_step(case, fault)).err()
             }
         }
     }

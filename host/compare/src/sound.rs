@@ -2,7 +2,8 @@
 //! proved machine's test.
 
 use crate::layout::{Area, Areas, Record, State};
-use model::{Backing, AREAS, FRAMES, IMAGE_PAGES, PAGES, PAGE_BYTES};
+use crate::row::length;
+use model::{Backing, AREAS, FRAMES, IMAGE_PAGES, PAGES, PAGE_BYTES, RUNS};
 use std::collections::BTreeSet;
 
 /// What a state can lack. The words are document 01's; the first three are no clause of its
@@ -53,8 +54,18 @@ pub enum Clause {
     Shares,
     /// "a sandbox without a snapshot has no committed page", in the snapshot's areas either
     NoSnapshot,
-    /// "a closed one has nothing"
+    /// "a closed one has nothing", and keeps no run
     Closed,
+    /// Kept frames "are held": they are frames of the pool
+    KeptInPool,
+    /// "and zero"
+    KeptZero,
+    /// "belong to one run"
+    KeptOnce,
+    /// "and no entry"
+    KeptUnnamed,
+    /// "and with fronts and backs stay within the share"
+    KeptInShare,
 }
 
 /// The clauses that do not hold, in order; none of a sound state. Where lengths or bytes are
@@ -73,8 +84,14 @@ pub fn unsound_clauses(state: &[u8], pool: &[u8], table: &[u16], image: &[u8]) -
         areas(&record.snapshot, images, &mut broken);
         pages(record, entries, &mut broken);
         limits(record, &mut broken);
+        let held = entries.iter().filter(|&&entry| entry != 0).count();
+        let kept: usize = record.runs.iter().map(|&run| length(run)).sum();
+        let within = held + kept <= usize::from(record.share);
+        // Fronts and backs alone are bounded by the charge.
+        require(within || kept == 0 || !record.open, Clause::KeptInShare, &mut broken);
     }
     marks(&state, table, frames, &mut broken);
+    kept_frames(&state, pool, table, &mut broken);
     let shares = state.sandboxes.iter().map(|record| usize::from(record.share));
     require(shares.sum::<usize>() <= frames, Clause::Shares, &mut broken);
     broken.into_iter().collect()
@@ -154,8 +171,8 @@ fn limits(record: &Record, broken: &mut BTreeSet<Clause>) {
     let committed = record.present.list().iter().any(|area| area.committed);
     let kept = record.snapshot.count != 0;
     require(record.taken || !(committed || kept), Clause::NoSnapshot, broken);
-    let nothing =
-        share == 0 && !record.taken && record.present.count == 0 && record.snapshot.count == 0;
+    let no_areas = record.present.count == 0 && record.snapshot.count == 0;
+    let nothing = share == 0 && !record.taken && no_areas && record.runs == [0; RUNS];
     require(record.open || nothing, Clause::Closed, broken);
     require(!record.open || (1..=128).contains(&share), Clause::Shares, broken);
 }
@@ -171,4 +188,20 @@ fn marks(state: &State, table: &[u16], frames: usize, broken: &mut BTreeSet<Clau
         }
     }
     require(state.held == named, Clause::HeldMarks, broken);
+}
+
+/// "Kept frames are held and zero, belong to one run and no entry".
+fn kept_frames(state: &State, pool: &[u8], table: &[u16], broken: &mut BTreeSet<Clause>) {
+    let mut kept = 0u128;
+    for run in state.sandboxes.iter().flat_map(|record| record.runs) {
+        require(kept & run == 0, Clause::KeptOnce, broken);
+        kept |= run;
+    }
+    for frame in (0..128).filter(|frame| kept >> frame & 1 == 1) {
+        let bytes = pool.get(frame * PAGE_BYTES..(frame + 1) * PAGE_BYTES);
+        require(bytes.is_some(), Clause::KeptInPool, broken);
+        let zero = bytes.is_none_or(|bytes| bytes.iter().all(|&byte| byte == 0));
+        require(zero, Clause::KeptZero, broken);
+        require(!table.contains(&(frame as u16 + 1)), Clause::KeptUnnamed, broken);
+    }
 }

@@ -1,21 +1,26 @@
 //! From the plain machine to the state, and back. The state is determined by what the
-//! plain machine keeps, and by the table: "Areas are the longest runs of neighbouring
+//! plain machine keeps, and by the table and the frames of the runs: "Areas are the longest runs of neighbouring
 //! pages that agree in rights, mark and backing (image pages running on)", and "the held
 //! marks are those frames" that entries name.
 
+use crate::frames::Frames;
 use crate::layout::{Area, Areas, Record, State};
-use model::{Backing, Machine, Page, Pages, Sandbox, AREAS, PAGES, PAGE_BYTES, SANDBOXES};
+use crate::row::{length, Row};
+use model::{Backing, Machine, Page, Pages, Runs, Sandbox, AREAS, PAGES, PAGE_BYTES, SANDBOXES};
 use std::sync::Arc;
 
-/// The state of a machine that keeps this, over this table.
-pub fn state_of(machine: &Machine, table: &[u16]) -> State {
-    let sandboxes = std::array::from_fn(|number| record_of(machine.sandbox(number)));
+/// The state of a machine that keeps this, with these frames.
+pub fn state_of(machine: &Machine, frames: &Frames) -> State {
+    let record = |number| record_of(machine.sandbox(number), &frames.rows[number]);
+    let sandboxes = std::array::from_fn(record);
     // A frame that no mark can stand for is a difference of the table, found there.
-    let held = table.iter().filter(|&&entry| (1..=128).contains(&entry));
+    let held = frames.table.iter().filter(|&&entry| (1..=128).contains(&entry));
     State { sandboxes, held: held.fold(0, |marks, entry| marks | 1 << (entry - 1)) }
 }
 
-fn record_of(sandbox: &Sandbox) -> Record {
+fn record_of(sandbox: &Sandbox, row: &Row) -> Record {
+    let lengths: Vec<usize> = row.iter().map(|&run| length(run)).filter(|&run| run > 0).collect();
+    assert_eq!(lengths, sandbox.runs.lengths(), "the places and the plain machine's runs");
     let none = Areas { count: 0, places: [Area::NONE; AREAS] };
     Record {
         open: sandbox.open,
@@ -23,6 +28,7 @@ fn record_of(sandbox: &Sandbox) -> Record {
         taken: sandbox.copy.is_some(),
         present: longest_runs(&sandbox.pages),
         snapshot: sandbox.copy.as_ref().map_or(none, |copy| longest_runs(copy)),
+        runs: *row,
     }
 }
 
@@ -110,5 +116,6 @@ fn sandbox_of(record: &Record, memory: &Memory) -> Sandbox {
         share: usize::from(record.share),
         pages: pages_of(&record.present, true),
         copy: record.taken.then(|| Arc::new(pages_of(&record.snapshot, false))),
+        runs: Runs::of(record.runs.map(length)),
     }
 }

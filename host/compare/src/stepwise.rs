@@ -3,11 +3,12 @@
 
 use crate::check::{check_memory, check_untouched, require, Expected};
 use crate::difference::Difference;
+use crate::frames::{check_rows, check_table, Frames};
 use crate::layout;
 use crate::played::{filled_pool, filled_table, Lengths};
 use crate::state::state_of;
 use gazhuppin::{Call, Played, Told};
-use model::{parse_line, reply_line, Answering, Machine, LINES, LINE_BYTES};
+use model::{parse_line, reply_line, Answering, Machine, LINES, LINE_BYTES, SANDBOXES};
 use rolls::Case;
 
 /// The memory that a host keeps between calls.
@@ -61,8 +62,11 @@ pub fn in_step(case: &Case, lengths: Lengths) -> Result<Expected, Difference> {
     let mut before = kept.clone();
     let started = kept.start(&case.image);
     let number = if machine.lengths_are_right() { 0 } else { 3 };
+    // A start clears the table, and no run is kept.
+    let cleared = vec![0; kept.table.len()];
+    let mut frames = Frames::of(&[0; layout::STATE_BYTES], &cleared);
     check_told(started, (number, 0))
-        .and_then(|()| check_kept(&kept, &machine))
+        .and_then(|()| check_kept(&kept, &machine, &frames))
         .map_err(|difference| difference.at_line(0))?;
     let mut replies = Vec::new();
     for (index, line) in case.roll.chunks(LINE_BYTES).take(LINES).enumerate() {
@@ -70,8 +74,9 @@ pub fn in_step(case: &Case, lengths: Lengths) -> Result<Expected, Difference> {
             Some(call) => {
                 // The same memory again and again: a copy for each line takes its time.
                 before.clone_from(&kept);
-                let step = step(&mut kept, &mut machine, &case.image, &call, &before);
-                step.map_err(|difference| difference.at_line(index + 1))?
+                let mut step = Step { kept: &mut kept, machine: &mut machine, frames: &mut frames };
+                let reply = step.make(&case.image, &call, &before);
+                reply.map_err(|difference| difference.at_line(index + 1))?
             }
             None => (1, 0),
         };
@@ -80,23 +85,37 @@ pub fn in_step(case: &Case, lengths: Lengths) -> Result<Expected, Difference> {
     Ok(Expected { replies, machine })
 }
 
-fn step(
-    kept: &mut Kept,
-    machine: &mut Machine,
-    image: &[u8],
-    call: &model::Call,
-    before: &Kept,
-) -> Result<model::Reply, Difference> {
-    let told = kept.call(image, call);
-    let reply = machine.answer(call);
-    check_told(told, reply)?;
-    // A call that is refused, reads, reports or compares leaves every byte.
-    if reply.0 != 0 || [5, 9, 10].contains(&call.code) {
-        require(kept == before, || Difference::Changed)?;
-    } else {
-        check_kept(kept, machine)?;
+/// The program's memory, what the plain machine keeps, and the frames in step with both.
+struct Step<'a> {
+    kept: &'a mut Kept,
+    machine: &'a mut Machine,
+    frames: &'a mut Frames,
+}
+
+impl Step<'_> {
+    fn make(
+        &mut self,
+        image: &[u8],
+        call: &model::Call,
+        before: &Kept,
+    ) -> Result<model::Reply, Difference> {
+        let Step { kept, machine, frames } = self;
+        let told = kept.call(image, call);
+        let named = usize::from(call.sandbox);
+        let sandbox = (named < SANDBOXES).then(|| machine.sandbox(named).clone());
+        let reply = machine.answer(call);
+        check_told(told, reply)?;
+        match sandbox {
+            Some(sandbox) if reply.0 == 0 && ![5, 9, 10].contains(&call.code) => {
+                let program = Frames::of(&kept.state, &kept.table);
+                frames.follow(call, reply.1, &sandbox, &program)?;
+                check_kept(kept, machine, frames)?;
+            }
+            // A call that is refused, reads, reports or compares leaves every byte.
+            _ => require(*kept == before, || Difference::Changed)?,
+        }
+        Ok(reply)
     }
-    Ok(reply)
 }
 
 fn check_told(told: Told, (number, value): model::Reply) -> Result<(), Difference> {
@@ -107,11 +126,15 @@ fn check_told(told: Told, (number, value): model::Reply) -> Result<(), Differenc
     })
 }
 
-/// State, pool and table are those of the plain machine.
-pub fn check_kept(kept: &Kept, machine: &Machine) -> Result<(), Difference> {
+/// State, pool and table are those of the plain machine with these frames.
+fn check_kept(kept: &Kept, machine: &Machine, frames: &Frames) -> Result<(), Difference> {
     if machine.lengths_are_right() {
         check_memory(&kept.pool, &kept.table, machine)?;
-        check_state(&kept.state, &state_of(machine, &kept.table).bytes())
+        check_table(&kept.table, &frames.table)?;
+        if kept.state.len() == layout::STATE_BYTES {
+            check_rows(&layout::rows(&kept.state), &frames.rows)?;
+        }
+        check_state(&kept.state, &state_of(machine, frames).bytes())
     } else {
         let untouched =
             Played { replies: Vec::new(), pool: kept.pool.clone(), table: kept.table.clone() };

@@ -4,9 +4,9 @@
 //! there.
 
 use compare::layout::State;
-use compare::{check_entries, check_state, machine_of, state_of, unsound_clauses};
-use compare::{Clause, Kept, Lengths};
-use model::{parse_line, Answering, Call, Machine, CODES, LINE_BYTES, PAGE_BYTES};
+use compare::{check_entries, check_rows, check_state, check_table, machine_of, state_of};
+use compare::{layout, unsound_clauses, Clause, Frames, Kept, Lengths};
+use model::{parse_line, Answering, Call, Machine, CODES, LINE_BYTES, PAGE_BYTES, SANDBOXES};
 use rolls::{Case, Prng};
 
 const DAMAGES: usize = 100_000;
@@ -18,6 +18,9 @@ struct Seen {
     unsound: usize,
     sound_accepted: usize,
     sound_refused: usize,
+    /// Of those before: a clause about kept frames is broken, and the runs are others.
+    kept_unsound: usize,
+    kept_otherwise: usize,
 }
 
 impl Seen {
@@ -41,7 +44,13 @@ fn damage(prng: &mut Prng, kept: &mut Kept) {
             kept.table[at] = u16::from_le_bytes(bytes);
         }
         _ => {
-            let at = place(prng, kept.pool.len(), |at| kept.pool[at] != 0);
+            let rows = layout::rows(&kept.state);
+            let run = rows.into_iter().flatten().find(|&run| run != 0);
+            let at = match run.filter(|_| prng.chance(50)) {
+                Some(run) => PAGE_BYTES * run.trailing_zeros() as usize + prng.below(PAGE_BYTES),
+                None => place(prng, kept.pool.len(), |at| kept.pool[at] != 0),
+            };
+            let at = at.min(kept.pool.len() - 1);
             kept.pool[at] = another(prng, kept.pool[at]);
         }
     }
@@ -67,7 +76,8 @@ fn another(prng: &mut Prng, byte: u8) -> u8 {
     }
 }
 
-fn check(damaged: &Kept, image: &[u8], call: &Call, seen: &mut Seen) {
+/// A call on memory that was `whole` before it was damaged.
+fn check(whole: &Kept, damaged: &Kept, image: &[u8], call: &Call, seen: &mut Seen) {
     let mut after = damaged.clone();
     let told = after.call(image, call);
     let Kept { state, pool, table } = damaged;
@@ -78,10 +88,15 @@ fn check(damaged: &Kept, image: &[u8], call: &Call, seen: &mut Seen) {
         assert!(after == *damaged, "a refused call changed something: {broken:?}");
         let bytes = broken == [Clause::Bytes];
         *(if bytes { &mut seen.no_state } else { &mut seen.unsound }) += 1;
+        seen.kept_unsound += usize::from(broken[0] >= Clause::KeptInPool);
         return;
     }
+    seen.kept_otherwise += usize::from(layout::rows(state) != layout::rows(&whole.state));
+    let mut frames = Frames::of(state, table);
     let state = State::of(state).expect("sound bytes are a state's");
     let mut machine = machine_of(&state, pool, table, image);
+    let named = usize::from(call.sandbox).min(SANDBOXES - 1);
+    let before = machine.sandbox(named).clone();
     let (number, value) = machine.answer(call);
     assert_eq!((told.number, told.value), (u32::from(number), value), "{call:?}");
     if number != 0 {
@@ -89,7 +104,11 @@ fn check(damaged: &Kept, image: &[u8], call: &Call, seen: &mut Seen) {
         seen.sound_refused += 1;
         return;
     }
-    check_state(&after.state, &state_of(&machine, &after.table).bytes()).expect("the state");
+    let program = Frames::of(&after.state, &after.table);
+    frames.follow(call, value, &before, &program).expect("frames that may be taken");
+    check_table(&after.table, &frames.table).expect("the table");
+    check_rows(&program.rows, &frames.rows).expect("the runs");
+    check_state(&after.state, &state_of(&machine, &frames).bytes()).expect("the state");
     let named = check_entries(&after.pool, &after.table, &machine).expect("the entries");
     check_unnamed(damaged, &after, &named);
     seen.sound_accepted += 1;
@@ -122,7 +141,7 @@ fn damaged_memory_is_refused_or_another_sound_state() {
             for _ in 0..prng.within(1..=3) {
                 damage(&mut prng, &mut damaged);
             }
-            check(&damaged, &case.image, &call, &mut seen);
+            check(&kept, &damaged, &case.image, &call, &mut seen);
             kept.call(&case.image, &call);
         }
         if seen.all() >= DAMAGES {
@@ -131,7 +150,8 @@ fn damaged_memory_is_refused_or_another_sound_state() {
     }
     println!("{seen:?}");
     // Each outcome is met often, so that none of them goes untested.
-    let Seen { no_state, unsound, sound_accepted, sound_refused } = seen;
+    let Seen { no_state, unsound, sound_accepted, sound_refused, .. } = seen;
     let enough = [no_state, unsound, sound_accepted, sound_refused].map(|count| count >= 1_000);
     assert_eq!(enough, [true; 4], "{seen:?}");
+    assert!(seen.kept_unsound >= 1_000 && seen.kept_otherwise >= 1_000, "{seen:?}");
 }

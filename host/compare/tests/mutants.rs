@@ -10,7 +10,12 @@ fn every_fault_is_told_as_docs_mutants_has_it() {
     let mut all = Vec::new();
     for mutant in Mutant::all() {
         let told = tell(mutant, 300).unwrap_or_else(|| panic!("{mutant} passed 300 rolls"));
-        assert!(told.lines() <= 12, "{mutant}: {} lines", told.lines());
+        let near_runs = match mutant {
+            Mutant::Machine(fault) => fault.is_near_runs(),
+            Mutant::Memory(fault) => fault.is_near_runs(),
+        };
+        let most = if near_runs { 36 } else { 12 };
+        assert!(told.lines() <= most, "{mutant}: {} lines", told.lines());
         let by_replies = matches!(mutant, Mutant::Machine(_));
         assert_eq!(told.seed_by_replies.is_some(), by_replies, "{mutant}");
         // It is the mutant that is told: the right machine passes the same roll.

@@ -4,7 +4,7 @@
 
 use compare::layout::{self, State};
 use compare::{check_entries, check_state, machine_of, state_of, unsound_clauses};
-use compare::{Difference, Kept, Lengths};
+use compare::{Difference, Frames, Kept, Lengths};
 use model::{parse_line, Answering, Call, Machine, LINE_BYTES};
 use rolls::Case;
 
@@ -37,7 +37,7 @@ fn every_byte_of_the_state_is_looked_at() {
             kept.call(&case.image, call);
             machine.answer(call);
         }
-        let expected = state_of(&machine, &kept.table).bytes();
+        let expected = state_of(&machine, &Frames::of(&kept.state, &kept.table)).bytes();
         assert_eq!(check_state(&kept.state, &expected), Ok(()));
         for at in 0..kept.state.len() {
             let mut other = kept.state.clone();
@@ -46,15 +46,16 @@ fn every_byte_of_the_state_is_looked_at() {
             let difference = Difference::State { at, program, model };
             assert_eq!(check_state(&other, &expected), Err(difference));
         }
-        let short = check_state(&kept.state[..419], &expected);
-        let model = Some(expected[419]);
-        assert_eq!(short, Err(Difference::State { at: 419, program: None, model }));
+        let short = check_state(&kept.state[..931], &expected);
+        let model = Some(expected[931]);
+        assert_eq!(short, Err(Difference::State { at: 931, program: None, model }));
     }
 }
 
 #[test]
 fn a_byte_has_a_name() {
-    let names = [0, 1, 2, 3, 4, 9, 52, 58, 101, 403, 404, 419].map(layout::name);
+    let places = [0, 1, 2, 3, 4, 9, 52, 58, 101, 117, 228, 229, 787, 788, 915, 916, 931];
+    let names = places.map(layout::name);
     let expected = [
         "sandbox 0, open",
         "sandbox 0, share",
@@ -64,8 +65,13 @@ fn a_byte_has_a_name() {
         "sandbox 0, area 0's image page",
         "sandbox 0, snapshot areas' count",
         "sandbox 0, snapshot area 0's image page",
+        "sandbox 0, run 0's byte 0",
+        "sandbox 0, run 1's byte 0",
+        "sandbox 0, run 7's byte 15",
         "sandbox 1, open",
         "sandbox 3, snapshot area 7's image page",
+        "sandbox 3, run 0's byte 0",
+        "sandbox 3, run 7's byte 15",
         "the held marks' byte 0",
         "the held marks' byte 15",
     ];
@@ -82,7 +88,8 @@ fn a_state_gives_back_what_the_plain_machine_keeps() {
         for call in &calls {
             let Kept { state, pool, table } = &kept;
             let read = State::of(state).expect("a state");
-            assert!(read.bytes() == *state && read == state_of(&machine, table));
+            let frames = Frames::of(state, table);
+            assert!(read.bytes() == *state && read == state_of(&machine, &frames));
             assert_eq!(unsound_clauses(state, pool, table, &case.image), []);
             let mut given_back = machine_of(&read, pool, table, &case.image);
             assert!(check_entries(pool, table, &given_back).is_ok());
@@ -90,7 +97,8 @@ fn a_state_gives_back_what_the_plain_machine_keeps() {
             let (number, value) = machine.answer(call);
             assert_eq!((told.number, told.value), (u32::from(number), value));
             assert_eq!(given_back.answer(call), (number, value), "{call:?}");
-            assert!(state_of(&given_back, &kept.table) == state_of(&machine, &kept.table));
+            let frames = Frames::of(&kept.state, &kept.table);
+            assert!(state_of(&given_back, &frames) == state_of(&machine, &frames));
             accepted += usize::from(number == 0);
         }
     }

@@ -67,9 +67,13 @@ impl World {
         }
     }
 
+    pub fn state(&self) -> State {
+        State::of(&self.kept.state).expect("a state")
+    }
+
     /// Edit the state by its parts; its bytes are written anew.
     pub fn edit(&mut self, edit: impl FnOnce(&mut State)) {
-        let mut state = State::of(&self.kept.state).expect("a state");
+        let mut state = self.state();
         edit(&mut state);
         self.kept.state = state.bytes();
     }
@@ -150,4 +154,35 @@ pub fn opened() -> World {
 /// Sandbox 0 with a snapshot of no pages.
 pub fn empty_snapshot() -> World {
     World::after(&[[1, 0, 8, 0, 0, 0, 0], SNAPSHOT])
+}
+
+/// Sandbox 0 keeps runs of two frames and of one; page 40 is its snapshot's, with a back and a
+/// front, and page 30, mapped since, has a front. Charge 3 of 10, and 6 frames are held.
+/// Sandbox 1 keeps a run of one frame; 2 and 3 are closed.
+pub fn keeping() -> World {
+    let world = World::after(&[
+        [1, 0, 10, 0, 0, 0, 0],
+        [2, 0, 40, 1, 0, 0, 3],
+        [6, 0, 10_240, 7, 0, 0, 0],
+        SNAPSHOT,
+        [6, 0, 10_240, 8, 0, 0, 0],
+        [2, 0, 3, 2, 0, 0, 3],
+        [6, 0, 768, 1, 0, 0, 0],
+        [6, 0, 1024, 1, 0, 0, 0],
+        [2, 0, 6, 1, 0, 0, 3],
+        [6, 0, 1536, 1, 0, 0, 0],
+        [8, 0, 0, 0, 0, 0, 0],
+        [2, 0, 30, 1, 0, 0, 3],
+        [6, 0, 7680, 1, 0, 0, 0],
+        SECOND_OPEN,
+        [7, 1, 0, 0, 0, 0, 0],
+        [2, 1, 9, 1, 0, 0, 3],
+        [6, 1, 2304, 1, 0, 0, 0],
+        [8, 1, 0, 0, 0, 0, 0],
+    ]);
+    let lengths = |sandbox: usize| world.state().sandboxes[sandbox].runs.map(u128::count_ones);
+    // The newest run is last, and the places before the oldest are empty.
+    assert_eq!(lengths(0), [0, 0, 0, 0, 0, 0, 2, 1]);
+    assert_eq!(lengths(1), [0, 0, 0, 0, 0, 0, 0, 1]);
+    world
 }

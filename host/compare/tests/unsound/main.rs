@@ -1,6 +1,6 @@
 //! Every clause of a sound state, broken alone, is refusal 3 and changes nothing.
 //!
-//! Each row of the tables in `areas`, `snapshot`, `memory`, `limits` and `bytes` names a
+//! Each row of the tables in `areas`, `snapshot`, `memory`, `limits`, `bytes` and `runs` names a
 //! clause, takes a sound state that calls have made, and edits state, pool, table or image. The
 //! clauses are tested apart from the proved machine (`compare::unsound_clauses`), so that it
 //! is seen that the edit breaks this one and no other.
@@ -10,6 +10,7 @@ mod bases;
 mod bytes;
 mod limits;
 mod memory;
+mod runs;
 mod snapshot;
 
 use bases::World;
@@ -23,12 +24,13 @@ pub struct Row {
     edit: fn(&mut World),
 }
 
-const TABLES: [&[Row]; 5] = [areas::ROWS, snapshot::ROWS, memory::ROWS, limits::ROWS, bytes::ROWS];
+const TABLES: [&[Row]; 6] =
+    [areas::ROWS, snapshot::ROWS, memory::ROWS, limits::ROWS, bytes::ROWS, runs::ROWS];
 
-/// Document 01's sentence, clause by clause; and a test for each.
+/// A sentence of the documents, clause by clause; and a test for each.
 macro_rules! sentence {
-    ($($words:literal => $test:ident, $clause:ident;)+) => {
-        const SENTENCE: &[(&str, Clause)] = &[$(($words, Clause::$clause)),+];
+    ($name:ident: $($words:literal => $test:ident, $clause:ident;)+) => {
+        const $name: &[(&str, Clause)] = &[$(($words, Clause::$clause)),+];
         $(
             #[test]
             fn $test() {
@@ -38,7 +40,7 @@ macro_rules! sentence {
     };
 }
 
-sentence! {
+sentence! { SENTENCE:
     "areas, the snapshot's too, are at most 8, " => at_most_eight, AtMostEight;
     "with rights 1 or 3, " => rights, Rights;
     "lie in 0 to 63, " => inside, Inside;
@@ -58,6 +60,15 @@ sentence! {
     "and share limits hold; " => shares, Shares;
     "a sandbox without a snapshot has no committed page; " => no_snapshot, NoSnapshot;
     "a closed one has nothing." => closed, Closed;
+}
+
+// Request A3. That they "are held" is that they are frames of the pool, marked in their run.
+sentence! { OF_KEPT_FRAMES:
+    "Kept frames are held " => kept_in_pool, KeptInPool;
+    "and zero, " => kept_zero, KeptZero;
+    "belong to one run " => kept_once, KeptOnce;
+    "and no entry, " => kept_unnamed, KeptUnnamed;
+    "and with fronts and backs stay within the share" => kept_in_share, KeptInShare;
 }
 
 /// What the sentence takes for granted.
@@ -118,4 +129,8 @@ fn the_sentence_is_the_documents() {
                      snapshot pages only; the charge and share limits hold; a sandbox without a \
                      snapshot has no committed page; a closed one has nothing.";
     assert_eq!(sentence, documents);
+    let of_kept_frames: String = OF_KEPT_FRAMES.iter().map(|(words, _)| *words).collect();
+    let documents = "Kept frames are held and zero, belong to one run and no entry, and with \
+                     fronts and backs stay within the share";
+    assert_eq!(of_kept_frames, documents);
 }
