@@ -55,7 +55,6 @@ impl WithFrames {
         if self.fault == MemoryFault::HigherPageOlder {
             areas.reverse();
         }
-        let tie = self.tie(MemoryFault::OlderGoes);
         for area in areas {
             let front = |page| Place { sandbox, page, side: Side::Front }.index();
             let entries = area.map(|page| self.frames.table[front(page)]);
@@ -70,7 +69,9 @@ impl WithFrames {
                 row[place] = run;
                 row[place..].rotate_left(1);
             } else {
-                row::push(row, run, tie);
+                let full = shortest > 0;
+                let older_goes = full && self.fault == MemoryFault::OlderGoes;
+                row::push(row, run, if older_goes { Tie::Newer } else { Tie::Older });
             }
         }
     }

@@ -15,7 +15,7 @@ fn example_rolls() -> Vec<PathBuf> {
 #[test]
 fn the_model_answers_as_the_examples_say() {
     let rolls = example_rolls();
-    assert!(rolls.len() >= 19, "only {} examples", rolls.len());
+    assert!(rolls.len() >= 21, "only {} examples", rolls.len());
     for roll in rolls {
         let image = fs::read(roll.with_extension("image")).ok();
         let played = play(&fs::read(&roll).expect("the roll"), image.as_deref(), 128);
@@ -28,20 +28,39 @@ fn the_model_answers_as_the_examples_say() {
     }
 }
 
+/// The first line of an example that a wrong machine answers otherwise.
+fn telling_line(name: &str, fault: Fault) -> Option<usize> {
+    let named = |roll: &PathBuf| roll.file_stem().is_some_and(|stem| stem == name);
+    let roll = example_rolls().into_iter().find(named).expect("the example");
+    let image = fs::read(roll.with_extension("image")).unwrap_or_default();
+    let answers = fs::read(roll.with_extension("answers")).expect("answers");
+    let lines = fs::read(&roll).expect("the roll");
+    let played = play_on(&lines, &mut Faulty::fresh(&image, 128, fault));
+    let line = played.chunks(19).zip(answers.chunks(19)).position(|(a, b)| a != b);
+    println!("{fault:?}: line {:?} of {name}", line.map(|line| line + 1));
+    line
+}
+
 /// The example of the request tells every wrong machine near it.
 #[test]
 fn over_gaps_tells_every_slip_of_unmapping_over_gaps() {
-    let over_gaps = |roll: &PathBuf| roll.file_stem().is_some_and(|name| name == "over-gaps");
-    let roll = example_rolls().into_iter().find(over_gaps).expect("the example");
-    let read = |extension| fs::read(roll.with_extension(extension)).expect("a file of the example");
-    let (lines, image, answers) = (read("roll"), read("image"), read("answers"));
     let place = |wanted| Fault::ALL.iter().position(|&fault| fault == wanted).expect("a fault");
     let slips = place(Fault::UnmapRefusedOverGap)..=place(Fault::WritePassesOverGap);
     for fault in Fault::ALL[slips].iter().copied().chain([Fault::UnmapFreesBack]) {
-        let played = play_on(&lines, &mut Faulty::fresh(&image, 128, fault));
-        let line = played.chunks(19).zip(answers.chunks(19)).position(|(a, b)| a != b);
-        println!("{fault:?}: line {:?}", line.map(|line| line + 1));
-        assert!(line.is_some(), "{fault:?}");
+        assert!(telling_line("over-gaps", fault).is_some(), "{fault:?}");
+    }
+}
+
+/// The example of the request tells every wrong machine near it; what a kept frame still holds is
+/// told by the example of a secret.
+#[test]
+fn kept_runs_tells_every_slip_of_keeping_frames() {
+    for fault in Fault::ALL.into_iter().filter(|fault| fault.is_near_runs()) {
+        let example = match fault {
+            Fault::KeptFramesNotCleared => "kept-secret",
+            _ => "kept-runs",
+        };
+        assert!(telling_line(example, fault).is_some(), "{fault:?}");
     }
 }
 
