@@ -170,7 +170,7 @@ class Machine:
 
     def map(self, sandbox, pages, at=None, image_page=None, rights=Rights.READ_WRITE):
         """Map so many new pages from page `at` on, or where the lowest gap that is long enough begins. They read zero, or the image from
-        `image_page` on. Gives the first page."""
+        `image_page` on. Without both, the first of them get frames that the sandbox keeps, which are zero. Gives the first page."""
         # 64 stands for the lowest gap, so a page 64 is handed on as the next wrong one.
         place = PAGES if at is None else PAGES + 1 if at == PAGES else at
         backing = (0, 0) if image_page is None else (1, image_page)
@@ -198,11 +198,13 @@ class Machine:
         return self.answer(7, sandbox)
 
     def rewind(self, sandbox):
-        """Return to the sandbox's snapshot: its mappings, rights and bytes."""
+        """Return to the sandbox's snapshot: its mappings, rights and bytes. The frames of anonymous areas mapped since are cleared and kept, within
+        the share, for maps to come."""
         self.answer(8, sandbox)
 
     def report(self, sandbox):
-        """How many frames the sandbox holds."""
+        """How many frames the sandbox holds: those of its pages, those of its snapshot, and those it keeps from finished requests. Of all answers
+        only this one may tell of a request that was rewound."""
         return self.answer(9, sandbox)
 
     def compare(self, sandbox):

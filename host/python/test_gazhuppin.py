@@ -77,6 +77,31 @@ class Calls(unittest.TestCase):
         machine.rewind(0)
         self.assertEqual((machine.state, machine.pool, machine.table), memory)
 
+    def test_frames_of_a_finished_request_are_kept(self):
+        machine = Machine(image=bytes([7]) * 256, frames=16)
+        machine.open(0, 8)
+        machine.snapshot(0)
+        for request in (1, 2, 3):
+            self.assertEqual(machine.map(0, 3), 0)
+            for page in range(3):
+                self.assertEqual((machine.read(0, address(page, 0)), machine.read(0, address(page, 255))), (0, 0))
+                machine.write(0, address(page, 0), request)
+                machine.write(0, address(page, 255), request)
+            self.assertEqual(machine.report(0), 3)
+            machine.rewind(0)
+            self.assertEqual((machine.report(0), machine.pool, machine.table), (3, bytes(16 * 256), (0,) * 512))
+            self.assertIsNone(machine.compare(0))
+        machine.map(0, 7, at=8)
+        machine.map(0, 1, image_page=0)
+        self.assertEqual((machine.report(0), machine.table), (3, (0,) * 512))
+        held = []
+        for page in range(8, 15):
+            machine.write(0, address(page, 1), 1)
+            held.append(machine.report(0))
+        self.assertEqual(held, [4, 5, 6, 7, 8, 8, 8])
+        machine.unmap(0, 0, 64)
+        self.assertEqual(machine.report(0), 1)
+
     def test_still_clean(self):
         machine = Machine(frames=8)
         machine.open(0, 8)
@@ -125,7 +150,7 @@ class Calls(unittest.TestCase):
             self.assertRaises(AttributeError, setattr, machine, name, b"")
             with self.assertRaises(TypeError):
                 getattr(machine, name)[0] = 1
-        self.assertEqual((len(machine.state), machine.pool, machine.table), (420, bytes(256), (0,) * 512))
+        self.assertEqual((len(machine.state), machine.pool, machine.table), (932, bytes(256), (0,) * 512))
 
 
 class Rolls(unittest.TestCase):
@@ -135,7 +160,7 @@ class Rolls(unittest.TestCase):
 
     def test_example_rolls_played(self):
         rolls = sorted(EXAMPLES.glob("*.roll"))
-        self.assertGreaterEqual(len(rolls), 19)
+        self.assertGreaterEqual(len(rolls), 21)
         for roll in rolls:
             with self.subTest(roll.name):
                 played = gazhuppin.play(roll.read_bytes(), self.image_of(roll))

@@ -29,7 +29,7 @@ extern "C" {
 #define GAZHUPPIN_MOST_FRAMES 128   /* a pool has 1 to 128 frames */
 #define GAZHUPPIN_MOST_PAGES 64     /* an image has 0 to 64 pages */
 #define GAZHUPPIN_TABLE_ENTRIES 512 /* a table has exactly these */
-#define GAZHUPPIN_STATE_BYTES 420   /* a state has exactly these; see gazhuppin_state_bytes */
+#define GAZHUPPIN_STATE_BYTES 932   /* a state has exactly these; see gazhuppin_state_bytes */
 
 /* The codes of the calls, with their parameters p1 to p5. Parameters that a call does not name
  * must be 0. Its value is 0 where none is named. A sandbox has pages 0 to 63 of 256 bytes, so
@@ -38,15 +38,20 @@ enum gazhuppin_code {
     GAZHUPPIN_OPEN = 1,     /* p1 share, 1 to 128 frames */
     GAZHUPPIN_MAP = 2,      /* p1 first page, or GAZHUPPIN_LOWEST_GAP; p2 pages, 1 to 64; p3
                                backing; p4 first image page (0 when anonymous); p5 rights.
-                               Value: first page */
+                               Value: first page. An anonymous map at the lowest gap takes
+                               frames that the sandbox keeps (see GAZHUPPIN_REWIND) for its
+                               first pages; they are zero, so that no byte read tells of it */
     GAZHUPPIN_UNMAP = 3,    /* p1 first page; p2 pages, 1 to 64. Pages that are not mapped are
                                passed over: where none is mapped, nothing changes */
     GAZHUPPIN_PROTECT = 4,  /* p1 first page; p2 pages, 1 to 64; p3 rights */
     GAZHUPPIN_READ = 5,     /* p1 address. Value: the byte */
     GAZHUPPIN_WRITE = 6,    /* p1 address; p2 byte */
     GAZHUPPIN_SNAPSHOT = 7, /* once for a sandbox. Value: pages of the snapshot */
-    GAZHUPPIN_REWIND = 8,   /* mappings, rights and bytes of the snapshot return */
-    GAZHUPPIN_REPORT = 9,   /* Value: frames that the sandbox holds */
+    GAZHUPPIN_REWIND = 8,   /* mappings, rights and bytes of the snapshot return. Frames of
+                               anonymous areas mapped since are cleared and kept, at most 8
+                               runs of them and within the share, for maps to come */
+    GAZHUPPIN_REPORT = 9,   /* Value: frames that the sandbox holds: those of its pages, those of
+                               its snapshot, and those it keeps from finished requests */
     GAZHUPPIN_COMPARE = 10  /* still clean? Value: the lowest page at which the sandbox and its
                                snapshot differ in being mapped, in rights or in bytes, or
                                GAZHUPPIN_CLEAN where they nowhere differ */

@@ -6,7 +6,7 @@ use crate::{Call, Refusal, Told, c};
 ///
 /// ```
 /// let state = vec![0; gazhuppin::state_bytes()];
-/// assert_eq!(state.len(), 420);
+/// assert_eq!(state.len(), 932);
 /// ```
 pub fn state_bytes() -> usize {
     // SAFETY: the function takes nothing and gives a number; it uses no memory.

@@ -183,7 +183,8 @@ impl Machine {
         self.answer(&Call::snapshot(sandbox))
     }
 
-    /// Return to the sandbox's snapshot: its mappings, rights and bytes.
+    /// Return to the sandbox's snapshot: its mappings, rights and bytes. The frames of anonymous
+    /// areas mapped since are cleared and kept, within the share, for maps at the lowest gap.
     ///
     /// ```
     /// # let mut machine = gazhuppin::Machine::start([], 8)?;
@@ -196,13 +197,20 @@ impl Machine {
         self.answer(&Call::rewind(sandbox)).map(|_| ())
     }
 
-    /// How many frames the sandbox holds.
+    /// How many frames the sandbox holds: those of its pages, those of its snapshot, and those it
+    /// keeps from finished requests. Of all answers only this one may tell of a request that was
+    /// rewound.
     ///
     /// ```
-    /// # let mut machine = gazhuppin::Machine::start([], 8)?;
+    /// # use gazhuppin::{Address, Backing, Machine, Place, Refusal, Rights};
+    /// # let mut machine = Machine::start([], 8)?;
     /// # machine.open(0, 8)?;
-    /// assert_eq!(machine.report(0)?, 0);
-    /// # Ok::<(), gazhuppin::Refusal>(())
+    /// # machine.snapshot(0)?;
+    /// machine.map(0, Place::LowestGap, 2, Backing::Anonymous, Rights::ReadWrite)?;
+    /// machine.write(0, Address(0), 7)?;
+    /// machine.rewind(0)?;
+    /// assert_eq!(machine.report(0)?, 1); // the frame is kept, and zero
+    /// # Ok::<(), Refusal>(())
     /// ```
     pub fn report(&mut self, sandbox: u16) -> Result<u32, Refusal> {
         self.answer(&Call::report(sandbox))

@@ -110,6 +110,43 @@ fn unmap_passes_over_gaps() {
     assert!(machine == clean, "the rewound machine is another");
 }
 
+/// "At rewind, the frames of each uncommitted anonymous area, if any, are cleared and kept as one
+/// run"; "An anonymous map at 64 takes" a run.
+#[test]
+fn the_frames_of_a_finished_request_are_kept() {
+    let mut machine = Machine::start([7; 256], 16).expect("right lengths");
+    let map = |machine: &mut Machine, place, pages, backing| {
+        machine.map(0, place, pages, backing, Rights::ReadWrite).expect("room")
+    };
+    machine.open(0, 8).expect("open");
+    machine.snapshot(0).expect("the first");
+    for request in 1..=3 {
+        assert_eq!(map(&mut machine, Place::LowestGap, 3, Backing::Anonymous), 0);
+        for address in [0, 255, 256, 511, 512, 767].map(Address) {
+            assert_eq!(machine.read(0, address), Ok(0), "request {request}");
+            assert_eq!(machine.write(0, address, request), Ok(()));
+        }
+        assert_eq!(machine.report(0), Ok(3), "request {request}");
+        assert_eq!(machine.rewind(0), Ok(()));
+        assert_eq!(machine.report(0), Ok(3), "they are kept, and no entry names them");
+        assert_eq!(machine.table(), [0; 512]);
+        assert_eq!(machine.pool(), [0; 16 * 256], "and they are zero");
+        assert_eq!(machine.compare(0), Ok(None));
+    }
+    // Named maps and image maps take none; the whole share can be mapped beside them.
+    map(&mut machine, Place::At(8), 7, Backing::Anonymous);
+    map(&mut machine, Place::LowestGap, 1, Backing::Image(0));
+    assert_eq!(machine.report(0), Ok(3));
+    assert_eq!(machine.table(), [0; 512]);
+    // Above the share a write gives up one of them first.
+    for (page, held) in (8..15).zip([4, 5, 6, 7, 8, 8, 8]) {
+        assert_eq!(machine.write(0, Address::of(page, 1), 1), Ok(()));
+        assert_eq!(machine.report(0), Ok(held), "page {page}");
+    }
+    assert_eq!(machine.unmap(0, 0..64), Ok(()));
+    assert_eq!(machine.report(0), Ok(1), "one is left, and an unmap keeps none");
+}
+
 #[test]
 fn what_has_no_number_is_outside_the_limits() {
     let mut machine = Machine::start([], 8).expect("right lengths");
