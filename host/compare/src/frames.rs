@@ -19,7 +19,7 @@ fn at(sandbox: usize, page: usize, side: Side) -> usize {
 }
 
 /// The frame that an entry names, as a mark.
-fn mark(entry: u16) -> u128 {
+pub(crate) fn mark(entry: u16) -> u128 {
     let frame = u32::from(entry).checked_sub(1);
     frame.and_then(|frame| 1u128.checked_shl(frame)).unwrap_or(0)
 }

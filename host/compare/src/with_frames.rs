@@ -170,7 +170,9 @@ impl WithFrames {
                 }
                 self.store(call, at, &now, self.frames.table[front]);
             } else if was.front {
+                let kept = call.code == 8 && was.is_spared();
                 let left = match self.fault {
+                    MemoryFault::KeepsUncleared => kept,
                     MemoryFault::UnmapLeavesBytes => call.code == 3,
                     MemoryFault::RewindLeavesBytes => call.code == 8,
                     MemoryFault::UnmapLeavesBytesBehindGap => {
@@ -179,8 +181,7 @@ impl WithFrames {
                     }
                     _ => false,
                 };
-                let kept = call.code == 8 && was.is_spared();
-                if !left && !(kept && self.fault == MemoryFault::KeepsUncleared) {
+                if !left {
                     self.frame(self.frames.table[front]).fill(0);
                 }
                 let leaves_entry = match self.fault {

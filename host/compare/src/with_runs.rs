@@ -2,7 +2,7 @@
 //! frame numbers alter no answer.
 
 use crate::difference::{Difference, Place, Side};
-use crate::frames::{check_rows, check_table, Frames};
+use crate::frames::{check_rows, check_table, mark, Frames};
 use crate::layout::STATE_BYTES;
 use crate::row::{self, Tie};
 use crate::with_frames::{MemoryFault, WithFrames};
@@ -58,8 +58,7 @@ impl WithFrames {
         for area in areas {
             let front = |page| Place { sandbox, page, side: Side::Front }.index();
             let entries = area.map(|page| self.frames.table[front(page)]);
-            let run =
-                entries.filter(|&entry| entry > 0).fold(0, |run, entry| run | 1 << (entry - 1));
+            let run = entries.fold(0, |run, entry| run | mark(entry));
             let row = &mut self.frames.rows[sandbox];
             let shortest = row.iter().map(|&run| row::length(run)).min().expect("eight places");
             let ties = run != 0 && row::length(run) == shortest;
@@ -108,7 +107,7 @@ impl WithFrames {
 
     /// A write to a page without a front gives up a frame where the share is full.
     pub(crate) fn give_up(&mut self, sandbox: usize, before: &Sandbox) {
-        if before.held() + 1 <= before.share {
+        if before.held() < before.share {
             return;
         }
         let tie = self.tie(MemoryFault::GivesUpNewer);
