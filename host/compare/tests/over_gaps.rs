@@ -107,7 +107,7 @@ fn an_unmap_is_that_of_its_mapped_runs() {
     }
     println!("{met:?}");
     assert!(met.of_nothing > 1_500 && met.of_two_runs > 300 && met.of_three_runs > 80, "{met:?}");
-    assert!(met.over_a_gap_with_eight_areas > 80 && met.refused_14 > 80, "{met:?}");
+    assert!(met.over_a_gap_with_eight_areas > 80 && met.refused_14 > 60, "{met:?}");
 }
 
 /// With eight areas every range there is: refused 14 where it would split an area, and only there.
