@@ -35,7 +35,8 @@ fn the_snapshot_keeps_its_frame_when_the_number_is_mapped_anew() {
     assert_eq!(value(&mut machine, "9 0"), 2, "a front beside it");
     accept(&mut machine, &["8 0"]);
     assert_eq!(value(&mut machine, "5 0 1281"), 99);
-    assert_eq!(value(&mut machine, "9 0"), 1, "the front of a page mapped anew is freed");
+    assert!(!machine.sandbox(0).pages[5].front, "the page mapped anew loses its front");
+    assert_eq!(value(&mut machine, "9 0"), 2, "whose frame is kept beside the back");
 }
 
 #[test]
@@ -72,7 +73,7 @@ fn every_rewind_restores_and_not_just_the_first() {
 }
 
 #[test]
-fn the_held_count_is_fronts_plus_backs() {
+fn the_held_count_is_fronts_backs_and_kept_frames() {
     let mut machine = after(&["1 0 16", "2 0 0 4 0 0 3"]);
     assert_eq!(value(&mut machine, "9 0"), 0, "mapping takes no frame");
     accept(&mut machine, &["5 0 0", "6 0 0 1", "6 0 1 0", "6 0 600 1"]);
@@ -84,7 +85,7 @@ fn the_held_count_is_fronts_plus_backs() {
     accept(&mut machine, &["3 0 0 1"]);
     assert_eq!(value(&mut machine, "9 0"), 4, "a front less, the back stays");
     accept(&mut machine, &["8 0"]);
-    assert_eq!(value(&mut machine, "9 0"), 3, "backs 0 and 2, front 1");
+    assert_eq!(value(&mut machine, "9 0"), 4, "backs 0 and 2, front 1, and page 4's frame is kept");
 }
 
 #[test]
