@@ -1,7 +1,7 @@
 //! The unproved machines answer as the model does, so that they are a fair measure.
 
 use bench::{same_steps, unproved};
-use model::Fault;
+use model::{parse_line, Fault};
 use rolls::Case;
 
 const ROLLS: u64 = 3_000;
@@ -28,6 +28,18 @@ fn answers_as(play: Play, fault: Fault) {
     assert!(lines > 100_000, "{lines}");
 }
 
+/// The replies without the values of accepted reports, and how many of these there are.
+fn without_reports(case: &Case, mut out: Vec<u8>) -> (Vec<u8>, usize) {
+    let mut reports = 0;
+    for (line, reply) in case.roll.chunks(43).zip(out.chunks_mut(19)) {
+        if parse_line(line).is_some_and(|call| call.code == 9) && reply[6..12] == *b"     0" {
+            reply[12..18].fill(b'?');
+            reports += 1;
+        }
+    }
+    (out, reports)
+}
+
 #[test]
 fn the_unproved_machine_answers_as_the_model() {
     answers_as(unproved::play, Fault::None);
@@ -43,8 +55,25 @@ fn the_dropping_machine_differs_by_its_freed_fronts_alone() {
     answers_as(unproved::play_dropping, Fault::RewindFreesAllFronts);
 }
 
+/// "Places, bytes and refusals are those of a machine that keeps nothing": only a report tells the
+/// two apart, and it does.
+#[test]
+fn a_machine_that_keeps_nothing_differs_in_its_reports_alone() {
+    let (mut reports, mut differ) = (0, 0);
+    for seed in 0..ROLLS {
+        let case = Case::random(seed);
+        let [keeping, not] = [unproved::play as Play, unproved::play_keeping_nothing]
+            .map(|play| printed(play, &case));
+        differ += usize::from(keeping != not);
+        let [keeping, not] = [keeping, not].map(|out| without_reports(&case, out));
+        assert!(keeping == not, "seed {seed}");
+        reports += keeping.1;
+    }
+    assert!(reports > 1_000 && differ > 100, "{reports} reports, {differ} rolls differ");
+}
+
 /// Pool and table are those of the proved machine too: all three take the greatest
-/// unheld frame.
+/// unheld frame, and give up the smallest of a run.
 #[test]
 fn pool_and_table_are_those_of_the_proved_machine() {
     for seed in 0..ROLLS / 10 {

@@ -3,8 +3,9 @@
 //! compiler costs:
 //!
 //! - `lookup`: all 8 places are tried for a page, and all 8 lengths are counted;
-//! - `walk` and `soundness`: the test of soundness walks the areas along with the pages;
-//! - `rewind`: one look-up for each front;
+//! - `walk` and `soundness`: the test of soundness walks the areas along with the pages, and
+//!   goes over all places of runs;
+//! - `rewind`: one look-up for each front; runs are gathered page by page;
 //! - `compare`: the areas are compared first, and all bytes of two pages.
 
 #[path = "../unproved/areas.rs"]
@@ -28,11 +29,16 @@ mod rewind;
 mod roll;
 #[path = "../unproved/rules.rs"]
 mod rules;
+#[path = "../unproved/runs.rs"]
+mod runs;
 #[path = "../unproved/sandbox.rs"]
 mod sandbox;
 mod soundness;
+#[cfg(test)]
+#[path = "../unproved/spoiled.rs"]
+mod spoiled;
 #[path = "../unproved/text.rs"]
 mod text;
 mod walk;
 
-pub use roll::{play, play_dropping};
+pub use roll::{play, play_dropping, play_keeping_nothing};

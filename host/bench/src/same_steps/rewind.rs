@@ -3,7 +3,7 @@
 
 use super::held::Held;
 use super::memory::Memory;
-use super::page::{PageNo, PAGES};
+use super::page::{Attributes, PageNo, PAGES};
 use super::sandbox::Sandbox;
 
 /// Each front keeps its frame with the snapshot's bytes, or is freed and cleared.
@@ -24,4 +24,30 @@ pub fn rewind<const KEEPS_FRONTS: bool>(
             _ => memory.free_front(held, s, page),
         }
     }
+}
+
+/// "the frames of each uncommitted anonymous area, if any, are .. kept as one run": one pass over
+/// all pages, with the run at hand and the page before. A run ends where an area does.
+pub fn gather(sandbox: &mut Sandbox, memory: &Memory, s: usize) {
+    let (mut runs, mut run, mut before) = (sandbox.runs, Held::NONE, None);
+    for page in (0..PAGES as u8).map(PageNo) {
+        let slot = sandbox.present.slot(page);
+        if !joins(before, slot) {
+            runs.push(run);
+            run = Held::NONE;
+        }
+        if let (Some(frame), true) =
+            (memory.front(s, page), slot.is_some_and(|slot| slot.is_spared()))
+        {
+            run.insert(frame);
+        }
+        before = slot;
+    }
+    runs.push(run);
+    sandbox.runs = runs;
+}
+
+/// Whether a page is of the same area as the one before it.
+fn joins(before: Option<Attributes>, slot: Option<Attributes>) -> bool {
+    before.is_some_and(|before| slot == Some(before.advanced(1)))
 }

@@ -5,7 +5,7 @@ use super::areas::{Area, Areas};
 use super::page::{Attributes, PageNo};
 
 impl Areas {
-    fn as_slice(&self) -> &[Area] {
+    pub fn as_slice(&self) -> &[Area] {
         &self.list[..usize::from(self.count)]
     }
 

@@ -3,20 +3,23 @@
 use super::compare::lowest_difference;
 use super::held::Held;
 use super::memory::Memory;
-use super::page::{PageNo, PAGE_BYTES};
+use super::page::{Attributes, FrameNo, PageNo, PAGE_BYTES};
 use super::request::{Refusal, Request};
-use super::rewind::rewind;
+use super::rewind::{gather, rewind};
 use super::rules::{decide, page_at, Accepted};
 use super::sandbox::Sandbox;
 
 /// With `KEEPS_FRONTS` a rewind keeps the fronts of committed pages, as document 01 has
-/// it; without, it frees all fronts, so that each has to be taken again.
-pub struct Machine<const KEEPS_FRONTS: bool> {
+/// it; without, it frees all fronts, so that each has to be taken again. With `KEEPS_RUNS` it
+/// keeps the frames of a finished request, as request A3 has it; without, there are no runs, and
+/// nothing is done for them.
+pub struct Machine<const KEEPS_FRONTS: bool, const KEEPS_RUNS: bool> {
     pub sandboxes: [Sandbox; 4],
+    /// The frames that entries name; kept ones are marked in their runs alone.
     pub held: Held,
 }
 
-impl<const KEEPS_FRONTS: bool> Machine<KEEPS_FRONTS> {
+impl<const KEEPS_FRONTS: bool, const KEEPS_RUNS: bool> Machine<KEEPS_FRONTS, KEEPS_RUNS> {
     /// A fresh machine; the lent memory is cleared if its lengths are right.
     pub fn start(memory: &mut Memory) -> Self {
         if memory.has_right_lengths() {
@@ -49,7 +52,14 @@ impl<const KEEPS_FRONTS: bool> Machine<KEEPS_FRONTS> {
                 sandbox.share = q.p1 as u8;
                 0
             }
-            2 => place.map_or(0, |page| u32::from(page.0)),
+            2 => {
+                let first = place.map_or(0, |page| page.0);
+                if KEEPS_RUNS && q.takes_run() {
+                    let run = sandbox.runs.fitting(u32::from(q.p2));
+                    memory.grant(held, s, first..first + q.p2 as u8, run);
+                }
+                u32::from(first)
+            }
             3 => {
                 for page in (q.p1..q.p1 + q.p2).map(|page| PageNo(page as u8)) {
                     memory.free_front(held, s, page);
@@ -58,7 +68,7 @@ impl<const KEEPS_FRONTS: bool> Machine<KEEPS_FRONTS> {
             }
             5 => u32::from(read(sandbox, memory, s, q)),
             6 => {
-                write(sandbox, held, memory, s, q);
+                self.write(memory, s, q);
                 0
             }
             7 => {
@@ -67,15 +77,69 @@ impl<const KEEPS_FRONTS: bool> Machine<KEEPS_FRONTS> {
                 areas.mapped_pages() as u32
             }
             8 => {
+                if KEEPS_RUNS {
+                    gather(sandbox, memory, s);
+                }
                 rewind::<KEEPS_FRONTS>(sandbox, held, memory, s);
                 0
             }
+            9 if KEEPS_RUNS => frames_held(memory, s) + sandbox.runs.kept() as u32,
             9 => frames_held(memory, s),
             10 => lowest_difference(sandbox, memory, s),
             _ => 0,
         };
-        sandbox.present = areas;
+        self.sandboxes[s].present = areas;
         Ok(value)
+    }
+
+    /// One byte of a page's front is stored.
+    fn write(&mut self, memory: &mut Memory, s: usize, q: &Request) {
+        let (page, offset) = (page_at(q), usize::from(q.p1) % PAGE_BYTES);
+        let Some(slot) = self.sandboxes[s].present.slot(page) else {
+            return;
+        };
+        let front = memory.front(s, page).or_else(|| self.take(memory, s, page, slot));
+        if let Some(frame) = front {
+            memory.store(frame, offset, q.p2 as u8);
+        }
+    }
+
+    /// "a page without a front first takes an unheld frame and fills it with what the page
+    /// reads".
+    fn take(
+        &mut self,
+        memory: &mut Memory,
+        s: usize,
+        page: PageNo,
+        slot: Attributes,
+    ) -> Option<FrameNo> {
+        let mut kept = Held::NONE;
+        if KEEPS_RUNS {
+            self.give_up(memory, s);
+            kept = self.kept();
+        }
+        let frame = self.held.with_all(&kept).greatest_free(memory.frames())?;
+        let back = memory.back(s, page).filter(|_| slot.committed);
+        memory.fill(frame, back, slot.backing);
+        memory.set_front(s, page, frame);
+        self.held.insert(frame);
+        Some(frame)
+    }
+
+    /// "When a write would bring fronts, backs and kept frames above the share, one frame of the
+    /// longest run is given up first".
+    fn give_up(&mut self, memory: &Memory, s: usize) {
+        let Sandbox { share, runs, .. } = &mut self.sandboxes[s];
+        let kept = runs.kept();
+        if kept > 0 && memory.used(s) + kept >= usize::from(*share) {
+            runs.longest().take_least();
+        }
+    }
+
+    /// The frames that the runs of all sandboxes keep.
+    fn kept(&self) -> Held {
+        let runs = self.sandboxes.iter().flat_map(|sandbox| &sandbox.runs.list);
+        runs.fold(Held::NONE, Held::with_all)
     }
 }
 
@@ -90,26 +154,6 @@ fn read(sandbox: &Sandbox, memory: &Memory, s: usize, q: &Request) -> u8 {
     match memory.front(s, page).or_else(back) {
         Some(frame) => memory.byte(frame, offset),
         None => memory.backing_byte(slot.backing, offset),
-    }
-}
-
-/// "a page without a front first takes an unheld frame and fills it with what the page
-/// reads", and then one byte of its front is stored.
-fn write(sandbox: &Sandbox, held: &mut Held, memory: &mut Memory, s: usize, q: &Request) {
-    let (page, offset) = (page_at(q), usize::from(q.p1) % PAGE_BYTES);
-    let Some(slot) = sandbox.present.slot(page) else {
-        return;
-    };
-    let front = memory.front(s, page).or_else(|| {
-        let frame = held.greatest_free(memory.frames())?;
-        let back = memory.back(s, page).filter(|_| slot.committed);
-        memory.fill(frame, back, slot.backing);
-        memory.set_front(s, page, frame);
-        held.insert(frame);
-        Some(frame)
-    });
-    if let Some(frame) = front {
-        memory.store(frame, offset, q.p2 as u8);
     }
 }
 

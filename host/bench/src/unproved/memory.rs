@@ -43,6 +43,11 @@ impl Memory<'_> {
         &self.table[sandbox * SANDBOX_ENTRIES..][..SANDBOX_ENTRIES]
     }
 
+    /// How many frames the entries of a sandbox name.
+    pub fn used(&self, sandbox: usize) -> usize {
+        self.entries(sandbox).iter().filter(|&&entry| entry != 0).count()
+    }
+
     pub fn front(&self, sandbox: usize, page: PageNo) -> Option<FrameNo> {
         frame_of(self.table[front_index(sandbox, page)])
     }
@@ -102,6 +107,18 @@ impl Memory<'_> {
             self.table[front_index(sandbox, page)] = 0;
             self.pool[bytes_of(frame)].fill(0);
             held.remove(frame);
+        }
+    }
+
+    /// The pages from the first on get the frames of a run as fronts, the smallest frame first,
+    /// as far as these reach. They are zero already, so that no byte of the pool is touched.
+    pub fn grant(&mut self, held: &mut Held, sandbox: usize, pages: Range<u8>, run: &mut Held) {
+        for page in pages.map(PageNo) {
+            let Some(frame) = run.take_least() else {
+                return;
+            };
+            self.set_front(sandbox, page, frame);
+            held.insert(frame);
         }
     }
 

@@ -3,7 +3,7 @@
 //!
 //! - `page`: numbers, backings and attributes of pages;
 //! - `areas`, `lookup` and `pack`: a sandbox's mapped pages as at most 8 runs;
-//! - `held`: the marks of the held frames;
+//! - `held` and `runs`: the marks of frames, and the runs of kept ones;
 //! - `memory`: the lent pool, page table and image;
 //! - `request`: a call, its limits and its refusals;
 //! - `sandbox` and `soundness`: what is kept, and the test of it;
@@ -23,8 +23,11 @@ mod request;
 mod rewind;
 mod roll;
 mod rules;
+mod runs;
 mod sandbox;
 mod soundness;
+#[cfg(test)]
+mod spoiled;
 mod text;
 
-pub use roll::{play, play_dropping};
+pub use roll::{play, play_dropping, play_keeping_nothing};

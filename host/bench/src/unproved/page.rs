@@ -45,4 +45,9 @@ impl Attributes {
     pub fn advanced(self, pages: u8) -> Attributes {
         Attributes { backing: self.backing.advanced(pages), ..self }
     }
+
+    /// Whether a rewind keeps the frames of such an area: "each uncommitted anonymous area".
+    pub fn is_spared(&self) -> bool {
+        !self.committed && self.backing == Backing::Anonymous
+    }
 }

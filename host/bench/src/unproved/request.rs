@@ -38,6 +38,11 @@ pub struct Request {
 }
 
 impl Request {
+    /// "An anonymous map at 64 takes the shortest run ..", of the calls with code 2.
+    pub fn takes_run(&self) -> bool {
+        self.p1 == ANY_PAGE && self.p3 == 0
+    }
+
     /// Whether every parameter is within its limits, over an image of so many pages.
     pub fn is_within_limits(&self, images: usize) -> bool {
         let &Request { code, p1, p2, p3, p4, p5, .. } = self;

@@ -27,3 +27,13 @@ pub fn rewind<const KEEPS_FRONTS: bool>(
         }
     }
 }
+
+/// "the frames of each uncommitted anonymous area, if any, are .. kept as one run": of each area
+/// in turn. The entries are those before the rewind, which then clears the frames.
+pub fn gather(sandbox: &mut Sandbox, memory: &Memory, s: usize) {
+    let areas = sandbox.present.as_slice().iter();
+    for area in areas.filter(|area| area.attributes.is_spared()) {
+        let pages = (area.first.0..area.end() as u8).map(PageNo);
+        sandbox.runs.push(pages.filter_map(|page| memory.front(s, page)).collect());
+    }
+}

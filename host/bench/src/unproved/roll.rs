@@ -14,7 +14,7 @@ pub fn play(
     table: &mut [u16],
     out: &mut [u8],
 ) -> usize {
-    play_with::<true>(roll, Memory { pool, table, image }, out)
+    play_with::<true, true>(roll, Memory { pool, table, image }, out)
 }
 
 /// The same with a machine whose rewind frees every front.
@@ -25,15 +25,30 @@ pub fn play_dropping(
     table: &mut [u16],
     out: &mut [u8],
 ) -> usize {
-    play_with::<false>(roll, Memory { pool, table, image }, out)
+    play_with::<false, true>(roll, Memory { pool, table, image }, out)
 }
 
-fn play_with<const KEEPS_FRONTS: bool>(roll: &[u8], mut memory: Memory, out: &mut [u8]) -> usize {
+/// The same with a machine that keeps no frame of a finished request.
+pub fn play_keeping_nothing(
+    roll: &[u8],
+    image: &[u8],
+    pool: &mut [u8],
+    table: &mut [u16],
+    out: &mut [u8],
+) -> usize {
+    play_with::<true, false>(roll, Memory { pool, table, image }, out)
+}
+
+fn play_with<const KEEPS_FRONTS: bool, const KEEPS_RUNS: bool>(
+    roll: &[u8],
+    mut memory: Memory,
+    out: &mut [u8],
+) -> usize {
     let lines = lines_of(roll.len());
     if out.len() / REPLY_BYTES < lines {
         return 0;
     }
-    let mut machine = Machine::<KEEPS_FRONTS>::start(&mut memory);
+    let mut machine = Machine::<KEEPS_FRONTS, KEEPS_RUNS>::start(&mut memory);
     let replies = out.chunks_exact_mut(REPLY_BYTES);
     for ((line, reply), number) in roll.chunks(LINE_BYTES).take(MOST_LINES).zip(replies).zip(1..) {
         let answer = match parse(line) {

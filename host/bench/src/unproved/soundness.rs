@@ -3,10 +3,11 @@
 use super::held::Held;
 use super::machine::Machine;
 use super::memory::{Memory, SANDBOX_ENTRIES};
-use super::page::{Attributes, PageNo, PAGES};
+use super::page::{Attributes, Backing, PageNo, PAGES};
+use super::runs::Runs;
 use super::sandbox::Sandbox;
 
-impl<const KEEPS_FRONTS: bool> Machine<KEEPS_FRONTS> {
+impl<const KEEPS_FRONTS: bool, const KEEPS_RUNS: bool> Machine<KEEPS_FRONTS, KEEPS_RUNS> {
     pub fn is_sound(&self, memory: &Memory) -> bool {
         memory.has_right_lengths()
             && Held::named_by(memory.table, memory.frames()) == Some(self.held)
@@ -15,7 +16,32 @@ impl<const KEEPS_FRONTS: bool> Machine<KEEPS_FRONTS> {
                 .iter()
                 .zip(memory.table.chunks_exact(SANDBOX_ENTRIES))
                 .all(|(sandbox, entries)| sandbox.is_sound(entries, memory.images()))
+            && (!KEEPS_RUNS || self.has_sound_runs(memory))
             && self.shares() <= memory.frames()
+    }
+
+    /// "Kept frames are held and zero, belong to one run and no entry, and with fronts and backs
+    /// stay within the share".
+    fn has_sound_runs(&self, memory: &Memory) -> bool {
+        let mut kept = Held::NONE;
+        for (s, Sandbox { open, share, runs, .. }) in self.sandboxes.iter().enumerate() {
+            if *runs == Runs::NONE {
+                continue;
+            }
+            if !open || memory.used(s) + runs.kept() > usize::from(*share) {
+                return false;
+            }
+            for run in &runs.list {
+                if !kept.is_apart(run) {
+                    return false;
+                }
+                kept = kept.with_all(run);
+            }
+        }
+        let zero = memory.bytes(None, Backing::Anonymous);
+        kept.is_apart(&self.held)
+            && kept.is_of_pool(memory.frames())
+            && kept.frames().all(|frame| memory.bytes(Some(frame), Backing::Anonymous) == zero)
     }
 }
 
