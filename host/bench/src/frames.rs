@@ -23,7 +23,7 @@ fn held(calls: &[Call]) -> i64 {
     let with_report = [calls, &[report(0)]].concat();
     let played = Player::Proved.played(&text(&with_report));
     let reported = played.reply(calls.len());
-    assert_eq!(reported, (0, played.held() as u32), "the report counts the table's entries");
+    assert_eq!(reported, (0, played.named() as u32), "the report counts the table's entries");
     i64::from(reported.1)
 }
 

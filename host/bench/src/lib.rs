@@ -5,8 +5,8 @@
 //!   `copying`: whole copies;
 //! - `roll` and `states`: the calls that are measured, and the states before them;
 //! - `work` and `meter`: what is measured, and instructions and times of it;
-//! - `calls`, `mixed`, `rewind`, `snapshot`, `frames`, `rounds`, `stepwise`, `compare`: the
-//!   tables;
+//! - `calls`, `mixed`, `rewind`, `snapshot`, `frames`, `rounds`, `stepwise`, `compare`, `kept`:
+//!   the tables;
 //! - `reach`: what is reached and what is not;
 //! - `table`, `svg` and `document`: how they are written.
 
@@ -15,6 +15,7 @@ mod compare;
 pub mod copying;
 pub mod document;
 mod frames;
+mod kept;
 pub mod meter;
 mod mixed;
 pub mod reach;
@@ -35,7 +36,7 @@ mod work;
 use table::Table;
 
 /// The tables of docs/BENCHMARK.md.
-pub const TABLES: [Table; 9] = [
+pub const TABLES: [Table; 12] = [
     calls::TABLE,
     mixed::TABLE,
     rewind::TABLE,
@@ -45,4 +46,7 @@ pub const TABLES: [Table; 9] = [
     rounds::ADVERSE,
     stepwise::TABLE,
     compare::TABLE,
+    kept::maps::TABLE,
+    kept::soundness::TABLE,
+    kept::requests::TABLE,
 ];

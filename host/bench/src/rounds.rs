@@ -40,13 +40,11 @@ fn works(_: Purpose) -> Vec<Work> {
     works
 }
 
-/// How many writes of the rounds took a frame: after such a write the table has one
-/// front more than before it.
+/// How many writes of the rounds took a frame.
 fn taking_writes(player: Player, pages: u16) -> usize {
     let calls = [state(), rounds(pages)].concat();
-    let fronts = |lines: usize| player.played(&text(&calls[..lines])).fronts();
     let writes = (state().len()..calls.len()).filter(|&line| calls[line].code == 6);
-    writes.filter(|&line| fronts(line + 1) > fronts(line)).count()
+    writes.map(|line| player.fronts_set(&calls, line)).sum()
 }
 
 fn written(costs: &Costs) -> String {

@@ -2,6 +2,7 @@
 //! or one step of the copying machine, or a bare copy or comparison.
 
 use crate::copying::Copying;
+use crate::roll::text;
 use crate::{same_steps, unproved};
 use model::PAGE_BYTES;
 use std::hint::black_box;
@@ -18,6 +19,8 @@ pub enum Player {
     SameSteps,
     /// The unproved machine with a rewind that frees every front.
     Dropping,
+    /// The unproved machine without runs of kept frames.
+    KeepingNothing,
 }
 
 /// A piece of work. Each can be done again and again, and is the same each time.
@@ -49,6 +52,7 @@ pub enum Work {
 
 /// What a played roll leaves.
 pub struct Played {
+    pub pool: Vec<u8>,
     pub table: Vec<u16>,
     pub out: Vec<u8>,
 }
@@ -142,6 +146,7 @@ impl Player {
             Player::Unproved => unproved::play(roll, image, pool, table, out),
             Player::SameSteps => same_steps::play(roll, image, pool, table, out),
             Player::Dropping => unproved::play_dropping(roll, image, pool, table, out),
+            Player::KeepingNothing => unproved::play_keeping_nothing(roll, image, pool, table, out),
         }
     }
 
@@ -150,7 +155,13 @@ impl Player {
         let (mut pool, mut table, mut out) = lent(roll);
         let lines = self.play(roll, &crate::roll::image(), &mut pool, &mut table, &mut out);
         assert_eq!(lines, roll.len() / model::LINE_BYTES);
-        Played { table, out }
+        Played { pool, table, out }
+    }
+
+    /// How many fronts the call of a line sets in sandbox 0, where it takes none away.
+    pub fn fronts_set(self, calls: &[model::Call], line: usize) -> usize {
+        let fronts = |lines: usize| self.played(&text(&calls[..lines])).fronts();
+        fronts(line + 1) - fronts(line)
     }
 }
 
@@ -170,8 +181,8 @@ impl Played {
         self.table[..64].iter().filter(|&&entry| entry != 0).count()
     }
 
-    /// How many frames sandbox 0 holds.
-    pub fn held(&self) -> usize {
+    /// How many frames the entries of sandbox 0 name.
+    pub fn named(&self) -> usize {
         self.table[..128].iter().filter(|&&entry| entry != 0).count()
     }
 
