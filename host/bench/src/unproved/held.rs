@@ -4,7 +4,7 @@ use super::page::FrameNo;
 
 const WORD_BITS: usize = u64::BITS as usize;
 
-#[derive(Clone, Copy, PartialEq, Eq, Debug, Default)]
+#[derive(Clone, Copy, PartialEq, Eq, Debug)]
 pub struct Held {
     words: [u64; 2],
 }
@@ -15,7 +15,7 @@ impl Held {
     /// The marks of the frames that entries name; `None` where an entry names no frame
     /// of the pool, or a frame is named twice.
     pub fn named_by(entries: &[u16], frames: usize) -> Option<Held> {
-        let mut held = Held::default();
+        let mut held = Held::NONE;
         for &entry in entries.iter().filter(|&&entry| entry != 0) {
             if usize::from(entry) > frames {
                 return None;
@@ -88,7 +88,7 @@ impl Held {
 
 impl FromIterator<FrameNo> for Held {
     fn from_iter<Frames: IntoIterator<Item = FrameNo>>(frames: Frames) -> Held {
-        let mut held = Held::default();
+        let mut held = Held::NONE;
         frames.into_iter().for_each(|frame| held.insert(frame));
         held
     }

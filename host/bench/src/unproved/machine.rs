@@ -25,7 +25,7 @@ impl<const KEEPS_FRONTS: bool, const KEEPS_RUNS: bool> Machine<KEEPS_FRONTS, KEE
         if memory.has_right_lengths() {
             memory.clear();
         }
-        Machine { sandboxes: [Sandbox::CLOSED; 4], held: Held::default() }
+        Machine { sandboxes: [Sandbox::CLOSED; 4], held: Held::NONE }
     }
 
     pub fn shares(&self) -> usize {
