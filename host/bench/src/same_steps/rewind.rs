@@ -27,18 +27,18 @@ pub fn rewind<const KEEPS_FRONTS: bool>(
 }
 
 /// "the frames of each uncommitted anonymous area, if any, are .. kept as one run": one pass over
-/// all pages, with the run at hand and the page before. A run ends where an area does.
+/// all pages, with the run at hand and what stands at the page before. A run is pushed where the
+/// next area starts.
 pub fn gather(sandbox: &mut Sandbox, memory: &Memory, s: usize) {
     let (mut runs, mut run, mut before) = (sandbox.runs, Held::NONE, None);
     for page in (0..PAGES as u8).map(PageNo) {
         let slot = sandbox.present.slot(page);
-        if !joins(before, slot) {
+        if starts_area(before, slot) {
             runs.push(run);
             run = Held::NONE;
         }
-        if let (Some(frame), true) =
-            (memory.front(s, page), slot.is_some_and(|slot| slot.is_spared()))
-        {
+        let front = memory.front(s, page);
+        if let Some(frame) = front.filter(|_| slot.is_some_and(|slot| slot.is_spared())) {
             run.insert(frame);
         }
         before = slot;
@@ -47,7 +47,7 @@ pub fn gather(sandbox: &mut Sandbox, memory: &Memory, s: usize) {
     sandbox.runs = runs;
 }
 
-/// Whether a page is of the same area as the one before it.
-fn joins(before: Option<Attributes>, slot: Option<Attributes>) -> bool {
-    before.is_some_and(|before| slot == Some(before.advanced(1)))
+/// Whether a page is mapped and not of the area of the page before it.
+fn starts_area(before: Option<Attributes>, slot: Option<Attributes>) -> bool {
+    slot.is_some() && before.map(|before| before.advanced(1)) != slot
 }
