@@ -1,28 +1,37 @@
 -- An accepted call, of a world of any shape: what the test says of the world, and the store that is left.
 use mathlib.Core.Path.{_≡_, refl, sym, _∙_}
+use mathlib.Core.Logic.{_⊎_}
 use mathlib.Core.Bool.{true}
 use mathlib.Core.List.{List}
 use Prim.Native.Nat.{ℕ, _<_}
 use native.Mathlib.Omega.{arith}
+use lib.Dec.{eqb}
 use lib.ListN.{length}
+use Rattle.basics.specs.Ranges.{every}
 use Rattle.basics.proofs.TestLaws.{and-both}
 use Rattle.interface.specs.declared.request.Request.{Request}
+use Rattle.interface.specs.Requests.{_is_, Write, pageOf}
 use Rattle.interface.specs.Accepted.{Accepted}
 use Rattle.interface.proofs.KindLaws.{kind}
 use Rattle.marks.specs.Marks.{marksb}
 use Rattle.marks.proofs.MarkLaws.{words, marksb-named}
-use Rattle.table.specs.Store.{Filed, Tidy}
+use Rattle.frames.specs.Frames.{held}
+use Rattle.table.specs.Store.{entry, frontOf, Filed, Tidy}
+use Rattle.kept.specs.Spare.{Spare, Words}
+use Rattle.kept.specs.Test.{spareb}
+use Rattle.kept.proofs.TestLaws.{spare-true}
 use Rattle.state.specs.declared.sandbox.Sandbox.{Sandbox}
-use Rattle.state.specs.World.{World, sandboxAt, framesOf, pagesIn, sharesOf, viewAt, lengthsOk}
-use Rattle.state.specs.Sound.{SoundAt}
-use Rattle.state.specs.Test.{sandboxesOk, soundb}
-use Rattle.state.proofs.TestLaws.{lengths-true, sandboxes-true}
-use Rattle.memory.specs.Memory.{storeAfter}
-use Rattle.machine.specs.Step.{worldAfter, numberAt, Outcome, Stepped}
+use Rattle.state.specs.World.{World, sandboxAt, framesOf, pagesIn, sharesOf, viewAt, lengthsOk, rowsOf}
+use Rattle.state.specs.Sound.{SoundAt, Sound}
+use Rattle.state.specs.Test.{sandboxesOk, runsOkAt, keptOk, soundb}
+use Rattle.state.proofs.TestLaws.{lengths-true, sandboxes-true, sound-true}
+use Rattle.memory.specs.Memory.{givesAt, storeAfter}
+use Rattle.machine.specs.Step.{worldAfter, numberAt, Free, Outcome, Stepped}
 use Rattle.plain.specs.Machine.{Given, Kept, keptAfter, viewOf}
 use Rattle.claims.specs.Demands.{Lent}
 use Rattle.claims.proofs.StepLaws.{was-sound, was-accepted, number-is, accepted-leaves, frame-free}
-use Rattle.claims.proofs.StoreSteps.{Stored, stored-after}
+use Rattle.claims.proofs.MapSteps.{Stored}
+use Rattle.claims.proofs.StoreSteps.{stored-after}
 use Rattle.claims.proofs.Simulate.{view-at}
 use Rattle.claims.proofs.AnySound.{keptFor, kept-keeps, kept-reads, kept-agrees}
 
@@ -31,28 +40,39 @@ use Rattle.claims.proofs.AnySound.{keptFor, kept-keeps, kept-reads, kep
 pub record Tested (image : List ℕ) (w : World) : Type 0 where
   pub lent : Lent (record { image = image; frames = framesOf w })
   pub filed : Filed 256 (framesOf w) (w .store)
+  pub spare : Spare 256 (framesOf w) (w .store) (rowsOf w)
   pub each : (s : ℕ) → s < 4 → SoundAt (pagesIn (length image)) (w .store) s (sandboxAt w s)
 
 pub tested : (image : List ℕ) (w : World) → soundb image w ≡ true → Tested image w
-unfolding soundb
+unfolding soundb keptOk
 tested image w h =
     let lengths = and-both (lengthsOk (length (w .store .pool)) (length (w .store .table)) (length image)) _ h in
     let marks = and-both (marksb (framesOf w) (w .store .marks) (w .store .table)) _ (lengths .1) in
     let sandboxes = and-both (sandboxesOk (pagesIn (length image)) w) _ (marks .1) in
+    let both = and-both (keptOk w) _ (sandboxes .1) in
+    let runs = and-both (every (runsOkAt w) 0 4) (spareb (framesOf w) (w .store) (rowsOf w)) (both .0) in
     let L = lengths-true (length (w .store .pool)) (length (w .store .table)) (length image) (lengths .0) in
     let two = words (framesOf w) (w .store .marks) (w .store .table) (L .few) (marks .0) in
+    let F : Filed 256 (framesOf w) (w .store) = record {
+      few = L .few;
+      pages = L .pages;
+      entries = L .entries;
+      names = marksb-named (framesOf w) (w .store .marks) (w .store .table) (L .few) (L .entries) (marks .0);
+      low = two .0;
+      high = two .1;
+    } in
     record {
       lent = record { frames = L .some; few = L .few; image = L .whole; images = L .images };
-      filed = record {
-        few = L .few;
-        pages = L .pages;
-        entries = L .entries;
-        names = marksb-named (framesOf w) (w .store .marks) (w .store .table) (L .few) (L .entries) (marks .0);
-        low = two .0;
-        high = two .1;
-      };
-      each = sandboxes-true (pagesIn (length image)) w (sandboxes .0);
+      filed = F;
+      spare = spare-true (framesOf w) (w .store) (rowsOf w) F (runs .1);
+      each = sandboxes-true (pagesIn (length image)) w (runs .0) (sandboxes .0);
     }
+
+-- a state whose test passes is sound, given what its types say
+pub sound-of-test : (image : List ℕ) (w : World) → length (w .sandboxes) ≡ 4 → ((s : ℕ) → s < 4 → Words (rowsOf w s)) → soundb image w ≡ true → Sound image w
+sound-of-test image w four words e =
+    let F = tested image w e .filed in
+    sound-true image w (record { row = four; low = F .low; high = F .high; words = words }) e
 
 -- ---- an accepted call
 
@@ -60,7 +80,7 @@ module _ (image : List ℕ) (w : World) (q : Request) (o : Outcome) (s : Stepped
   pub number : numberAt image w q ≡ 0
   number = sym (number-is image w q o s) ∙ n
 
-  pub left : o .world ≡ worldAfter image (s .frame) w q
+  pub left : o .world ≡ worldAfter image (s .frame) (s .given) w q
   left = accepted-leaves image w q o s number
 
   pub met : Accepted (viewAt image w (q .sandbox)) q
@@ -78,14 +98,21 @@ module _ (image : List ℕ) (w : World) (q : Request) (o : Outcome) (s : Stepped
   abbrev b : Sandbox
   b = sandboxAt w (q .sandbox)
 
+  -- the frame that a write takes
+  pub free : (q is Write) ≡ true → eqb (entry (w .store) (frontOf (q .sandbox) (pageOf q))) 0 ≡ true
+      → (s .frame < framesOf w)
+      × ((held (w .store .marks) (s .frame) ≡ 0) × (Free w (s .frame) ⊎ ((givesAt q b (w .store) ≡ true) × (s .frame ≡ s .given))))
+  free = frame-free image w q o s number (omega (arith, met .inRow)) (sound-parts .spare) (sound-parts .filed .few)
+
   -- the store that is left, beside what a plain machine made from the world would keep
-  pub stored : Stored ⊥ given (w .store) (storeAfter image (s .frame) q b (w .store)) (q .sandbox) (keptAfter given q (keptFor image (w .store) (q .sandbox) b))
+  pub stored : Stored (λ f. ⊥) given (w .store) (storeAfter image (s .frame) q b (w .store)) (q .sandbox)
+      (keptAfter given q (keptFor image (w .store) (q .sandbox) b))
   stored =
       let T = sound-parts in
       let k : Kept = keptFor image (w .store) (q .sandbox) b in
       let A = kept-agrees given (w .store) (T .filed) (q .sandbox) b own in
-      let tidy : Tidy ⊥ 256 (framesOf w) (w .store) = record { filed = T .filed; clean = λ c. absurd c } in
+      let tidy : Tidy (λ f. ⊥) 256 (framesOf w) (w .store) = record { filed = T .filed; clean = λ f c. absurd c } in
       let a : Accepted (viewOf given (sharesOf w) (k .core)) q = rw (view-at given w (sharesOf w) (q .sandbox) k refl refl A) at met in
       stored-after given (T .lent) q (w .store) tidy b k (met .inRow)
       (kept-keeps given (w .store) (T .filed) (q .sandbox) b own) (kept-reads given (w .store) (T .filed) (q .sandbox) b own) A
-      (sharesOf w) a (s .frame) (kind q) (frame-free image w q o s number)
+      (sharesOf w) a (s .frame) (kind q) (rowsOf w) (T .spare) refl (λ e z. let x = free e z in (x .0, x .1 .0))

@@ -3,10 +3,10 @@ use mathlib.Core.Path.{_≡_, refl, sym, _∙_, ap}
 use mathlib.Core.Bool.{Bool, true, false, not, _&&_, false≢true}
 use mathlib.Core.Option.{Option, some, none}
 use mathlib.Core.List.{List}
-use Prim.Native.Nat.{ℕ, _<_}
+use Prim.Native.Nat.{ℕ, _+_, _*_, _≤_, _<_}
 use native.Mathlib.Omega.{arith}
 use lib.Dec.{ltb, eqb}
-use lib.ListN.{length, getD}
+use lib.ListN.{length, getD, getD-replicate}
 use borrow.Author.Tests.{ltb-true, lt-ltb, eq-eqb, ne-eqb}
 use Rattle.basics.specs.Choice.{_when_else_}
 use Rattle.basics.proofs.TestLaws.{by-cases, when-cases, and-both, never}
@@ -14,7 +14,15 @@ use Rattle.interface.specs.declared.request.Request.{Request}
 use Rattle.interface.specs.Slots.{Slots, isMapped, isCommitted, backingAt, chargeOf, copied}
 use Rattle.interface.proofs.SlotLaws.{committed-mapped, uncommitted-mapped, one-mark}
 use Rattle.interface.proofs.ChargeLaws.{rewind-charge}
+use Rattle.basics.specs.Ranges.{one}
+use Rattle.frames.specs.Frames.{noneHeld, countHeld}
+use Rattle.frames.proofs.FrameLaws.{none-count, held-zero}
 use Rattle.frames.proofs.SumLaws.{sum-same}
+use Rattle.marks.specs.Named.{used}
+use Rattle.marks.specs.Marks.{from}
+use Rattle.marks.proofs.MarkLaws.{used-add}
+use Rattle.runs.specs.Row.{lengthsOf}
+use Rattle.kept.specs.Spare.{keptBy}
 use Rattle.pages.specs.Parts.{frame}
 use Rattle.pages.proofs.PartLaws.{length-frame, fits-pool}
 use Rattle.pages.proofs.ListedLaws.{as-listed}
@@ -30,12 +38,13 @@ use Rattle.state.specs.Sound.{SoundAt, Sound}
 use Rattle.state.proofs.TestLaws.{slots-inside}
 use Rattle.state.proofs.SettledLaws.{copied-slots}
 use Rattle.machine.specs.Step.{Outcome, Stepped}
-use Rattle.plain.specs.Machine.{Given, Pages, Kept, Plain, closed, copySlots, copyBytes, backingByte}
+use Rattle.plain.specs.Machine.{Given, Pages, Kept, Plain, closed, held, copySlots, copyBytes, backingByte}
 use Rattle.plain.specs.Claims.{Keeps, Reads}
 use Rattle.plain.proofs.KeptLaws.{keeps-closed, areas-none, mapped-none}
 use Rattle.plain.proofs.ReadLaws.{reads-fresh}
 use Rattle.claims.specs.Demands.{Lent}
 use Rattle.claims.specs.Agrees.{pageIf, AgreesAt, Agrees}
+use Rattle.claims.proofs.HeldSteps.{used-count}
 use Rattle.claims.proofs.SoundLaws.{agrees-sound}
 use Rattle.claims.proofs.Simulate.{step-agrees}
 
@@ -70,7 +79,12 @@ keptOf image st s b = record {
     pages = record { slots = slots (b .present); bytes = bytesOf image st s b };
     copy = copyPages image st s b;
   };
-  traces = record { front = λ i. markedAt st (frontOf s i) i; back = λ i. markedAt st (backOf s i) i; copiedBack = λ i. markedAt st (backOf s i) i };
+  traces = record {
+    front = λ i. markedAt st (frontOf s i) i;
+    back = λ i. markedAt st (backOf s i) i;
+    copiedBack = λ i. markedAt st (backOf s i) i;
+    runs = lengthsOf (b .runs);
+  };
 }
 
 module _ (image : List ℕ) (n : ℕ) (st : Store) (F : Filed 256 n st) (s : ℕ) (b : Sandbox) (S : SoundAt (pagesIn (length image)) st s b) where
@@ -116,6 +130,24 @@ module _ (image : List ℕ) (n : ℕ) (st : Store) (F : Filed 256 n st) (s : ℕ
   mapped-back : (i : ℕ) → markedAt st (backOf s i) i ≡ true → isMapped (slots (b .snapshot) i) ≡ true
   mapped-back i m = let x = low-mark (backOf s i) i m in by-cases (isMapped (slots (b .snapshot) i)) (λ y. y) (λ y. absurd (x .1 (S .backs i (x .0) y)))
 
+  marked-used : (e i : ℕ) → i < 64 → used (entry st e) ≡ one (markedAt st e i)
+  marked-used e i l =
+      by-entry (used (entry st e) ≡ one (markedAt st e i)) (entry st e)
+      (λ z. rw (lt-ltb i 64 l, eq-eqb (entry st e) 0 z) (rw z))
+      (λ f z. rw (lt-ltb i 64 l, ne-eqb (entry st e) 0 (omega (arith, z))) (rw z))
+
+  in-share : held (k .traces) ≤ b .share
+  unfolding held keptBy
+  in-share =
+      omega (
+        arith,
+        used-add (from (s * 128) (st .table)) 64 64,
+        used-count (from (s * 128) (st .table)) (λ i. markedAt st (frontOf s i) i) 64 (λ i l. marked-used (frontOf s i) i l),
+        used-count (λ i. from (s * 128) (st .table) (64 + i)) (λ i. markedAt st (backOf s i) i) 64
+            (λ i l. ap (λ (x : ℕ). used (getD (st .table) x 0)) (omega arith) ∙ marked-used (backOf s i) i l),
+        S .inShare,
+      )
+
   keeps : b .opened ≡ true → Keeps k
   unfolding chargeOf
   keeps o =
@@ -125,6 +157,7 @@ module _ (image : List ℕ) (n : ℕ) (st : Store) (F : Filed 256 n st) (s : ℕ
         frontMapped = mapped-front;
         committedIn = λ i c. rw (copy-slot i) (S .committed i c);
         backIn = λ i m. rw (copy-slot i) (mapped-back i m);
+        inShare = in-share;
         backCopied = refl;
         inside = slots-inside _ (b .present) (S .present);
         copyInside = λ i m. slots-inside _ (b .snapshot) (S .snapshot) i (rw (copy-slot i) at m);
@@ -167,6 +200,8 @@ module _ (image : List ℕ) (n : ℕ) (st : Store) (F : Filed 256 n st) (s : ℕ
         copy = sym all-copied;
         untaken = S .untaken;
         closed = S .closed;
+        places = S .places;
+        runs = λ i l. refl;
         fronts = λ i l. page-is (frontOf s i) i _ l;
         backs = λ i l. by-cases (markedAt st (backOf s i) i)
             (λ m. page-is (backOf s i) i _ l ∙ ap (pageIf (markedAt st (backOf s i) i)) (sym (copy-bytes i (mapped-back i m))))
@@ -188,6 +223,8 @@ module _ (image : List ℕ) (n : ℕ) (st : Store) (F : Filed 256 n st) (s : ℕ
         copy = rw (S .closed o) none-slots;
         untaken = S .untaken;
         closed = S .closed;
+        places = S .places;
+        runs = λ i l. rw (S .closed o) (ap countHeld (getD-replicate 8 i noneHeld noneHeld l) ∙ none-count noneHeld (λ f d. held-zero f));
         fronts = λ i l. contents-none 256 st (frontOf s i) (S .fronts i l (none-mapped i));
         backs = λ i l. contents-none 256 st (backOf s i) (S .backs i l (none-copied i));
       }
@@ -230,11 +267,13 @@ module _ (image : List ℕ) (w : World) (S : Sound image w) where
   unfolding plainOf
   agrees-each s l = rw (lt-ltb s 4 l) (kept-agrees given (w .store) (S .filed) s (sandboxAt w s) (S .each s l))
 
-  sound-agrees : Agrees ⊥ given w (plainOf image w)
+  sound-agrees : Agrees (λ f. ⊥) given w (plainOf image w)
   sound-agrees =
       record {
-        tidy = record { filed = S .filed; clean = λ c. absurd c };
+        tidy = record { filed = S .filed; clean = λ f c. absurd c };
         row = S .row;
+        spare = S .spare;
+        words = S .words;
         each = agrees-each;
         holds = record {
           each = for-each Keeps keeps-closed (λ s l. kept-keeps given (w .store) (S .filed) s (sandboxAt w s) (S .each s l));

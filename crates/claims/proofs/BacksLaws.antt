@@ -5,23 +5,31 @@ use mathlib.Core.Bool.{Bool, true, _&&_}
 use mathlib.Core.List.{List}
 use Prim.Native.Nat.{ℕ, _<_}
 use native.Mathlib.Omega.{arith}
-use lib.Dec.{eqb}
-use borrow.Author.Tests.{eqb-true, eq-eqb}
-use Rattle.basics.proofs.TestLaws.{by-cases, never, and-both, and-of}
+use lib.Dec.{eqb, ltb}
+use lib.ListN.{length}
+use borrow.Author.Tests.{eqb-true, eq-eqb, ltb-true}
+use Rattle.basics.specs.Ranges.{every}
+use Rattle.basics.proofs.TestLaws.{by-cases, never, both-ways, and-left, and-right, and-both, and-of, implied, implies-of}
+use Rattle.basics.proofs.LoopLaws.{every-at, every-of}
 use Rattle.interface.specs.declared.request.Request.{Request}
 use Rattle.interface.specs.declared.page.Slot.{Slot}
 use Rattle.interface.specs.Requests.{Compare}
 use Rattle.interface.specs.Slots.{isCommitted, rightsAt}
 use Rattle.interface.specs.Compare.{agree}
 use Rattle.interface.proofs.CompareLaws.{agree-bytes, difference-same}
+use Rattle.frames.specs.declared.Held.{Held}
+use Rattle.frames.specs.Frames.{held, apartHeld}
+use Rattle.frames.proofs.PairLaws.{apart-true}
 use Rattle.pages.specs.Parts.{sameBytes}
+use Rattle.marks.specs.Marks.{marksb}
 use Rattle.marks.proofs.NamedLaws.{by-entry}
 use Rattle.table.specs.Store.{entry, frontOf, backOf, contents}
 use Rattle.table.proofs.StoreLaws.{contents-none, contents-some}
+use Rattle.kept.specs.Test.{keptTo, blankb, frameOk, spareb}
 use Rattle.areas.specs.Areas.{slots}
 use Rattle.state.specs.declared.sandbox.Sandbox.{Sandbox}
-use Rattle.state.specs.World.{World, sandboxAt}
-use Rattle.state.specs.Test.{pagesOk, sandboxOk, sandboxesOk, soundb}
+use Rattle.state.specs.World.{World, sandboxAt, framesOf, pagesIn, lengthsOk, rowsOf}
+use Rattle.state.specs.Test.{pagesOk, runsOk, sandboxOk, sandboxesOk, runsOkAt, keptOk, soundb}
 use Rattle.content.specs.Content.{pageUnder, pageRead, copyRead, differing}
 use Rattle.content.proofs.CompareLaws.{passed-over}
 use Rattle.memory.specs.Memory.{valueAt}
@@ -33,10 +41,64 @@ use Rattle.claims.proofs.AcceptedLaws.{Tested, tested}
 
 -- ---- the refusal
 
+-- the same, seen from the other world
+alike-back : (w v : World) → AlikeButBacks w v → AlikeButBacks v w
+alike-back w v E =
+    let over : (s i : ℕ) → PassedOver w s i → PassedOver v s i = λ s i P. record {
+      row = P .row;
+      page = P .page;
+      committed = rw (← E .sandboxes) (P .committed);
+      rights = rw (← E .sandboxes) (P .rights);
+      frontless = rw (← E .table) (P .frontless);
+    } in
+    record {
+      sandboxes = sym (E .sandboxes);
+      marks = sym (E .marks);
+      table = sym (E .table);
+      poolLength = sym (E .poolLength);
+      bytes = λ f l apart. sym (E .bytes f (rw (E .poolLength) l) (λ s i P e. apart s i (over s i P) (rw (← E .table) e)));
+    }
+
+-- the test reads the pool at kept frames alone, and in a state that passes it no entry names one of these
+module _ (image : List ℕ) (w v : World) (E : AlikeButBacks w v) (h : soundb image w ≡ true) where
+  spare-was : spareb (framesOf w) (w .store) (rowsOf w) ≡ true
+  unfolding soundb keptOk
+  spare-was =
+      let lengths = and-both (lengthsOk (length (w .store .pool)) (length (w .store .table)) (length image)) _ h in
+      let marks = and-both (marksb (framesOf w) (w .store .marks) (w .store .table)) _ (lengths .1) in
+      let sandboxes = and-both (sandboxesOk (pagesIn (length image)) w) _ (marks .1) in
+      and-right (every (runsOkAt w) 0 4) _ (and-left (keptOk w) _ (sandboxes .1))
+
+  abbrev allKept : Held
+  allKept = keptTo (rowsOf w) 4 .held
+
+  spare-is : spareb (framesOf v) (v .store) (rowsOf v) ≡ true
+  unfolding spareb blankb
+  spare-is =
+      let once = and-both (keptTo (rowsOf w) 4 .good) _ spare-was in
+      let apart = and-both (apartHeld (w .store .marks) allKept) _ (once .1) in
+      let names = tested image w h .filed .names in
+      let frames : every (frameOk (framesOf w) (v .store .pool) allKept) 0 128 ≡ true =
+      every-of (frameOk (framesOf w) (v .store .pool) allKept) 0 128 (λ f a d.
+      implies-of (eqb (held allKept f) 1) (ltb f (framesOf w) && blankb (v .store .pool) f) (λ k.
+      let was = and-both (ltb f (framesOf w)) (blankb (w .store .pool) f)
+      (implied (eqb (held allKept f) 1) (ltb f (framesOf w) && blankb (w .store .pool) f)
+      (every-at (frameOk (framesOf w) (w .store .pool) allKept) 0 128 (apart .1) f a d) k) in
+      let unmarked = apart-true (w .store .marks) allKept (apart .0) f in
+      let bytes = E .bytes f (ltb-true f (framesOf w) (was .0))
+      (λ s i P e. omega (arith, names .marked (backOf s i) f e, unmarked, eqb-true (held allKept f) 1 k)) in
+      and-of (was .0) (rw (← bytes) (was .1)))) in
+      rw (← E .sandboxes, ← E .marks, ← E .poolLength) (and-of (once .0) (and-of (apart .0) frames))
+
+  sound-too : soundb image v ≡ true
+  unfolding soundb keptOk sandboxesOk sandboxOk pagesOk runsOk
+  sound-too =
+      let rest = rw spare-was at h in
+      rw spare-is (rw (E .sandboxes, E .marks, E .table, E .poolLength) at rest)
+
 module _ (image : List ℕ) (w v : World) (E : AlikeButBacks w v) where
   sound-same : soundb image w ≡ soundb image v
-  unfolding soundb sandboxesOk sandboxOk pagesOk
-  sound-same = rw (E .sandboxes, E .marks, E .table, E .poolLength)
+  sound-same = both-ways (soundb image w) (soundb image v) (sound-too image w v E) (sound-too image v w (alike-back w v E))
 
   number-same : (q : Request) → numberAt image w q ≡ numberAt image v q
   unfolding numberAt

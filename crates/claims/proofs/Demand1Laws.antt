@@ -12,17 +12,17 @@ use Rattle.interface.specs.declared.request.Request.{Request}
 use Rattle.interface.specs.Requests.{isCall}
 use Rattle.interface.specs.Refusals.{refusal}
 use Rattle.table.specs.Store.{contents}
-use Rattle.state.specs.World.{World, sandboxAt, closedSandbox, viewAt}
+use Rattle.kept.specs.Spare.{Words}
+use Rattle.state.specs.World.{World, sandboxAt, closedSandbox, viewAt, rowsOf}
 use Rattle.state.specs.Sound.{Sound}
 use Rattle.state.specs.Test.{soundb}
 use Rattle.state.proofs.TestLaws.{sound-of}
-use Rattle.rules.specs.After.{sandboxAfter}
-use Rattle.machine.specs.Step.{numberAt, Outcome, Stepped}
-use Rattle.machine.proofs.CallLaws.{sound-of-test, number-two, number-three, number-rest}
+use Rattle.machine.specs.Step.{sandboxThen, numberAt, Outcome, Stepped}
+use Rattle.machine.proofs.CallLaws.{number-two, number-three, number-rest}
 use Rattle.claims.specs.Demands.{Coded, Demand1}
 use Rattle.claims.proofs.StepLaws.{number-is, refused-leaves}
 use Rattle.claims.proofs.AnySound.{stays-sound}
-use Rattle.claims.proofs.AcceptedLaws.{left, stored}
+use Rattle.claims.proofs.AcceptedLaws.{sound-of-test, left, stored}
 use Rattle.claims.proofs.TouchesLaws.{entries-other, touches}
 
 module _ (image : List ℕ) (w : World) (q : Request) (o : Outcome) (s : Stepped image w q o) where
@@ -31,7 +31,7 @@ module _ (image : List ℕ) (w : World) (q : Request) (o : Outcome) (s : Stepped
 
   others : o .answer .number ≡ 0 → (t : ℕ) → (q .sandbox ≡ t → ⊥) → sandboxAt (o .world) t ≡ sandboxAt w t
   others n t d =
-      rw (left image w q o s n) (getD-set-other (w .sandboxes) (q .sandbox) t (sandboxAfter q (sandboxAt w (q .sandbox))) closedSandbox (λ z. d (sym z)))
+      rw (left image w q o s n) (getD-set-other (w .sandboxes) (q .sandbox) t (sandboxThen (s .given) w q) closedSandbox (λ z. d (sym z)))
 
   pages : o .answer .number ≡ 0 → (t i : ℕ) → i < 128 → (q .sandbox ≡ t → ⊥)
       → contents 256 (o .world .store) (t * 128 + i) ≡ contents 256 (w .store) (t * 128 + i)
@@ -48,10 +48,10 @@ module _ (image : List ℕ) (w : World) (q : Request) (o : Outcome) (s : Stepped
       absurd (c (leb-true 1 (q .code) (both .0), leb-true (q .code) 10 (both .1))))
       (λ e. sym (number-two image w q e))
 
-  unsound : Coded q → length (w .sandboxes) ≡ 4 → (Sound image w → ⊥) → o .answer .number ≡ 3
-  unsound c four n =
+  unsound : Coded q → length (w .sandboxes) ≡ 4 → ((t : ℕ) → t < 4 → Words (rowsOf w t)) → (Sound image w → ⊥) → o .answer .number ≡ 3
+  unsound c four words n =
       number-is image w q o s
-      ∙ by-cases (soundb image w) (λ e. absurd (n (sound-of-test image w four e))) (λ e. sym (number-three image w q (is-call c) e))
+      ∙ by-cases (soundb image w) (λ e. absurd (n (sound-of-test image w four words e))) (λ e. sym (number-three image w q (is-call c) e))
 
   table : Coded q → Sound image w → o .answer .number ≡ refusal (viewAt image w (q .sandbox)) q
   table c S = number-is image w q o s ∙ sym (number-rest image w q (is-call c) (sound-of image w S))

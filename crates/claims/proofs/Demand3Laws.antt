@@ -14,12 +14,12 @@ use Rattle.interface.specs.Requests.{Write, Snapshot, Rewind, pageOf}
 use Rattle.interface.specs.Slots.{Slots, isMapped, rightsAt}
 use Rattle.interface.specs.Limits.{within}
 use Rattle.interface.specs.Examples.{refused}
-use Rattle.frames.proofs.FrameLaws.{held-or}
+use Rattle.frames.proofs.FrameLaws.{held-or, lt-or-ge}
+use Rattle.kept.proofs.SpareLaws.{run-kept}
 use Rattle.table.specs.Store.{entry, frontOf, backOf}
 use Rattle.areas.specs.Areas.{slots}
-use Rattle.state.specs.World.{World, sandboxAt, pagesIn}
+use Rattle.state.specs.World.{World, sandboxAt, pagesIn, rowsOf}
 use Rattle.state.specs.Sound.{Sound}
-use Rattle.state.proofs.Room.{holds-share}
 use Rattle.machine.specs.Step.{Outcome, Stepped}
 use Rattle.plain.specs.Machine.{Given, Plain, fresh, numberAt, answer, after, answers}
 use Rattle.plain.specs.Lists.{upTo, Then, Rewound}
@@ -32,7 +32,7 @@ use Rattle.claims.proofs.ReadSteps.{page-read, frame-is, some-entry}
 use Rattle.claims.proofs.SoundLaws.{shares-same, agrees-sound}
 use Rattle.claims.proofs.StoreSteps.{write-page}
 use Rattle.claims.proofs.Simulate.{held-counts, backs-count, step-answer, step-agrees}
-use Rattle.claims.proofs.TakenLaws.{frame-found}
+use Rattle.claims.proofs.TakenLaws.{some-frame}
 use Rattle.claims.proofs.Runs.{list-agrees, demand-2}
 
 answer-number : (g : Given) (p : Plain) (q : Request) → answer g p q .number ≡ numberAt g p q
@@ -41,7 +41,7 @@ answer-number g p q = refl
 
 -- ---- after a list
 
-module _ (g : Given) (L : Lent g) (qs : List Request) (v : World) (A : Agrees (Unit {0}) g v (upTo g qs)) where
+module _ (g : Given) (L : Lent g) (qs : List Request) (v : World) (A : Agrees (λ f. Unit {0}) g v (upTo g qs)) where
   as-snapshot : (s : ℕ) → s < 4 → Rewound g s qs → AsSnapshot g qs v s
   as-snapshot s l r =
       let a = A .each s l in
@@ -58,6 +58,10 @@ module _ (g : Given) (L : Lent g) (qs : List Request) (v : World) (A : Agrees (U
         backs = λ i f d e.
             let z = frame-is (v .store) (backOf s i) (upTo g qs s .traces .back i) _ (a .backs i d) f e in
             (h .backIn i (z .0), z .1);
+        kept = λ i f d e z.
+            let one = run-kept (rowsOf v) s i f l d in
+            let low : f < g .frames = ⊎-elim (λ y. y) (λ y. absurd (omega (arith, one, z, A .spare .ofPool f y e))) (lt-or-ge f (g .frames)) in
+            (low, A .spare .blank f low (omega (arith, one, z)));
       }
 
   sound : Sound (g .image) v
@@ -68,9 +72,10 @@ module _ (g : Given) (L : Lent g) (qs : List Request) (v : World) (A : Agrees (U
       record {
         fronts = λ s i f l d e. frame-is (v .store) (frontOf s i) (upTo g qs s .traces .front i) _ (A .each s l .fronts i d) f e .1;
         backs = λ s i f l d e. frame-is (v .store) (backOf s i) (upTo g qs s .traces .back i) _ (A .each s l .backs i d) f e .1;
-        rest = λ f l n. A .tidy .clean tt f l
+        rest = λ f l n. A .tidy .clean f tt l
             (⊎-elim (λ z. z) (λ z. let k = A .tidy .filed .names .named f (omega (arith, L .few)) z in absurd (n (k .0) (k .1))) (held-or (v .store .marks) f));
-        unheld = λ f l z. A .tidy .clean tt f l z;
+        unheld = λ f l z. A .tidy .clean f tt l z;
+        kept = A .spare;
         counted = λ s l. held-counts g v (upTo g qs) A s;
       }
 
@@ -90,11 +95,11 @@ module _ (g : Given) (L : Lent g) (qs : List Request) (v : World) (A : Agrees (U
   promised : Promise g qs v
   promised =
       record {
-        share = λ s l. holds-share (pagesIn (length (g .image))) (v .store) s (sandboxAt v s) (sound .each s l);
+        share = λ s l. sound .each s l .inShare;
         covered = λ s l. let a = A .each s l in rw (a .present, a .share, backs-count g v (upTo g qs) A s l) (frames-suffice (upTo g qs s) (A .holds .each s));
         pooled = rw (shares-same g v (upTo g qs) A) (A .holds .pooled);
         next = write-taken;
-        found = frame-found (g .image) v sound;
+        found = some-frame (g .image) v sound;
       }
 
 -- ---- two lists

@@ -2,12 +2,17 @@
 pub mod StepLaws
 pub mod AreaSteps
 pub mod ReadSteps
+pub mod HeldSteps
 pub mod SoundLaws
+pub mod MapSteps
 pub mod StoreSteps
+pub mod GrantSteps
 pub mod TouchSteps
+pub mod RunSteps
 pub mod Simulate
 pub mod AnySound
 pub mod AcceptedLaws
+pub mod TouchRuns
 pub mod TouchesLaws
 pub mod Demand1Laws
 pub mod TakenLaws
@@ -18,4 +23,5 @@ pub mod TurnedBackLaws
 pub mod BacksLaws
 pub mod StillCleanLaws
 pub mod OverGapsLaws
+pub mod KeepsNothingLaws
 pub mod Claims

@@ -37,11 +37,11 @@ use Rattle.state.specs.Sound.{SoundAt, Sound}
 use Rattle.state.proofs.TestLaws.{slots-inside}
 use Rattle.state.proofs.SettledLaws.{settled}
 use Rattle.rules.specs.After.{packedAfter, takenAfter, snapshotAfter}
-use Rattle.memory.specs.Memory.{storeAfter, valueAt}
+use Rattle.memory.specs.Memory.{givesAt, runsAfter, storeAfter, valueAt}
 use Rattle.machine.specs.Step.{numberAt, step, takes, Outcome, Stepped}
 use Rattle.claims.specs.Demands.{Run, none, more}
 use Rattle.claims.specs.OverGaps.{pagesOf, PassesOverGaps}
-use Rattle.claims.proofs.StepLaws.{number-is, accepted-leaves}
+use Rattle.claims.proofs.StepLaws.{number-is, accepted-leaves, gives-takes}
 use Rattle.claims.proofs.AnySound.{stays-sound}
 use Rattle.claims.proofs.Demand1Laws.{demand-1}
 use Rattle.claims.proofs.Runs.{sound-runs}
@@ -138,7 +138,7 @@ module _ (image : List ℕ) (w : World) (q : Request) (o : Outcome) (S : Sound i
   left = unmappedAt image (q .sandbox) (u .row) w (q .p1) (q .p2)
 
   unmap-leaves : refusal (viewAt image w (q .sandbox)) q ≡ 0 → o .world ≡ left
-  unfolding packedAfter takenAfter snapshotAfter storeAfter slotsAfter
+  unfolding packedAfter takenAfter snapshotAfter storeAfter runsAfter givesAt slotsAfter
   unmap-leaves n = accepted-leaves image w q o t (number-told ∙ n) ∙ rw (u .called, u .opened)
 
   unmap-answers : refusal (viewAt image w (q .sandbox)) q ≡ 0 → o .answer ≡ ok 0
@@ -160,16 +160,18 @@ module _ (image : List ℕ) (s : ℕ) (row : s ≤ 3) where
     taken : refusal (viewAt image w s) q ≡ 0
     taken = unmap-accepted _ q (settled image w (G .sound) s (omega arith)) unmaps few
 
-    -- the one outcome: an unmap takes no frame
-    stepped : Stepped image w q (step image 0 w q)
+    -- the one outcome: an unmap gives up no frame and takes none
+    stepped : Stepped image w q (step image 0 0 w q)
     unfolding takes
-    stepped = record { frame = 0; free = λ t. absurd (false≢true (and-right (eqb (numberAt image w q) 0) false t)); equals = refl }
+    stepped =
+        let none : takes image w q ≡ true → ⊥ = λ t. false≢true (and-right (eqb (numberAt image w q) 0) false t) in
+        record { frame = 0; given = 0; chosen = record { gave = λ g. absurd (none (gives-takes image w q g)); free = λ t. absurd (none t) }; equals = refl }
 
     good-after : Good image s row (unmappedAt image s row w a (suc n))
     good-after = record {
       sound =
-          rw (← unmap-leaves image w q (step image 0 w q) (G .sound) unmaps stepped taken)
-          (stays-sound image w (G .sound) q (step image 0 w q) stepped);
+          rw (← unmap-leaves image w q (step image 0 0 w q) (G .sound) unmaps stepped taken)
+          (stays-sound image w (G .sound) q (step image 0 0 w q) stepped);
       opened = ap (λ (b : Sandbox). b .opened) (here image s row w G a (suc n) l few) ∙ G .opened;
     }
 

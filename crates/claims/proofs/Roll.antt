@@ -13,18 +13,25 @@ use Rattle.interface.specs.Refusals.{allMapped, refusal}
 use Rattle.frames.specs.declared.Free.{Free}
 use Rattle.frames.specs.declared.Free.the-variants.{Frame, None}
 use Rattle.frames.specs.Word.{bit, putBit}
-use Rattle.frames.specs.Frames.{held, mark, countHeld, greatest}
+use Rattle.frames.specs.Frames.{held, mark, countHeld, greatest, leastHeld, bothHeld, apartHeld}
+use Rattle.basics.specs.Rows.{best, movedUp, walkTo, walked}
+use Rattle.basics.specs.Rows as rows
+use Rattle.interface.specs.Runs.{runFor, granted, longestRun}
+use Rattle.marks.specs.Named.{usedBelow}
+use Rattle.runs.specs.Row.{rowTo}
+use Rattle.kept.specs.Spare.{keptBy, rowRewound, leftOf, grantTo}
+use Rattle.kept.specs.Test.{runsTo, keptTo, blankb, spareb}
 use Rattle.pages.specs.Parts.{partAt, setPart, zeros, frame, setFrame}
 use Rattle.marks.specs.Marks.{addEntry, marksTo, marksb}
 use Rattle.table.specs.Store.{contents, put, free, take, fill, storeByte, move, rewindPage, freeTo, moveTo, rewindTo, fresh}
 use Rattle.areas.specs.Areas.{slotIn}
 use Rattle.areas.specs.Pack.{goesOn, continues, push, packTo}
 use Rattle.areas.specs.Formed.{proper, isApart, isNone, placeOk, wellFormed}
-use Rattle.state.specs.World.{World, framesOf, started}
-use Rattle.state.specs.Test.{pageOk, pagesOk, recordOk, sandboxOk, sandboxesOk, soundb}
+use Rattle.state.specs.World.{World, framesOf, started, rowsOf}
+use Rattle.state.specs.Test.{pageOk, pagesOk, noneKept, runsOk, keptOk, recordOk, sandboxOk, sandboxesOk, soundb}
 use Rattle.rules.specs.After.{packedAfter, takenAfter, snapshotAfter}
 use Rattle.content.specs.Content.{pageUnder, pageRead}
-use Rattle.memory.specs.Memory.{touched, storeAfter, heldBy, valueAt}
+use Rattle.memory.specs.Memory.{givesAt, runsAfter, touched, storeAfter, heldBy, valueAt}
 use Rattle.machine.specs.Step.{numberAt, step}
 use Rattle.interface.specs.Examples.{Line, requestsOf, getsOf}
 use Rattle.plain.specs.Cases.{cases}
@@ -37,7 +44,10 @@ chosen (Frame f) = f .0
 -- the answers, where a write takes that frame; without an image
 played : World → List Request → List Answered
 played w [] = []
-played w (q ∷ qs) = let o = step [] (chosen (greatest (held (w .store .marks)) (framesOf w))) w q in o .answer ∷ played (o .world) qs
+played w (q ∷ qs) =
+    let marks = bothHeld (w .store .marks) (keptTo (rowsOf w) 4 .held) in
+    let o = step [] (chosen (greatest (held marks) (framesOf w))) 0 w q in
+    o .answer ∷ played (o .world) qs
 
 -- the first of the starred cases
 roll : List Line
@@ -48,14 +58,16 @@ unfolding chosen played roll
     count sum every lowest inside over
     follows joins areas mappedPages uncommittedPages lowestGap chargeOf
     within firstOf slotsAfter copyAfter allMapped refusal
-    bit putBit held mark countHeld greatest
+    best movedUp rows.push walkTo walked runFor granted longestRun
+    bit putBit held mark countHeld greatest leastHeld bothHeld apartHeld
     partAt setPart zeros frame setFrame
-    addEntry marksTo marksb
+    addEntry marksTo marksb usedBelow
     contents put free take fill storeByte move rewindPage freeTo moveTo rewindTo fresh
+    rowTo keptBy rowRewound leftOf grantTo runsTo keptTo blankb spareb
     slotIn goesOn continues push packTo
     proper isApart isNone placeOk wellFormed
-    pageOk pagesOk recordOk sandboxOk sandboxesOk soundb
+    pageOk pagesOk recordOk noneKept runsOk sandboxOk sandboxesOk keptOk soundb
     packedAfter takenAfter snapshotAfter
-    pageUnder pageRead touched storeAfter heldBy valueAt
+    pageUnder pageRead givesAt runsAfter touched storeAfter heldBy valueAt
     numberAt step
 roll-played = refl

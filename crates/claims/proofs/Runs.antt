@@ -32,26 +32,26 @@ pub sound-runs : (image : List ℕ) (w : World) → Sound image w → (qs : List
 sound-runs image w S [] = ([], (w, none))
 sound-runs image w S (q ∷ qs) =
     let f = some-frame image w S q in
-    let o : Outcome = step image (f .0) w q in
-    let s : Stepped image w q o = record { frame = f .0; free = f .1; equals = refl } in
+    let o : Outcome = step image (f .0) (f .1 .0) w q in
+    let s : Stepped image w q o = record { frame = f .0; given = f .1 .0; chosen = f .1 .1; equals = refl } in
     let rest = sound-runs image (o .world) (stays-sound image w S q o s) qs in
     (o .answer ∷ rest .0, (rest .1 .0, more {v = rest .1 .0} {q = q} {o = o} {qs = qs} {as′ = rest .0} s (rest .1 .1)))
 
 pub every-list-runs : (g : Given) → Lent g → EveryListRuns g
-every-list-runs g L qs = sound-runs (g .image) (started (g .frames)) (agrees-sound {C = Unit {0}} g (started (g .frames)) fresh (started-agrees g L) L) qs
+every-list-runs g L qs = sound-runs (g .image) (started (g .frames)) (agrees-sound {C = λ f. Unit {0}} g (started (g .frames)) fresh (started-agrees g L) L) qs
 
 -- ---- and keeps the agreement
 
 module _ (g : Given) (L : Lent g) where
-  run-agrees : {w v : World} {qs : List Request} {as′ : List Answered} (p : Plain) → Agrees (Unit {0}) g w p → Run (g .image) w qs as′ v
-      → Agrees (Unit {0}) g v (afterAll g p qs) × (as′ ≡ answers g p qs)
+  run-agrees : {w v : World} {qs : List Request} {as′ : List Answered} (p : Plain) → Agrees (λ f. Unit {0}) g w p → Run (g .image) w qs as′ v
+      → Agrees (λ f. Unit {0}) g v (afterAll g p qs) × (as′ ≡ answers g p qs)
   unfolding afterAll answers
   run-agrees p A none = (A, refl)
   run-agrees {w} p A (more {q = q} {o = o} s r) =
       let rest = run-agrees (after g p q) (step-agrees g L w p A q o s) r in
       (rest .0, ap₂ _∷_ (step-answer g L w p A q o s) (rest .1))
 
-  pub list-agrees : (qs : List Request) (as′ : List Answered) (v : World) → RunFrom g qs as′ v → Agrees (Unit {0}) g v (upTo g qs)
+  pub list-agrees : (qs : List Request) (as′ : List Answered) (v : World) → RunFrom g qs as′ v → Agrees (λ f. Unit {0}) g v (upTo g qs)
   list-agrees qs as′ v r = run-agrees fresh (started-agrees g L) r .0
 
   pub demand-2 : Demand2 g

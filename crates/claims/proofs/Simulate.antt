@@ -1,13 +1,15 @@
 -- A step of the machine and one of the plain machine give the same answer and keep the agreement.
-use mathlib.Core.Path.{_≡_, refl, sym, ap, ap₂, _∙_}
-use mathlib.Core.Bool.{Bool, true, false, _&&_, false≢true}
-use Prim.Native.Nat.{ℕ, zero, suc, _+_, _*_, _<_}
+use mathlib.Core.Path.{_≡_, refl, sym, ap, _∙_, fun-ext}
+use mathlib.Core.Logic.{_⊎_, inl, inr, ⊎-elim}
+use mathlib.Core.Bool.{true, false, _&&_, false≢true}
+use Prim.Native.Nat.{ℕ, _+_, _*_, _<_}
 use native.Mathlib.Omega.{arith}
 use lib.Dec.{ltb, eqb}
 use lib.ListN.{getD, length-set}
 use lib.Seq.{getD-set-same, getD-set-other}
 use borrow.Author.Tests.{eq-eqb, eqb-true, eqb-false, ltb-true, ltb-false}
-use Rattle.basics.specs.Ranges.{one, count, sum, alike}
+use Rattle.basics.specs.Ranges.{count, alike}
+use Rattle.basics.specs.Rows.{inPlace}
 use Rattle.basics.proofs.TestLaws.{by-cases, and-left}
 use Rattle.interface.specs.declared.request.Request.{Request}
 use Rattle.interface.specs.Requests.{_is_, Map, Read, Write, Snapshot, Report, Compare, isCall, pageOf, offsetOf}
@@ -24,15 +26,16 @@ use Rattle.pages.specs.Parts.{sameBytes}
 use Rattle.pages.proofs.ListedLaws.{listed-at, same-listed}
 use Rattle.marks.specs.Named.{used, usedBelow}
 use Rattle.marks.specs.Marks.{from}
-use Rattle.marks.proofs.NamedLaws.{by-entry}
-use Rattle.marks.proofs.MarkLaws.{count-run, used-add}
+use Rattle.marks.proofs.MarkLaws.{count-run}
 use Rattle.table.specs.Store.{Store, entry, frontOf, backOf, contents}
 use Rattle.state.specs.declared.sandbox.Sandbox.{Sandbox}
-use Rattle.state.specs.World.{World, sandboxAt, closedSandbox, framesOf, sharesOf, viewAt}
-use Rattle.rules.specs.After.{sandboxAfter}
+use Rattle.runs.specs.declared.Runs.{Runs}
+use Rattle.runs.specs.Row.{row}
+use Rattle.kept.specs.Spare.{keptAt, keptBy, Spare}
+use Rattle.state.specs.World.{World, sandboxAt, closedSandbox, framesOf, sharesOf, viewAt, rowsOf}
 use Rattle.content.specs.Content.{pageRead, copyRead, differing}
-use Rattle.memory.specs.Memory.{storeAfter, heldBy, valueAt}
-use Rattle.machine.specs.Step.{worldAfter, numberAt, step, Outcome, Stepped}
+use Rattle.memory.specs.Memory.{givesAt, longestOf, runsAfter, storeAfter, heldBy, valueAt}
+use Rattle.machine.specs.Step.{sandboxThen, worldAfter, numberAt, step, Outcome, Stepped}
 use Rattle.plain.specs.Machine.{Given, Kept, Plain, copySlots, copyBytes, shares, viewOf, keptAfter, coreValue, answer, after}
 use Rattle.plain.specs.Machine.{held as heldMarks, differing as plainDiffering, valueAt as plainValue, numberAt as plainNumber}
 use Rattle.plain.proofs.KeptLaws.{holds-after}
@@ -40,11 +43,14 @@ use Rattle.plain.proofs.ReadLaws.{reads-after}
 use Rattle.plain.proofs.OneSandbox.{after-others}
 use Rattle.plain.proofs.Corollaries.{refused-changes-nothing}
 use Rattle.claims.specs.Demands.{Lent}
-use Rattle.claims.specs.Agrees.{pageIf, AgreesAt, Agrees}
-use Rattle.claims.proofs.StepLaws.{frame-free}
+use Rattle.claims.specs.Agrees.{AgreesAt, Agrees}
+use Rattle.claims.proofs.StepLaws.{gave-up, frame-free}
 use Rattle.claims.proofs.AreaSteps.{copy-same, slots-after, formed-after, copy-after, formed-copy-after, taken-after, untaken-after}
-use Rattle.claims.proofs.ReadSteps.{page-read, copy-read, mark-none, frame-is}
-use Rattle.claims.proofs.StoreSteps.{Stored, stored-after}
+use Rattle.claims.proofs.HeldSteps.{used-count, used-one, holds-same}
+use Rattle.claims.proofs.ReadSteps.{page-read, copy-read}
+use Rattle.claims.proofs.MapSteps.{Stored}
+use Rattle.claims.proofs.StoreSteps.{stored-after}
+use Rattle.claims.proofs.RunSteps.{Runned, runned}
 use Rattle.claims.proofs.SoundLaws.{frames-same, shares-same, agrees-tested}
 
 -- ---- the number
@@ -72,7 +78,7 @@ view-at g w total s k frames total-is A =
       copy = copy-same (sandboxAt w s) (k .core) (A .taken) (A .copy) i;
     }
 
-module _ {C : Type 0} (g : Given) (L : Lent g) (w : World) (p : Plain) (A : Agrees C g w p) where
+module _ {C : ℕ → Type 0} (g : Given) (L : Lent g) (w : World) (p : Plain) (A : Agrees C g w p) where
   view-same : (s : ℕ) → s < 4 → viewAt (g .image) w s ≡ viewOf g (shares p) (p s .core)
   view-same s l = view-at g w (shares p) s (p s) (frames-same g w p A) (shares-same g w p A) (A .each s l)
 
@@ -87,16 +93,7 @@ module _ {C : Type 0} (g : Given) (L : Lent g) (w : World) (p : Plain) (A : Agre
 
 -- ---- the report
 
-pub used-count : (f : ℕ → ℕ) (m : ℕ → Bool) (n : ℕ) → ((i : ℕ) → i < n → used (f i) ≡ one (m i)) → usedBelow f n ≡ count m n
-unfolding usedBelow sum count
-used-count f m zero e = refl
-used-count f m (suc n) e = omega (arith, e n (omega arith), used-count f m n (λ i l. e i (omega arith)))
-
-pub used-one : (st : Store) (k : ℕ) (m : Bool) (h : ℕ → ℕ) → contents 256 st k ≡ pageIf m h → used (entry st k) ≡ one m
-used-one st k m h c =
-    by-entry (used (entry st k) ≡ one m) (entry st k) (λ z. rw (z, mark-none st k m h c z)) (λ f z. rw (z, frame-is st k m h c f z .0))
-
-module _ {C : Type 0} (g : Given) (w : World) (p : Plain) (A : Agrees C g w p) (s : ℕ) where
+module _ {C : ℕ → Type 0} (g : Given) (w : World) (p : Plain) (A : Agrees C g w p) (s : ℕ) where
   pub held-counts : heldBy (w .store) s ≡ usedBelow (from (s * 128) (w .store .table)) 128
   unfolding heldBy
   held-counts =
@@ -110,20 +107,12 @@ module _ {C : Type 0} (g : Given) (w : World) (p : Plain) (A : Agrees C g w p) (
       ap (λ (x : ℕ). used (getD (w .store .table) x 0)) (omega arith)
       ∙ used-one (w .store) (backOf s i) (p s .traces .back i) _ (A .each s l .backs i m))
 
-  pub held-same : s < 4 → heldBy (w .store) s ≡ heldMarks (p s .traces)
-  unfolding heldMarks
-  held-same l =
-      let st : Store = w .store in
-      held-counts
-      ∙ used-add (from (s * 128) (st .table)) 64 64
-      ∙ ap₂ _+_
-      (used-count (from (s * 128) (st .table)) (p s .traces .front) 64 (λ i m. used-one st (frontOf s i) (p s .traces .front i) _ (A .each s l .fronts i m)))
-      (used-count (λ i. from (s * 128) (st .table) (64 + i)) (p s .traces .back) 64
-      (λ i m. ap (λ (x : ℕ). used (getD (st .table) x 0)) (omega arith) ∙ used-one st (backOf s i) (p s .traces .back i) _ (A .each s l .backs i m)))
+  pub held-same : s < 4 → heldBy (w .store) s + keptBy (rowsOf w s) ≡ heldMarks (p s .traces)
+  held-same l = ap (λ (x : ℕ). x + keptBy (rowsOf w s)) held-counts ∙ holds-same g (w .store) s (sandboxAt w s) (p s) (A .each s l)
 
 -- ---- an accepted request
 
-module _ {C : Type 0} (g : Given) (L : Lent g) (w : World) (p : Plain) (A : Agrees C g w p) (q : Request) (n : plainNumber g p q ≡ 0) where
+module _ {C : ℕ → Type 0} (g : Given) (L : Lent g) (w : World) (p : Plain) (A : Agrees C g w p) (q : Request) (n : plainNumber g p q ≡ 0) where
   met : Accepted (viewOf g (shares p) (p (q .sandbox) .core)) q
   met = accepted _ q n
 
@@ -188,21 +177,35 @@ module _ {C : Type 0} (g : Given) (L : Lent g) (w : World) (p : Plain) (A : Agre
         copy = a .copy;
         untaken = a .untaken;
         closed = a .closed;
+        places = a .places;
+        runs = a .runs;
         fronts = λ i l. e i (omega arith) ∙ a .fronts i l;
         backs = λ i l. let z : backOf t i ≡ t * 128 + (i + 64) = omega arith in rw z (e (i + 64) (omega arith)) ∙ a .backs i l;
       }
 
-  -- a write that needs a frame takes one that is not held
-  module _ (f : ℕ)
-      (free : (q is Write) ≡ true → eqb (entry (w .store) (frontOf (q .sandbox) (pageOf q))) 0 ≡ true → (f < g .frames) × (held (w .store .marks) f ≡ 0)) where
+  module _ (f given : ℕ)
+      (gave : givesAt q (sandboxAt w (q .sandbox)) (w .store) ≡ true
+      → (given < 128) × (held (rowsOf w (q .sandbox) (longestOf (sandboxAt w (q .sandbox)))) given ≡ 1))
+      (free : (q is Write) ≡ true → eqb (entry (w .store) (frontOf (q .sandbox) (pageOf q))) 0 ≡ true
+      → (f < g .frames)
+      × ((held (w .store .marks) f ≡ 0) × ((keptAt (rowsOf w) f ≡ 0) ⊎ ((givesAt q (sandboxAt w (q .sandbox)) (w .store) ≡ true) × (f ≡ given))))) where
     store-after : Stored C g (w .store) (storeAfter (g .image) f q (sandboxAt w (q .sandbox)) (w .store)) (q .sandbox) (keptAfter g q (p (q .sandbox)))
     store-after =
-        let h = A .holds .each (q .sandbox) in
-        stored-after g L q (w .store) (A .tidy) (sandboxAt w (q .sandbox)) (p (q .sandbox)) (met .inRow) h (A .reads (q .sandbox)) mine
-        (shares p) met f (kind q) free
+        stored-after g L q (w .store) (A .tidy) (sandboxAt w (q .sandbox)) (p (q .sandbox)) (met .inRow)
+        (A .holds .each (q .sandbox)) (A .reads (q .sandbox)) mine (shares p) met f (kind q) (rowsOf w) (A .spare) refl
+        (λ e z. let x = free e z in (x .0, x .1 .0))
 
-    agrees-own : AgreesAt g (storeAfter (g .image) f q (sandboxAt w (q .sandbox)) (w .store)) (q .sandbox)
-        (sandboxAfter q (sandboxAt w (q .sandbox))) (keptAfter g q (p (q .sandbox)))
+    abbrev runsThen : Runs
+    runsThen = runsAfter given q (sandboxAt w (q .sandbox)) (w .store)
+
+    runs-after : Runned (g .frames) (storeAfter (g .image) f q (sandboxAt w (q .sandbox)) (w .store)) (rowsOf w) (q .sandbox) runsThen
+        (keptAfter g q (p (q .sandbox)) .traces .runs)
+    runs-after =
+        runned g L q (w .store) (A .tidy) (sandboxAt w (q .sandbox)) (p (q .sandbox)) (met .inRow) (A .holds .each (q .sandbox)) (A .reads (q .sandbox)) mine
+        (rowsOf w) (A .spare) refl (A .words (q .sandbox) low) (shares p) met f given gave free (kind q)
+
+    agrees-own : AgreesAt g (storeAfter (g .image) f q (sandboxAt w (q .sandbox)) (w .store)) (q .sandbox) (sandboxThen given w q)
+        (keptAfter g q (p (q .sandbox)))
     agrees-own =
         let st : Store = w .store in
         let b : Sandbox = sandboxAt w (q .sandbox) in
@@ -218,25 +221,35 @@ module _ {C : Type 0} (g : Given) (L : Lent g) (w : World) (p : Plain) (A : Agre
           copy = copy-after g q st b k (shares p) met h mine;
           untaken = untaken-after g q st b k (shares p) met h mine;
           closed = λ e. absurd (false≢true (sym e));
+          places = runs-after .places;
+          runs = runs-after .lengthsAre;
           fronts = store-after .fronts;
           backs = store-after .backs;
         }
 
-    here : sandboxAt (worldAfter (g .image) f w q) (q .sandbox) ≡ sandboxAfter q (sandboxAt w (q .sandbox))
-    here = getD-set-same (w .sandboxes) (q .sandbox) (sandboxAfter q (sandboxAt w (q .sandbox))) closedSandbox (omega (arith, low, A .row))
+    here : sandboxAt (worldAfter (g .image) f given w q) (q .sandbox) ≡ sandboxThen given w q
+    here = getD-set-same (w .sandboxes) (q .sandbox) (sandboxThen given w q) closedSandbox (omega (arith, low, A .row))
 
-    elsewhere : (t : ℕ) → (q .sandbox ≡ t → ⊥) → sandboxAt (worldAfter (g .image) f w q) t ≡ sandboxAt w t
-    elsewhere t apart = getD-set-other (w .sandboxes) (q .sandbox) t (sandboxAfter q (sandboxAt w (q .sandbox))) closedSandbox (λ z. apart (sym z))
+    elsewhere : (t : ℕ) → (q .sandbox ≡ t → ⊥) → sandboxAt (worldAfter (g .image) f given w q) t ≡ sandboxAt w t
+    elsewhere t apart = getD-set-other (w .sandboxes) (q .sandbox) t (sandboxThen given w q) closedSandbox (λ z. apart (sym z))
+
+    rows-then : (t : ℕ) → rowsOf (worldAfter (g .image) f given w q) t ≡ inPlace (q .sandbox) (row runsThen) (rowsOf w) t
+    rows-then t =
+        by-cases (eqb (q .sandbox) t)
+        (λ e. rw e (ap (λ (x : Sandbox). row (x .runs)) (ap (sandboxAt (worldAfter (g .image) f given w q)) (sym (eqb-true (q .sandbox) t e)) ∙ here)))
+        (λ e. rw e (ap (λ (x : Sandbox). row (x .runs)) (elsewhere t (eqb-false (q .sandbox) t e))))
 
     there : after g p q (q .sandbox) ≡ keptAfter g q (p (q .sandbox))
     unfolding after
     there = rw (n, eq-eqb (q .sandbox) (q .sandbox) refl)
 
-    agrees-accepted : Agrees C g (worldAfter (g .image) f w q) (after g p q)
+    agrees-accepted : Agrees C g (worldAfter (g .image) f given w q) (after g p q)
     agrees-accepted =
         record {
           tidy = store-after .tidy;
           row = length-set (w .sandboxes) (q .sandbox) _ ∙ A .row;
+          spare = rw (fun-ext rows-then) (runs-after .spare);
+          words = λ t l. rw (rows-then t) (by-cases (eqb (q .sandbox) t) (λ e. rw e (runs-after .words)) (λ e. rw e (A .words t l)));
           each = λ t l. by-cases (eqb (q .sandbox) t)
               (λ e. rw (← eqb-true (q .sandbox) t e, here, there) agrees-own)
               (λ e.
@@ -250,10 +263,26 @@ module _ {C : Type 0} (g : Given) (L : Lent g) (w : World) (p : Plain) (A : Agre
 
 -- ---- any request
 
-module _ {C : Type 0} (g : Given) (L : Lent g) (w : World) (p : Plain) (A : Agrees C g w p) (q : Request) (o : Outcome) (s : Stepped (g .image) w q o) where
-  free-frame : plainNumber g p q ≡ 0 → (q is Write) ≡ true → eqb (entry (w .store) (frontOf (q .sandbox) (pageOf q))) 0 ≡ true
-      → (s .frame < g .frames) × (held (w .store .marks) (s .frame) ≡ 0)
-  free-frame n = rw (← frames-same g w p A) (frame-free (g .image) w q o s (number-same g L w p A q ∙ n))
+module _ {C : ℕ → Type 0} (g : Given) (L : Lent g) (w : World) (p : Plain) (A : Agrees C g w p) (q : Request) (o : Outcome) (s : Stepped (g .image) w q o) where
+  module _ (n : plainNumber g p q ≡ 0) where
+    number : numberAt (g .image) w q ≡ 0
+    number = number-same g L w p A q ∙ n
+
+    spare′ : Spare 256 (framesOf w) (w .store) (rowsOf w)
+    spare′ = rw (frames-same g w p A) (A .spare)
+
+    gave-frame : givesAt q (sandboxAt w (q .sandbox)) (w .store) ≡ true
+        → (s .given < 128) × (held (rowsOf w (q .sandbox) (longestOf (sandboxAt w (q .sandbox)))) (s .given) ≡ 1)
+    gave-frame y =
+        let x = gave-up (g .image) w q o s number (low g L w p A q n) spare′ (rw (frames-same g w p A) (L .few)) y in (x .low, x .kept)
+
+    free-frame : (q is Write) ≡ true → eqb (entry (w .store) (frontOf (q .sandbox) (pageOf q))) 0 ≡ true
+        → (s .frame < g .frames)
+        × ((held (w .store .marks) (s .frame) ≡ 0)
+        × ((keptAt (rowsOf w) (s .frame) ≡ 0) ⊎ ((givesAt q (sandboxAt w (q .sandbox)) (w .store) ≡ true) × (s .frame ≡ s .given))))
+    free-frame e z =
+        let x = frame-free (g .image) w q o s number (low g L w p A q n) spare′ (rw (frames-same g w p A) (L .few)) e z in
+        (rw (← frames-same g w p A) (x .0), (x .1 .0, ⊎-elim (λ y. inl (y .unkept)) (λ y. inr y) (x .1 .1)))
 
   pub step-answer : o .answer ≡ answer g p q
   unfolding step answer
@@ -266,5 +295,5 @@ module _ {C : Type 0} (g : Given) (L : Lent g) (w : World) (p : Plain) (A : Agre
   step-agrees =
       rw (s .equals, number-same g L w p A q)
       (by-cases (eqb (plainNumber g p q) 0)
-      (λ e. rw e (agrees-accepted g L w p A q (eqb-true _ 0 e) (s .frame) (free-frame (eqb-true _ 0 e))))
+      (λ e. rw e (agrees-accepted g L w p A q (eqb-true _ 0 e) (s .frame) (s .given) (gave-frame (eqb-true _ 0 e)) (free-frame (eqb-true _ 0 e))))
       (λ e. rw (e, refused-changes-nothing g p q e) A))

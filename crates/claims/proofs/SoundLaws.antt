@@ -1,16 +1,20 @@
 -- A world that agrees with the plain machine is sound; the world that a start leaves agrees with the fresh machine.
-use mathlib.Core.Path.{_≡_, refl, _∙_}
+use mathlib.Core.Path.{_≡_, refl, ap, _∙_}
 use mathlib.Core.Bool.{true}
-use Prim.Native.Nat.{ℕ}
+use Prim.Native.Nat.{ℕ, _<_}
 use native.Mathlib.Omega.{arith}
 use lib.ListN.{length, getD-replicate}
+use Rattle.frames.specs.Frames.{noneHeld, countHeld}
+use Rattle.frames.proofs.FrameLaws.{none-count, held-zero}
 use Rattle.frames.proofs.SumLaws.{sum-same}
+use Rattle.runs.specs.Row.{row, noRuns}
+use Rattle.kept.proofs.StoreRuns.{none-kept}
 use Rattle.table.specs.Store.{Store, frontOf, backOf, fresh as freshStore}
 use Rattle.table.proofs.StoreLaws.{none-entry}
 use Rattle.table.proofs.StartLaws.{fresh-tidy, fresh-none}
 use Rattle.areas.proofs.ChangeLaws.{none-slots, empty-formed}
 use Rattle.state.specs.declared.sandbox.Sandbox.{Sandbox}
-use Rattle.state.specs.World.{World, sandboxAt, sharesOf, framesOf, pagesIn, closedSandbox, started}
+use Rattle.state.specs.World.{World, sandboxAt, sharesOf, framesOf, pagesIn, closedSandbox, started, rowsOf}
 use Rattle.state.specs.Sound.{SoundAt, Sound}
 use Rattle.state.specs.Test.{soundb}
 use Rattle.state.proofs.TestLaws.{sound-of}
@@ -21,6 +25,7 @@ use Rattle.plain.proofs.ReadLaws.{reads-fresh}
 use Rattle.claims.specs.Demands.{Lent}
 use Rattle.claims.specs.Agrees.{AgreesAt, Agrees}
 use Rattle.claims.proofs.AreaSteps.{copy-same}
+use Rattle.claims.proofs.HeldSteps.{holds-same}
 use Rattle.claims.proofs.ReadSteps.{at, copy-at, no-front, no-back}
 
 -- ---- agreement is soundness
@@ -40,11 +45,13 @@ module _ (g : Given) (L : Lent g) (st : Store) (s : ℕ) (b : Sandbox) (k : Kept
         backs = λ i l. rw (copy i) (λ m. none-entry 256 st (backOf s i) (A .backs i l ∙ rw (no-back g L st s b k h r A i m)));
         charged = rw (A .present, copy-same b (k .core) (A .taken) (A .copy), A .share) (h .charged);
         shared = rw (A .opened, A .share) (h .openShare);
+        inShare = rw (A .share) (omega (arith, holds-same g st s b k A, h .inShare));
+        places = A .places;
         untaken = A .untaken;
         closed = A .closed;
       }
 
-module _ {C : Type 0} (g : Given) (w : World) (p : Plain) (A : Agrees C g w p) where
+module _ {C : ℕ → Type 0} (g : Given) (w : World) (p : Plain) (A : Agrees C g w p) where
   pub frames-same : framesOf w ≡ g .frames
   frames-same = omega (arith, A .tidy .filed .pages)
 
@@ -60,6 +67,8 @@ module _ {C : Type 0} (g : Given) (w : World) (p : Plain) (A : Agrees C g w p) w
         row = A .row;
         filed = rw frames-same (A .tidy .filed);
         each = λ s l. sound-at g L (w .store) s (sandboxAt w s) (p s) (A .holds .each s) (A .reads s) (A .each s l);
+        spare = rw frames-same (A .spare);
+        words = A .words;
         pooled = rw (frames-same, shares-same) (A .holds .pooled);
       }
 
@@ -68,6 +77,12 @@ module _ {C : Type 0} (g : Given) (w : World) (p : Plain) (A : Agrees C g w p) w
   agrees-tested L = sound-of (g .image) w (agrees-sound L)
 
 -- ---- the start
+
+no-run : (i : ℕ) → i < 8 → row noRuns i ≡ noneHeld
+no-run i l = getD-replicate 8 i noneHeld noneHeld l
+
+at-start : (n s i : ℕ) → s < 4 → i < 8 → rowsOf (started n) s i ≡ noneHeld
+at-start n s i l d = rw (getD-replicate 4 s closedSandbox closedSandbox l) (no-run i d)
 
 started-at : (g : Given) (s : ℕ) → AgreesAt g (freshStore 256 (g .frames)) s closedSandbox closed
 started-at g s =
@@ -81,15 +96,22 @@ started-at g s =
       copy = none-slots;
       untaken = λ _. refl;
       closed = λ _. refl;
+      places = refl;
+      runs = λ i l. ap countHeld (no-run i l) ∙ none-count noneHeld (λ f d. held-zero f);
       fronts = λ i l. fresh-none 256 (g .frames) (frontOf s i);
       backs = λ i l. fresh-none 256 (g .frames) (backOf s i);
     }
 
-pub started-agrees : {C : Type 0} (g : Given) → Lent g → Agrees C g (started (g .frames)) fresh
+pub started-agrees : {C : ℕ → Type 0} (g : Given) → Lent g → Agrees C g (started (g .frames)) fresh
 started-agrees g L =
     record {
       tidy = fresh-tidy 256 (g .frames) (L .few);
       row = refl;
+      spare = none-kept 256 (g .frames) (freshStore 256 (g .frames)) (rowsOf (started (g .frames))) (λ s i l d. at-start (g .frames) s i l d);
+      words = λ s l. record {
+        low = λ i d. rw (at-start (g .frames) s i l d) (omega arith);
+        high = λ i d. rw (at-start (g .frames) s i l d) (omega arith);
+      };
       each = λ s l. rw (getD-replicate 4 s closedSandbox closedSandbox l) (started-at g s);
       holds = holds-fresh g;
       reads = reads-fresh g;

@@ -1,6 +1,6 @@
 -- The store after an accepted request: what the fronts and backs of its sandbox hold, and that those of the others hold what they held.
 use mathlib.Core.Path.{_≡_, refl, sym, ap, _∙_, fun-ext}
-use mathlib.Core.Logic.{_⊎_, inl, inr, ⊎-elim}
+use mathlib.Core.Logic.{inl, inr, ⊎-elim}
 use mathlib.Core.Bool.{true, false, _&&_}
 use mathlib.Core.Option.{some, none}
 use Prim.Native.Nat.{ℕ, _+_, _*_, _≤_, _<_}
@@ -9,21 +9,18 @@ use lib.Dec.{eqb, ltb}
 use lib.ListN.{set}
 use borrow.Author.Tests.{eq-eqb, ne-eqb, eqb-true, eqb-false, ltb-true, leb-true}
 use Rattle.basics.specs.Ranges.{inside, over}
-use Rattle.basics.proofs.TestLaws.{by-cases, and-left, and-right, same-true, never}
-use Rattle.basics.proofs.LoopLaws.{every-at}
-use Rattle.basics.proofs.RangeLaws.{inside-first, inside-end, inside-yes, over-cases}
+use Rattle.basics.proofs.TestLaws.{by-cases, and-left, and-right}
+use Rattle.basics.proofs.RangeLaws.{inside-first, inside-end}
 use Rattle.interface.specs.declared.request.Request.{Request}
 use Rattle.interface.specs.Requests.{_is_, Map, Unmap, Write, Snapshot, Rewind, pageOf, offsetOf}
 use Rattle.interface.specs.Slots.{isMapped, isCommitted}
 use Rattle.interface.specs.Limits.{pagesOk, usesTwo, within}
-use Rattle.interface.specs.Outcome.{firstOf, copyAfter}
-use Rattle.interface.specs.Refusals.{View, allMapped}
+use Rattle.interface.specs.Outcome.{copyAfter}
+use Rattle.interface.specs.Refusals.{allMapped}
 use Rattle.interface.specs.Accepted.{Accepted}
 use Rattle.interface.proofs.SlotLaws.{untaken-copied}
 use Rattle.interface.proofs.KindLaws.{Kind, isMap, isUnmap, isProtect, isWrite, isSnapshot, isRewind, isOther}
-use Rattle.interface.proofs.AcceptedLaws.{map-unmapped}
 use Rattle.frames.specs.Frames.{held}
-use Rattle.frames.proofs.FrameLaws.{lt-or-ge}
 use Rattle.pages.specs.Parts.{listed}
 use Rattle.pages.proofs.ListedLaws.{length-listed, listed-set}
 use Rattle.marks.proofs.NamedLaws.{by-entry}
@@ -34,31 +31,16 @@ use Rattle.table.proofs.FreeLaws.{freeTo-tidy, freeTo-in, freeTo-out}
 use Rattle.table.proofs.MoveLaws.{Moved, moved}
 use Rattle.table.proofs.RewindLaws.{rewindTo-tidy, rewindTo-in, rewindTo-out}
 use Rattle.state.specs.declared.sandbox.Sandbox.{Sandbox}
+use Rattle.runs.specs.Row.{row}
+use Rattle.kept.specs.Spare.{Rows, Spare}
 use Rattle.content.specs.Content.{copyPage}
 use Rattle.memory.specs.Memory.{touched, keepsFront, storeAfter}
 use Rattle.plain.specs.Machine.{Given, Kept, copySlots, copyBytes, stored, bytesAfter, frontAfter, backAfter, keptAfter, viewOf}
 use Rattle.plain.specs.Claims.{Keeps, Reads}
 use Rattle.claims.specs.Demands.{Lent}
 use Rattle.claims.specs.Agrees.{pageIf, AgreesAt}
-use Rattle.claims.proofs.ReadSteps.{at, copy-whole, copy-page, no-front, under, mark-none, frame-is}
-
--- st is the store before, r the store after, k what the plain machine keeps for s after
-pub record Stored (C : Type 0) (g : Given) (st r : Store) (s : ℕ) (k : Kept) : Type 0 where
-  pub tidy : Tidy C 256 (g .frames) r
-  pub fronts : (i : ℕ) → i < 64 → contents 256 r (frontOf s i) ≡ pageIf (k .traces .front i) (k .core .pages .bytes i)
-  pub backs : (i : ℕ) → i < 64 → contents 256 r (backOf s i) ≡ pageIf (k .traces .back i) (copyBytes (k .core .copy) i)
-  pub others : (t x : ℕ) → (s ≡ t → ⊥) → x < 128 → contents 256 r (t * 128 + x) ≡ contents 256 st (t * 128 + x)
-
--- the pages that a map takes were not mapped
-map-free : (v : View) (q : Request) → Accepted v q → q .code ≡ Map → (i : ℕ) → inside (firstOf (v .slots) q) (q .p2) i ≡ true → isMapped (v .slots i) ≡ false
-map-free v q a e i m =
-    sym (same-true false (isMapped (v .slots i))
-    (every-at _ _ (q .p2) (map-unmapped v q a e) i (inside-first _ (q .p2) i m) (inside-end _ (q .p2) i m)))
-
--- a number that is not one of the n from a on
-inside-out : (a n i : ℕ) → inside a n i ≡ false → (i < a) ⊎ (a + n ≤ i)
-inside-out a n i m =
-    ⊎-elim (λ l. inl l) (λ l. ⊎-elim (λ d. never (inside a n i) (inside-yes a n i l d) m) (λ d. inr d) (lt-or-ge i (a + n))) (lt-or-ge i a)
+use Rattle.claims.proofs.MapSteps.{Stored, inside-out, stored-map}
+use Rattle.claims.proofs.ReadSteps.{at, copy-whole, copy-page, under, mark-none, frame-is}
 
 -- a write names one of 64 pages
 pub write-page : (images : ℕ) (q : Request) → q .code ≡ Write → within images q ≡ true → pageOf q < 64
@@ -67,8 +49,8 @@ write-page images q e w =
     let limits : (ltb (q .p1) 16384 && (ltb (q .p2) 256 && usesTwo q)) ≡ true = rw e at w in
     omega (arith, ltb-true (q .p1) 16384 (and-left _ _ limits))
 
-module _ {C : Type 0} (g : Given) (L : Lent g) (q : Request) (st : Store) (T : Tidy C 256 (g .frames) st) (b : Sandbox) (k : Kept)
-    (row : q .sandbox ≤ 3) (h : Keeps k) (r : Reads g k) (A : AgreesAt g st (q .sandbox) b k) where
+module _ {C : ℕ → Type 0} (g : Given) (L : Lent g) (q : Request) (st : Store) (T : Tidy C 256 (g .frames) st) (b : Sandbox) (k : Kept)
+    (inRow : q .sandbox ≤ 3) (h : Keeps k) (r : Reads g k) (A : AgreesAt g st (q .sandbox) b k) where
   -- what a rewind makes of a front
   rewound-front : (i : ℕ) → i < 64
       → rewound (keepsFront b i) (copyPage (g .image) b i) (contents 256 st (backOf (q .sandbox) i)) (contents 256 st (frontOf (q .sandbox) i))
@@ -84,21 +66,6 @@ module _ {C : Type 0} (g : Given) (L : Lent g) (q : Request) (st : Store) (T : T
       (λ m. by-cases (isCommitted (k .core .pages .slots i)) (λ c. rw (m, c)) (λ c. rw (m, c))))
 
   module _ (total : ℕ) (a : Accepted (viewOf g total (k .core)) q) (f : ℕ) where
-    stored-map : q .code ≡ Map → Stored C g st (storeAfter (g .image) f q b st) (q .sandbox) (keptAfter g q k)
-    unfolding storeAfter frontAfter backAfter bytesAfter copyAfter
-    stored-map e =
-        let free : (i : ℕ) → inside (firstOf (k .core .pages .slots) q) (q .p2) i ≡ true → isMapped (k .core .pages .slots i) ≡ false =
-        map-free (viewOf g total (k .core)) q a e in
-        let free′ = rw e at free in
-        record {
-          tidy = rw e T;
-          fronts = λ i l. rw e
-              (over-cases (λ y. contents 256 st (frontOf (q .sandbox) i) ≡ pageIf (k .traces .front i) y) _ _ _ _ i
-              (λ m. let n = no-front g L st (q .sandbox) b k h r A i (free′ i m) in rw n (rw n at (A .fronts i l))) (A .fronts i l));
-          backs = λ i l. rw e (A .backs i l);
-          others = λ t x d l. rw e refl;
-        }
-
     stored-unmap : q .code ≡ Unmap → Stored C g st (storeAfter (g .image) f q b st) (q .sandbox) (keptAfter g q k)
     unfolding storeAfter frontAfter backAfter bytesAfter copyAfter over within
     stored-unmap e =
@@ -157,10 +124,10 @@ module _ {C : Type 0} (g : Given) (L : Lent g) (q : Request) (st : Store) (T : T
     unfolding storeAfter frontAfter backAfter bytesAfter copyAfter
     stored-other x₁ x₂ x₄ x₅ x₆ =
         record {
-          tidy = rw (x₂, x₄, x₅, x₆) T;
+          tidy = rw (x₁, x₂, x₄, x₅, x₆) T;
           fronts = λ i l. rw (x₁, x₂, x₄, x₅, x₆) (A .fronts i l);
-          backs = λ i l. rw (x₂, x₄, x₅, x₆) (A .backs i l);
-          others = λ t x d l. rw (x₂, x₄, x₅, x₆) refl;
+          backs = λ i l. rw (x₁, x₂, x₄, x₅, x₆) (A .backs i l);
+          others = λ t x d l. rw (x₁, x₂, x₄, x₅, x₆) refl;
         }
 
     -- ---- write
@@ -183,7 +150,7 @@ module _ {C : Type 0} (g : Given) (L : Lent g) (q : Request) (st : Store) (T : T
       unfolding touched
       front =
           let place : ℕ = frontOf (q .sandbox) (pageOf q) in
-          let inTable : place < 512 = omega (arith, low, row) in
+          let inTable : place < 512 = omega (arith, low, inRow) in
           by-entry (Front (touched (g .image) f b (q .sandbox) (pageOf q) st)) (entry st (frontOf (q .sandbox) (pageOf q)))
           (λ z. let t = eq-eqb (entry st place) 0 z in
           let u = free t in
@@ -225,12 +192,13 @@ module _ {C : Type 0} (g : Given) (L : Lent g) (q : Request) (st : Store) (T : T
             others = λ t x d l. rw e (other (t * 128 + x) (omega (arith, low)));
           }
 
-    pub stored-after : Kind q → ((q is Write) ≡ true → eqb (entry st (frontOf (q .sandbox) (pageOf q))) 0 ≡ true → (f < g .frames) × (held (st .marks) f ≡ 0))
+    pub stored-after : Kind q → (rows : Rows) → Spare 256 (g .frames) st rows → rows (q .sandbox) ≡ row (b .runs)
+        → ((q is Write) ≡ true → eqb (entry st (frontOf (q .sandbox) (pageOf q))) 0 ≡ true → (f < g .frames) × (held (st .marks) f ≡ 0))
         → Stored C g st (storeAfter (g .image) f q b st) (q .sandbox) (keptAfter g q k)
-    stored-after (isMap e) z = stored-map e
-    stored-after (isUnmap e) z = stored-unmap e
-    stored-after (isProtect e) z = stored-other (rw e) (rw e) (rw e) (rw e) (rw e)
-    stored-after (isWrite e) z = stored-write (z (rw e)) e
-    stored-after (isSnapshot e) z = stored-snapshot e
-    stored-after (isRewind e) z = stored-rewind e
-    stored-after (isOther x₁ x₂ x₃ x₄ x₅ x₆) z = stored-other x₁ x₂ x₄ x₅ x₆
+    stored-after (isMap e) rows S own z = stored-map g L q st T b k inRow h r A total a f rows S own e
+    stored-after (isUnmap e) rows S own z = stored-unmap e
+    stored-after (isProtect e) rows S own z = stored-other (rw e) (rw e) (rw e) (rw e) (rw e)
+    stored-after (isWrite e) rows S own z = stored-write (z (rw e)) e
+    stored-after (isSnapshot e) rows S own z = stored-snapshot e
+    stored-after (isRewind e) rows S own z = stored-rewind e
+    stored-after (isOther x₁ x₂ x₃ x₄ x₅ x₆) rows S own z = stored-other x₁ x₂ x₄ x₅ x₆

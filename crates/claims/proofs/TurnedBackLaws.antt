@@ -36,6 +36,8 @@ use Rattle.plain.specs.Cases.{Case, casesOver, noImage, cases, sameAnswer, same
 use Rattle.plain.specs.TurnedBack.{turnedBackCases}
 use Rattle.plain.specs.StillClean.{stillClean}
 use Rattle.plain.specs.OverGaps.{overGaps}
+use Rattle.plain.specs.KeptRuns.{keptRuns}
+use Rattle.plain.proofs.CaseLaws.{kept-runs}
 use Rattle.plain.proofs.Claims.{claim-cases, claim-turned-back, claim-still-clean, claim-over-gaps}
 use Rattle.claims.specs.Demands.{Lent}
 use Rattle.claims.specs.TurnedBack.{AllGet, AllGetLent, strayEntry, StrayEntry}
@@ -92,6 +94,10 @@ pub over-gaps-get : AllGet overGaps
 unfolding lentb
 over-gaps-get = all-get overGaps refl claim-over-gaps
 
+pub kept-runs-get : AllGet keptRuns
+unfolding lentb
+kept-runs-get = all-get keptRuns refl kept-runs
+
 -- ---- row 3
 
 module _ (image : List ℕ) (w : World) (wrong : lengthsOk (length (w .store .pool)) (length (w .store .table)) (length image) ≡ false) where
@@ -120,7 +126,7 @@ lentAnswer p t i q =
 
 -- of a start that is not refused
 fresh-answer : (g : Given) → Lent g → (q : Request) (o : Outcome) → Stepped (g .image) (started (g .frames)) q o → o .answer ≡ answer g fresh q
-fresh-answer g L q o s = step-answer g L (started (g .frames)) fresh (started-agrees {C = Unit {0}} g L) q o s
+fresh-answer g L q o s = step-answer g L (started (g .frames)) fresh (started-agrees {C = λ f. Unit {0}} g L) q o s
 
 lent-answer : (pool table image : List ℕ) (q : Request) (o : Outcome) → Stepped image (startedBy pool table image) q o
     → o .answer ≡ lentAnswer (length pool) (length table) (length image) q

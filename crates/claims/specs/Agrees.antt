@@ -10,10 +10,12 @@ use Rattle.interface.specs.Slots.{copied}
 use Rattle.interface.specs.Refusals.{isTaken}
 use Rattle.pages.specs.Parts.{listed}
 use Rattle.table.specs.Store.{Store, frontOf, backOf, contents, Tidy}
+use Rattle.runs.specs.Row.{lengthsOf}
+use Rattle.kept.specs.Spare.{Spare, Words}
 use Rattle.areas.specs.Areas.{slots, empty}
 use Rattle.areas.specs.Formed.{WellFormed}
 use Rattle.state.specs.declared.sandbox.Sandbox.{Sandbox}
-use Rattle.state.specs.World.{World, sandboxAt, pagesIn, closedSandbox}
+use Rattle.state.specs.World.{World, sandboxAt, pagesIn, closedSandbox, rowsOf}
 use Rattle.plain.specs.Machine.{Given, Kept, Plain, copySlots, copyBytes}
 use Rattle.plain.specs.Claims.{Holds, Reads}
 
@@ -32,14 +34,20 @@ pub record AgreesAt (g : Given) (st : Store) (s : ℕ) (b : Sandbox) (k : Kept) 
   pub copy : slots (b .snapshot) ≡ copied (copySlots (k .core))
   pub untaken : b .taken ≡ false → b .snapshot ≡ empty
   pub closed : b .opened ≡ false → b ≡ closedSandbox
+  -- the runs have the lengths that the plain machine carries
+  pub places : length (b .runs .list) ≡ 8
+  pub runs : (i : ℕ) → i < 8 → lengthsOf (b .runs) i ≡ k .traces .runs i
   -- marks are entries, and fronts and backs hold the page's and the copy's bytes
   pub fronts : (i : ℕ) → i < 64 → contents 256 st (frontOf s i) ≡ pageIf (k .traces .front i) (k .core .pages .bytes i)
   pub backs : (i : ℕ) → i < 64 → contents 256 st (backOf s i) ≡ pageIf (k .traces .back i) (copyBytes (k .core .copy) i)
 
--- C says whether unheld frames are asked to be zero, as in `Tidy`
-pub record Agrees (C : Type 0) (g : Given) (w : World) (p : Plain) : Type 0 where
+-- C says which unheld frames are asked to be zero, as in `Tidy`
+pub record Agrees (C : ℕ → Type 0) (g : Given) (w : World) (p : Plain) : Type 0 where
   pub tidy : Tidy C 256 (g .frames) (w .store)
   pub row : length (w .sandboxes) ≡ 4
+  -- kept frames are zero, and in one run and no entry
+  pub spare : Spare 256 (g .frames) (w .store) (rowsOf w)
+  pub words : (s : ℕ) → s < 4 → Words (rowsOf w s)
   pub each : (s : ℕ) → s < 4 → AgreesAt g (w .store) s (sandboxAt w s) (p s)
   pub holds : Holds g p
   pub reads : (s : ℕ) → Reads g (p s)

@@ -13,16 +13,17 @@ use Rattle.interface.specs.Limits.{within}
 use Rattle.interface.specs.Refusals.{refusal}
 use Rattle.pages.specs.Parts.{frame, zeros, listed}
 use Rattle.frames.specs.Frames.{held}
+use Rattle.kept.specs.Spare.{keptBy, Spare, Words}
 use Rattle.marks.specs.Named.{usedBelow}
 use Rattle.marks.specs.Marks.{from}
 use Rattle.table.specs.Store.{entry, frontOf, backOf, contents}
 use Rattle.areas.specs.Areas.{slots}
-use Rattle.state.specs.World.{World, sandboxAt, sharesOf, pagesIn, started, lengthsOk, viewAt}
+use Rattle.state.specs.World.{World, sandboxAt, sharesOf, pagesIn, started, lengthsOk, viewAt, rowsOf}
 use Rattle.state.specs.Start.{startedBy}
 use Rattle.state.specs.Sound.{Sound}
 use Rattle.content.specs.Content.{pageRead}
 use Rattle.memory.specs.Memory.{heldBy}
-use Rattle.machine.specs.Step.{takes, Free, Outcome, Stepped}
+use Rattle.machine.specs.Step.{Chosen, Outcome, Stepped}
 use Rattle.plain.specs.Machine.{Given, fresh, copySlots, copyBytes, answers}
 use Rattle.plain.specs.Lists.{upTo, naming, toldLater, Rewound}
 use Rattle.claims.specs.Touches.{Touches}
@@ -68,8 +69,9 @@ Coded q = (1 ≤ q .code) × (q .code ≤ 10)
 pub record Demand1 (image : List ℕ) (w : World) (q : Request) (o : Outcome) : Type 0 where
   -- "call code not 1 to 9", now 1 to 10
   pub uncalled : (Coded q → ⊥) → o .answer .number ≡ 2
-  -- "lent length wrong, or state unsound". That four sandboxes stand in the row is what the type [Sandbox; 4] says of any state.
-  pub unsound : Coded q → length (w .sandboxes) ≡ 4 → (Sound image w → ⊥) → o .answer .number ≡ 3
+  -- "lent length wrong, or state unsound". That four sandboxes stand in the row is what the type [Sandbox; 4] says of any state, and that a run is two words of
+  -- 64 bits what the type Held says.
+  pub unsound : Coded q → length (w .sandboxes) ≡ 4 → ((s : ℕ) → s < 4 → Words (rowsOf w s)) → (Sound image w → ⊥) → o .answer .number ≡ 3
   -- else the table: "When several apply, the lowest number is answered"
   pub table : Coded q → Sound image w → o .answer .number ≡ refusal (viewAt image w (q .sandbox)) q
   -- a refused call answers value 0 and leaves state, pool and table
@@ -80,8 +82,8 @@ pub record Demand1 (image : List ℕ) (w : World) (q : Request) (o : Outcome) : 
       → entry (o .world .store) (s * 128 + i) ≡ entry (w .store) (s * 128 + i)
   pub contents : o .answer .number ≡ 0 → (s i : ℕ) → s < 4 → i < 128 → (q .sandbox ≡ s → ⊥)
       → contents 256 (o .world .store) (s * 128 + i) ≡ contents 256 (w .store) (s * 128 + i)
-  -- in its own sandbox too it changes the entries and frames that it names, and the frame that it takes, and nothing else: see Touches
-  pub touches : (t : Stepped image w q o) → o .answer .number ≡ 0 → Touches image w q o (t .frame)
+  -- in its own sandbox too it changes the entries, frames and runs that it names, and the frames that it gives up and takes, and nothing else: see Touches
+  pub touches : (t : Stepped image w q o) → o .answer .number ≡ 0 → Touches image w q o (t .frame) (t .given)
   -- a sound state stays sound, whatever its unheld frames hold
   pub sound : Sound image w → Sound image (o .world)
 
@@ -105,6 +107,8 @@ module _ (g : Given) (qs : List Request) (v : World) where
         → (isMapped (copied (copySlots (upTo g qs s .core)) i) ≡ true) × (frame 256 (v .store .pool) f ≡ listed 256 (copyBytes (upTo g qs s .core .copy) i))
     pub backs : (i f : ℕ) → i < 64 → entry (v .store) (backOf s i) ≡ suc f
         → (isMapped (copied (copySlots (upTo g qs s .core)) i) ≡ true) × (frame 256 (v .store .pool) f ≡ listed 256 (copyBytes (upTo g qs s .core .copy) i))
+    -- "A rewound sandbox's frames hold snapshot pages or zeros" (A3): its kept frames are zero
+    pub kept : (i f : ℕ) → i < 8 → f < 128 → held (rowsOf v s i) f ≡ 1 → (f < g .frames) × (frame 256 (v .store .pool) f ≡ zeros 256)
 
   -- "After every list a front holds the 256 bytes that its page has in the plain machine, a back those that it has in the copy, and a frame that no entry names
   -- is zero."
@@ -116,12 +120,14 @@ module _ (g : Given) (qs : List Request) (v : World) where
     pub rest : (f : ℕ) → f < g .frames → ((k : ℕ) → entry (v .store) k ≡ suc f → ⊥) → frame 256 (v .store .pool) f ≡ zeros 256
     -- "unheld frames are zero": by the held marks
     pub unheld : (f : ℕ) → f < g .frames → held (v .store .marks) f ≡ 0 → frame 256 (v .store .pool) f ≡ zeros 256
-    -- "A sandbox holds the frames that its front and back entries name; call 9 counts them."
+    -- "Kept frames are held and zero, belong to one run and no entry" (A3)
+    pub kept : Spare 256 (g .frames) (v .store) (rowsOf v)
+    -- "A sandbox holds the frames that its front and back entries name; call 9 counts them", and those that its runs keep (A3)
     pub counted : (s : ℕ) → s < 4 → heldBy (v .store) s ≡ usedBelow (from (s * 128) (v .store .table)) 128
 
   -- "no sandbox holds more than its share; no accepted mapping ever lacks a frame"
   pub record Promise : Type 0 where
-    pub share : (s : ℕ) → s < 4 → usedBelow (from (s * 128) (v .store .table)) 128 ≤ sandboxAt v s .share
+    pub share : (s : ℕ) → s < 4 → usedBelow (from (s * 128) (v .store .table)) 128 + keptBy (rowsOf v s) ≤ sandboxAt v s .share
     -- "a sandbox's mapped pages and backs together are at most its share, the shares together at most the pool"
     pub covered : (s : ℕ) → s < 4 → mappedPages (slots (sandboxAt v s .present)) + usedBelow (from (s * 128 + 64) (v .store .table)) 64 ≤ sandboxAt v s .share
     pub pooled : sharesOf v ≤ g .frames
@@ -130,8 +136,9 @@ module _ (g : Given) (qs : List Request) (v : World) where
         → within (pagesIn (length (g .image))) q ≡ true → isMapped (slots (sandboxAt v (q .sandbox) .present) (pageOf q)) ≡ true
         → rightsAt (slots (sandboxAt v (q .sandbox) .present) (pageOf q)) ≡ 3
         → (o .answer .number ≡ 0) × ((f : ℕ) × (entry (o .world .store) (frontOf (q .sandbox) (pageOf q)) ≡ suc f))
-    -- a write that takes a frame finds one (that its page's front entry alone names it afterwards is `alone` in Touches)
-    pub found : (q : Request) → takes (g .image) v q ≡ true → (f : ℕ) × Free v f
+    -- a write that gives up a frame has one to give up, and one that takes a frame finds one (that its page's front entry alone names it afterwards, and no run
+    -- keeps it, is `alone` in Touches)
+    pub found : (q : Request) → (f : ℕ) × ((given : ℕ) × Chosen (g .image) v q f given)
 
 -- q is this call of sandbox s, and the answer at its place in the list says that it was accepted
 pub record Took (s call : ℕ) (q : Request) (as′ : List Answered) (place : ℕ) : Type 0 where

@@ -103,7 +103,7 @@ module _ (image : List ℕ) (h : Handed) (ok : startNumber image h ≡ 0) where
   zeroed = accepted image h ok .1 ∙ rw (accepted image h ok .0) (ap (λ (l : List ℕ). handed l (zeros (length (h .pool))) (zeros 512)) fresh-is-zero)
 
   sound : Sound image (started (givenBy image h .frames))
-  sound = let w = started (givenBy image h .frames) in agrees-sound {C = Unit {0}} (givenBy image h) w fresh (started-agrees (givenBy image h) lent) lent
+  sound = let w = started (givenBy image h .frames) in agrees-sound {C = λ f. Unit {0}} (givenBy image h) w fresh (started-agrees (givenBy image h) lent) lent
 
   again : worldIn (startHands image h) ≡ started (givenBy image h .frames)
   again = let w = started (givenBy image h .frames) in ap worldIn begins ∙ world-again w (sound-is-shaped image w sound)
