@@ -11,8 +11,8 @@ use Rattle.basics.specs.Choice.{_when_else_}
 use Rattle.basics.specs.Ranges.{sum}
 use Rattle.basics.proofs.TestLaws.{by-cases}
 use Rattle.interface.specs.declared.request.Request.{Request}
-use Rattle.interface.specs.Requests.{Map, Write}
-use Rattle.interface.specs.Runs.{longestRun, granted}
+use Rattle.interface.specs.Requests.{_is_, Map, Write}
+use Rattle.interface.specs.Runs.{takesRun, longestRun, granted}
 use Rattle.interface.proofs.RunLaws.{run-low, granted-run, longest-low, longest-some}
 use Rattle.interface.specs.Outcome.{firstOf}
 use Rattle.frames.specs.declared.Held.{Held}
@@ -39,15 +39,22 @@ use Rattle.memory.specs.Parts.{ownFront, mapRuns, mapAdopts, Unheld, Ask
 
 -- ---- a map
 
-module _ (q : Request) (b : Sandbox) (st : Store) where
+module _ (q : Request) where
   -- a map at a named page, or of the image
-  pub named-none : q .code ≡ Map → (q .p1 ≡ 64 → ⊥) → (st ≡ mapAdopts q b st) × (b .runs ≡ mapRuns q b)
-  unfolding mapAdopts mapRuns
-  named-none e n = (rw (e, ne-eqb (q .p1) 64 n), rw (e, ne-eqb (q .p1) 64 n))
+  pub named-none : (q .p1 ≡ 64 → ⊥) → takesRun q ≡ false
+  named-none n = by-cases (q is Map) (λ e. rw (e, ne-eqb (q .p1) 64 n)) (λ e. rw e)
 
-  pub image-none : q .code ≡ Map → q .p1 ≡ 64 → (q .p3 ≡ 0 → ⊥) → (st ≡ mapAdopts q b st) × (b .runs ≡ mapRuns q b)
-  unfolding mapAdopts mapRuns
-  image-none e p n = (rw (e, p, ne-eqb (q .p3) 0 n), rw (e, p, ne-eqb (q .p3) 0 n))
+  pub image-none : (q .p3 ≡ 0 → ⊥) → takesRun q ≡ false
+  image-none n = by-cases (q is Map) (λ e. by-cases (eqb (q .p1) 64) (λ p. rw (e, p, ne-eqb (q .p3) 0 n)) (λ p. rw (e, p))) (λ e. rw e)
+
+  -- takes no run
+  pub untaken-store : (b : Sandbox) (st : Store) → takesRun q ≡ false → st ≡ mapAdopts q b st
+  unfolding mapAdopts
+  untaken-store b st e = rw e
+
+  pub untaken-runs : (b : Sandbox) → takesRun q ≡ false → b .runs ≡ mapRuns q b
+  unfolding mapRuns
+  untaken-runs b e = rw e
 
 module _ (q : Request) (b : Sandbox) (e : q .code ≡ Map) (p : q .p1 ≡ 64) (z : q .p3 ≡ 0)
     (place n : ℕ) (run : Held) (place-is : place ≡ placeFor q b) (run-is : run ≡ row (b .runs) place)
@@ -92,18 +99,18 @@ longest-has runs place most run m n p r =
     rw (r, p) (longest-some (lengthsOf runs) (omega (arith, m, n)))
 
 -- whether the share is exceeded, by the numbers that the code counts
-module _ (share used most : ℕ) (runs : Runs) (is : most ≡ sum (lengthsOf runs) 8) where
+module _ (share used most : ℕ) (runs : Runs) (all : most ≡ sum (lengthsOf runs) 8) where
   pub nothing-kept : used < share → most ≡ 0 → ltb share (used + keptBy (row runs) + 1) ≡ false
   unfolding keptBy
-  nothing-kept l z = le-ltb share _ (omega (arith, l, is, z))
+  nothing-kept l z = le-ltb share _ (omega (arith, l, all, z))
 
   pub within-share : used + most < share → ltb share (used + keptBy (row runs) + 1) ≡ false
   unfolding keptBy
-  within-share l = le-ltb share _ (omega (arith, l, is))
+  within-share l = le-ltb share _ (omega (arith, l, all))
 
   pub above-share : share ≤ used + most → ltb share (used + keptBy (row runs) + 1) ≡ true
   unfolding keptBy
-  above-share l = lt-ltb share _ (omega (arith, l, is))
+  above-share l = lt-ltb share _ (omega (arith, l, all))
 
 -- ---- a frame that is not held
 

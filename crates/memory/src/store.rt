@@ -46,7 +46,8 @@ pub fn store_after(
     let s = q.sandbox as u8;
     let k = q.sandbox as usize;
     let held = machine.held;
-    let b = machine.sandboxes[k];
+    let sandboxes = machine.sandboxes;
+    let b = sandboxes[k];
     let runs = b.runs;
     let present = b.present;
     if code == 2 {

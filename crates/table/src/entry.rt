@@ -59,7 +59,7 @@ fn move_front(table: &mut [u16], sandbox: u8, page: PageNo)
 }
 
 // Where a page's front entry stands; its back entry stands 64 further on.
-pub fn front_index(sandbox: u8, page: PageNo) -> usize
+pub(crate) fn front_index(sandbox: u8, page: PageNo) -> usize
     requires { ⌜ sandbox < 4 ⌝ }
     requires { ⌜ page .0 < 64 ⌝ }
     ensures { λ r. ⌜ r ≡ frontOf sandbox (page .0) ⌝ }

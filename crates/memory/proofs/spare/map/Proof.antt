@@ -1,72 +1,126 @@
+-- The run that suits the pages best gives its smallest frames to the first new pages.
+use mathlib.Core.Path.{_≡_, refl, ap, _∙_}
+use Prim.Native.Nat.{ℕ}
+use native.Mathlib.Omega.{arith}
+use lib.Dec.{leb}
+use Rattle.basics.specs.Choice.{_when_else_}
+use Rattle.interface.proofs.RunLaws.{granted-le, granted-run}
+use Rattle.frames.specs.declared.Held.{Held}
+use Rattle.frames.specs.Frames.{countHeld}
+use Rattle.runs.specs.Row.{row, lengthsOf, withRunAt}
+use Rattle.areas.proofs.FormedLaws.{near}
+use Rattle.memory.specs.Memory.{placeFor, framesFor}
+use Rattle.memory.proofs.SpareLaws.{named-none, image-none, untaken-store, untaken-runs, run-there, frames-there, taken-store, taken-runs}
 use borrow.Author.Needs.{needs}
 use Rattle.memory.proofs.spare.map.Statement.{statement}
 use Rattle.memory.proofs.spare.map.Tie as tie
-use Rattle.memory.proofs.spare.map.Reads as reads
-use Rattle.memory.proofs.spare.map.Lts as lts
-use Rattle.frames.proofs.Held.count.Reads as count-reads
-use Rattle.kept.proofs.grant.Reads as grant-reads
-use Rattle.memory.proofs.spare.lesser.Reads as lesser-reads
-use Rattle.rules.proofs.after.first_of.Reads as first-of-reads
-use Rattle.runs.proofs.Runs.at.Reads as at-reads
-use Rattle.runs.proofs.Runs.fitting.Reads as fitting-reads
-use Rattle.runs.proofs.Runs.with.Reads as with-reads
-use Rattle.table.proofs.entry.front_index.Reads as front-index-reads
 
--- src/spare.rt:49:9
+-- ---- what is known once it is counted how many frames the pages get
+
+abbrev sought : tie.After-lesser → tie.After-first-of
+sought c = c .before .before .before .before
+
+abbrev chosen : tie.After-lesser → tie.After-at
+chosen c = sought c .before .before
+
+abbrev behind : tie.After-lesser → tie.Start
+behind c = chosen c .before .before .before .before .before .before .before .before .before
+
+abbrev place-is : (c : tie.After-lesser) → chosen c .before .fitting .result ≡ placeFor (behind c .args .q) (behind c .args .b)
+place-is c = chosen c .before .fitting .ensures .0
+
+counted : (c : tie.After-lesser) → let run = chosen c .at .result in let pages = behind c .args .q .p2 in
+    c .lesser .result ≡ (pages when leb pages (countHeld run) else countHeld run)
+counted c =
+    let pages = behind c .args .q .p2 in
+    c .lesser .ensures ∙ ap (λ (n : ℕ). pages when leb pages n else n) (c .before .count .ensures)
+
+run-here : (c : tie.After-lesser) → chosen c .at .result ≡ row (behind c .args .b .runs) (placeFor (behind c .args .q) (behind c .args .b))
+run-here c = chosen c .at .ensures ∙ ap (row (behind c .args .b .runs)) (place-is c)
+
+frames-here : (c : tie.After-lesser) → c .lesser .result ≡ framesFor (behind c .args .q) (behind c .args .b)
+frames-here c =
+    let s = behind c in
+    frames-there (s .args .q) (s .args .b) (s .pre .0) (chosen c .before .before .before .before .before .if1 .left) (chosen c .before .before .before .if2 .left)
+    _ (c .lesser .result) _ (place-is c) (chosen c .at .ensures) (counted c)
+
+-- ---- the needs
+
 returns : tie.Need-returns
-returns c = ?
+returns c =
+    let s = c .before .before .before .before in
+    let none = named-none (s .args .q) (c .if1 .taken) in
+    (λ pool. untaken-store (s .args .q) (s .args .b) _ none, untaken-runs (s .args .q) (s .args .b) none)
 
--- src/spare.rt:55:9
 returns-2 : tie.Need-returns-2
-returns-2 c = ?
+returns-2 c =
+    let s = c .before .before .before .before .before .before in
+    let none = image-none (s .args .q) (c .if2 .taken) in
+    (λ pool. untaken-store (s .args .q) (s .args .b) _ none, untaken-runs (s .args .q) (s .args .b) none)
 
--- src/spare.rt:60:17
 cast-pages : tie.Need-cast-pages
 cast-pages c = search needs
 
--- src/spare.rt:61:9
 fitting-requires : tie.Need-fitting-requires
 fitting-requires c κs = search needs
 
--- src/spare.rt:62:9
 at-requires : tie.Need-at-requires
 at-requires c κs = search needs
 
--- src/spare.rt:64:9
 first-of-requires : tie.Need-first-of-requires
-first-of-requires c κs = ?
+first-of-requires c κs =
+    let s = c .before .before .before .before .before .before .before .before .before .before in
+    let ready = s .pre .1 .1 .1 .0 in
+    (near (s .args .images) (s .args .b .present) (ready .present) (ready .few), (s .pre .0, s .pre .1 .1 .0))
 
--- src/spare.rt:65:40
-cast-front-index : tie.Need-cast-front-index
-cast-front-index c = search needs
+cast-at : tie.Need-cast-at
+cast-at c = search needs
 
--- src/spare.rt:65:9
-front-index-requires : tie.Need-front-index-requires
-front-index-requires c κs = ?
+mul-at : tie.Need-mul-at
+mul-at c = search needs
 
--- src/spare.rt:66:61
+cast-at-2 : tie.Need-cast-at-2
+cast-at-2 c = search needs
+
+add-at : tie.Need-add-at
+add-at c = search needs
+
 count-requires : tie.Need-count-requires
 count-requires c κs = search needs
 
--- src/spare.rt:66:47
 lesser-requires : tie.Need-lesser-requires
 lesser-requires c κs = search needs
 
--- src/spare.rt:66:9
 grant-requires : tie.Need-grant-requires
-grant-requires c κs = ?
+grant-requires c κs =
+    let s = behind c in
+    let n = frames-here c in
+    let lengths = lengthsOf (s .args .b .runs) in (
+      omega (arith, sought c .first-of .ensures, s .pre .1 .0, s .pre .1 .1 .1 .1 .0, s .pre .1 .1 .1 .1 .1, n, granted-le (s .args .q .p2) lengths),
+      rw (run-here c) (omega (arith, n, granted-run (s .args .q .p2) lengths)),
+    )
 
--- src/spare.rt:71:15
 with-requires : tie.Need-with-requires
 with-requires c κs = search needs
 
--- src/spare.rt:37:1
 same-length : tie.Need-same-length
 same-length c = search needs
 
--- src/spare.rt:37:1
 returns-3 : tie.Need-returns-3
-returns-3 c = ?
+returns-3 c =
+    let granting = c .before .before .before .before .before in
+    let counting = granting .before in
+    let s = behind counting in
+    let named = chosen counting .before .before .before .before .before .if1 .left in
+    let image = chosen counting .before .before .before .if2 .left in
+    let place = chosen counting .before .fitting .result in (
+      λ pool. granting .grant .ensures .0 pool
+          ∙ taken-store (s .args .q) (s .args .b) (s .pre .0) named image place (counting .lesser .result) (chosen counting .at .result) (place-is counting)
+          (chosen counting .at .ensures) (counted counting) _ (sought counting .first-of .result) _ refl (sought counting .first-of .ensures),
+      c .with .ensures ∙ ap (λ (h : Held). withRunAt place h (s .args .b .runs)) (granting .grant .ensures .1)
+          ∙ taken-runs (s .args .q) (s .args .b) (s .pre .0) named image place (counting .lesser .result) (chosen counting .at .result) (place-is counting)
+          (chosen counting .at .ensures) (counted counting),
+    )
 
 pub map-spec : {M : Type 1} → statement M
 map-spec =
@@ -78,8 +132,10 @@ map-spec =
     fitting-requires
     at-requires
     first-of-requires
-    cast-front-index
-    front-index-requires
+    cast-at
+    mul-at
+    cast-at-2
+    add-at
     count-requires
     lesser-requires
     grant-requires

@@ -1,36 +1,45 @@
+-- The frame found is one of the pool that neither marks; that none is found is impossible, since there is one.
+use mathlib.Core.Path.{sym, ap, _∙_}
+use native.Mathlib.Omega.{arith}
 use borrow.Author.Needs.{needs}
+use Rattle.frames.specs.declared.Held.{Held}
+use Rattle.frames.specs.Frames.{held, greatest}
+use Rattle.frames.proofs.GreatestLaws.{greatest-found, greatest-all}
+use Rattle.memory.proofs.SpareLaws.{both-free, free-both}
 use Rattle.memory.proofs.spare.unheld_frame.Statement.{statement}
 use Rattle.memory.proofs.spare.unheld_frame.Tie as tie
-use Rattle.memory.proofs.spare.unheld_frame.Reads as reads
-use Rattle.memory.proofs.spare.unheld_frame.Lts as lts
-use Rattle.frames.proofs.Held.both.Reads as both-reads
-use Rattle.frames.proofs.Held.greatest_free.Reads as greatest-free-reads
 
--- src/spare.rt:130:9
 both-requires : tie.Need-both-requires
 both-requires c κs = search needs
 
--- src/spare.rt:131:9
 greatest-free-requires : tie.Need-greatest-free-requires
 greatest-free-requires c κs = search needs
 
--- src/spare.rt:133:21
 enum-known-found : tie.Need-enum-known-found
 enum-known-found c = search needs
 
--- src/spare.rt:134:23
 enum-told : tie.Need-enum-told
 enum-told c = search needs
 
--- src/spare.rt:123:1
 returns : tie.Need-returns
-returns c = ?
+returns c =
+    let s = c .before .before .before .before .before in
+    let free = c .before .before .before .greatest-free in
+    let both = c .before .before .before .before .both in
+    let g = greatest-found (held (both .result)) (s .args .frames) (c .before .found .given .0 .0) (sym (free .ensures) ∙ c .before .found .given .1) in
+    let f = c .before .found .given .0 .0 .0 in
+    let two = both-free (s .args .named) (s .args .kept) f (omega (arith, g .within, s .pre .0)) (ap (λ (h : Held). held h f) (sym (both .ensures)) ∙ g .free) in
+    (g .within, (two .0, two .1))
 
--- src/spare.rt:123:1
 returns-2 : tie.Need-returns-2
-returns-2 c = ?
+returns-2 c =
+    let s = c .before .before .before .before in
+    let free = c .before .before .greatest-free in
+    let both = c .before .before .before .both in
+    let there = s .pre .1 in
+    absurd (greatest-all (held (both .result)) (s .args .frames) (sym (free .ensures) ∙ c .enum-told .given .1) (there .0) (there .1 .0)
+    (ap (λ (h : Held). held h (there .0)) (both .ensures)
+    ∙ free-both (s .args .named) (s .args .kept) (there .0) (omega (arith, there .1 .0, s .pre .0)) (there .1 .1 .0) (there .1 .1 .1)))
 
 pub unheld-frame-spec : {M : Type 1} → statement M
-unheld-frame-spec =
-    tie.close
-    (tie.spec both-requires greatest-free-requires enum-known-found enum-told returns returns-2)
+unheld-frame-spec = tie.close (tie.spec both-requires greatest-free-requires enum-known-found enum-told returns returns-2)

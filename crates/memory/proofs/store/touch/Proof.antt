@@ -1,93 +1,198 @@
+-- A page without a front: a frame is given up where it must be, one that is then not held is there, and the page takes it.
+use mathlib.Core.Path.{_≡_, sym, ap, subst, _∙_}
+use Prim.Native.Nat.{ℕ, _*_, _/_, _≤_, _<_}
+use native.Mathlib.Omega.{arith}
+use lib.ListN.{length, getD}
+use Rattle.basics.proofs.TestLaws.{length-mapped}
+use Rattle.basics.proofs.ListLaws.{getD-any}
+use Rattle.interface.specs.declared.page.Slot.{Slot}
+use Rattle.interface.specs.Slots.{isCommitted, backingAt}
+use Rattle.marks.specs.declared.Marks.{Marks}
+use Rattle.table.specs.declared.source.Source.{Source}
+use Rattle.table.specs.Source.{sourceEnd}
+use Rattle.table.proofs.FiledLaws.{filed-ranged}
+use Rattle.kept.specs.Test.{keptTo}
+use Rattle.areas.specs.Areas.{slots}
+use Rattle.areas.proofs.FormedLaws.{near}
+use Rattle.state.specs.declared.sandbox.Sandbox.{Sandbox}
+use Rattle.state.specs.World.{World, worldOf, sandboxAt, closedSandbox, rowsOf}
+use Rattle.state.proofs.SharesLaws.{zeroSandbox}
+use Rattle.rules.proofs.FitLaws.{page-small}
+use Rattle.content.specs.Content.{sourceOf, pageUnder}
+use Rattle.content.proofs.ReadingLaws.{source-there}
+use Rattle.memory.specs.Parts.{ownFront, Asked, GaveUp}
+use Rattle.memory.proofs.SpareLaws.{gives, frame-there}
+use Rattle.memory.proofs.MemoryLaws.{touch-kept, touch-made}
 use borrow.Author.Needs.{needs}
 use Rattle.memory.proofs.store.touch.Statement.{statement}
 use Rattle.memory.proofs.store.touch.Tie as tie
-use Rattle.memory.proofs.store.touch.Reads as reads
-use Rattle.memory.proofs.store.touch.Lts as lts
-use Rattle.areas.proofs.area.Areas.slot.Reads as slot-reads
-use Rattle.areas.proofs.slot.backing_at.Reads as backing-at-reads
-use Rattle.areas.proofs.slot.is_committed.Reads as is-committed-reads
-use Rattle.content.proofs.read.source_of.Reads as source-of-reads
-use Rattle.memory.proofs.spare.give_up.Reads as give-up-reads
-use Rattle.memory.proofs.spare.unheld_frame.Reads as unheld-frame-reads
-use Rattle.state.proofs.sandbox.kept_marks.Reads as kept-marks-reads
-use Rattle.table.proofs.entry.front.Reads as front-reads
-use Rattle.table.proofs.store.take.Reads as take-reads
 
--- src/store.rt:121:13
+-- ---- what is handed in
+
+abbrev worldIn : tie.Start → World
+worldIn s = worldOf (s .args .machine) (s .args .pool .now) (s .args .table .now)
+
+-- the sandbox of the world, and as the code reads it
+abbrev own : tie.Start → Sandbox
+own s = sandboxAt (worldIn s) (s .args .q .sandbox)
+
+abbrev sandboxIn : tie.Start → Sandbox
+sandboxIn s = getD (s .args .machine .sandboxes) (s .args .q .sandbox) zeroSandbox
+
+four : (s : tie.Start) → length (s .args .machine .sandboxes) ≡ 4
+four s = search length-mapped
+
+same-sandbox : (s : tie.Start) → sandboxIn s ≡ own s
+same-sandbox s = let l = four s in getD-any (s .args .machine .sandboxes) (s .args .q .sandbox) zeroSandbox closedSandbox (omega (arith, s .pre .1 .row))
+
+abbrev asked : (s : tie.Start) → Asked (s .args .image .now) (s .args .frames) (s .args .images) (s .args .q) (worldIn s)
+asked s = s .pre .1
+
+small : (s : tie.Start) → s .args .q .p1 / 256 < 64
+small s = page-small (s .args .q .p1) (s .pre .1 .fit .written (s .pre .0) .0)
+
+-- ---- what is known behind each part
+
+abbrev fronted : tie.After-front → tie.Start
+fronted c = c .before .before .before .before .before .before .before .before .before .before .before .before
+
+front-is : (c : tie.After-front) → c .front .result ≡ ownFront (fronted c .args .q) (worldIn (fronted c) .store)
+front-is c = c .front .ensures
+
+abbrev bare : tie.Else1 → tie.Start
+bare c = fronted (c .before)
+
+no-front : (c : tie.Else1) → ownFront (bare c .args .q) (worldIn (bare c) .store) ≡ 0
+no-front c = sym (front-is (c .before)) ∙ c .if1 .left
+
+abbrev spared : tie.After-give-up → tie.Else1
+spared c = c .before .before .before .before
+
+-- what was given up
+gave : (c : tie.After-give-up) → let s = bare (spared c) in
+    GaveUp (gives (s .args .image .now) (s .args .frames) (s .args .images) (s .args .q) (worldIn s) (asked s) (s .pre .0) (no-front (spared c)))
+    (own s .runs) (keptTo (rowsOf (worldIn s)) 4 .held) (c .give-up .result)
+gave c =
+    let s = bare (spared c) in
+    let found = c .before .before .before .kept-marks in
+    let marks : found .result .held ≡ keptTo (rowsOf (worldIn s)) 4 .held = ap (λ (m : Marks). m .held) (found .ensures) in
+    rw (← marks, ← same-sandbox s) (c .give-up .ensures)
+
+abbrev framed : tie.After-unheld-frame → tie.After-give-up
+framed c = c .before .before .before
+
+abbrev looked : tie.After-source-of → tie.After-unheld-frame
+looked c = c .before .before .before .before .before
+
+abbrev behind : tie.After-source-of → tie.Start
+behind c = bare (spared (framed (looked c)))
+
+abbrev slot-of : tie.After-source-of → Slot
+slot-of c = slots (own (behind c) .present) (behind c .args .q .p1 / 256)
+
+slot-is : (c : tie.After-source-of) → c .before .before .before .slot .result ≡ slot-of c
+slot-is c = c .before .before .before .slot .ensures ∙ ap (λ (b : Sandbox). slots (b .present) (behind c .args .q .p1 / 256)) (same-sandbox (behind c))
+
+source-is : (c : tie.After-source-of) → c .source-of .result ≡ sourceOf (backingAt (slot-of c))
+source-is c = c .source-of .ensures ∙ ap sourceOf (c .before .backing-at .ensures ∙ ap backingAt (slot-is c))
+
+committed-is : (c : tie.After-source-of) → c .before .before .is-committed .result ≡ isCommitted (slot-of c)
+committed-is c = c .before .before .is-committed .ensures ∙ ap isCommitted (slot-is c)
+
+-- its image page is there
+source-here : (c : tie.After-source-of) → sourceEnd (c .source-of .result) * 256 ≤ length (behind c .args .image .now)
+source-here c =
+    let s = behind c in
+    subst (λ (x : Source). sourceEnd x * 256 ≤ length (s .args .image .now)) (sym (source-is c))
+    (source-there (s .args .image .now) (s .args .images) (own s .present) (asked s .ready .present) (asked s .whole) (s .args .q .p1 / 256))
+
+-- ---- the needs
+
 cast-s : tie.Need-cast-s
 cast-s c = search needs
 
--- src/store.rt:122:23
 cast-t28 : tie.Need-cast-t28
 cast-t28 c = search needs
 
--- src/store.rt:123:13
 cast-k : tie.Need-cast-k
 cast-k c = search needs
 
--- src/store.rt:125:13
 mul-b : tie.Need-mul-b
 mul-b c = search needs
 
--- src/store.rt:125:13
 array-copy-out-b : tie.Need-array-copy-out-b
 array-copy-out-b c = search needs
 
--- src/store.rt:128:9
 front-requires : tie.Need-front-requires
-front-requires c κs = ?
+front-requires c κs = let s = c .before .before .before .before .before .before .before .before .before .before .before in (asked s .row, (small s, asked s .filed .entries))
 
--- src/store.rt:130:9
 same-length : tie.Need-same-length
 same-length c = search needs
 
--- src/store.rt:130:9
 returns : tie.Need-returns
-returns c = ?
+returns c =
+    let s = fronted (c .before) in
+    rw (same-sandbox s)
+    (touch-kept (s .args .image .now) (s .args .frames) (s .args .images) (s .args .q) (worldIn s) (asked s) (s .pre .0)
+    (λ z. c .if1 .taken (front-is (c .before) ∙ z)))
 
--- src/store.rt:135:9
 kept-marks-requires : tie.Need-kept-marks-requires
 kept-marks-requires c κs = search needs
 
--- src/store.rt:137:9
 give-up-requires : tie.Need-give-up-requires
-give-up-requires c κs = ?
+give-up-requires c κs =
+    let bared = c .before .before .before in
+    let s = bare bared in
+    (asked s .row, (asked s .filed .entries, rw (same-sandbox s) (asked s .fits (s .pre .0) (no-front bared))))
 
--- src/store.rt:140:9
 unheld-frame-requires : tie.Need-unheld-frame-requires
-unheld-frame-requires c κs = ?
+unheld-frame-requires c κs =
+    let g = c .before .before in
+    let s = bare (spared g) in
+    (asked s .filed .few,
+    frame-there (s .args .image .now) (s .args .frames) (s .args .images) (s .args .q) (worldIn s) (asked s) (s .pre .0) (no-front (spared g))
+    (g .give-up .result) (gave g))
 
--- src/store.rt:142:9
 slot-requires : tie.Need-slot-requires
-slot-requires c κs = ?
+slot-requires c κs =
+    let s = bare (spared (framed (c .before))) in
+    (rw (same-sandbox s) (near (s .args .images) (own s .present) (asked s .ready .present) (asked s .ready .few)), small s)
 
--- src/store.rt:143:9
 is-committed-requires : tie.Need-is-committed-requires
 is-committed-requires c κs = search needs
 
--- src/store.rt:144:28
 backing-at-requires : tie.Need-backing-at-requires
 backing-at-requires c κs = search needs
 
--- src/store.rt:144:9
 source-of-requires : tie.Need-source-of-requires
 source-of-requires c κs = search needs
 
--- src/store.rt:145:9
 take-requires : tie.Need-take-requires
-take-requires c κs = ?
+take-requires c κs =
+    let found = c .before .before in
+    let s = behind found in
+    let low = looked found .unheld-frame .ensures .0 in
+    let filed = asked s .filed in (
+      asked s .row,
+      (small s, (filed-ranged 256 (s .args .frames) (worldIn s .store) filed, (source-here found, (omega (arith, low, filed .few), omega (arith, low, filed .pages))))),
+    )
 
--- src/store.rt:107:1
 same-length-2 : tie.Need-same-length-2
 same-length-2 c = search needs
 
--- src/store.rt:107:1
 same-length-3 : tie.Need-same-length-3
 same-length-3 c = search needs
 
--- src/store.rt:107:1
 returns-2 : tie.Need-returns-2
-returns-2 c = ?
+unfolding pageUnder
+returns-2 c =
+    let taken = c .before .before .before .before in
+    let found = taken .before .before .before in
+    let s = behind found in
+    let g = framed (looked found) in
+    let f = looked found .unheld-frame in
+    touch-made (s .args .image .now) (s .args .frames) (s .args .images) (s .args .q) (worldIn s) (asked s) (s .pre .0) _ (g .give-up .result) (f .result .0)
+    (no-front (spared g)) (gave g) (f .ensures .0) (f .ensures .1 .0) (f .ensures .1 .1) (rw (← committed-is found, ← source-is found) (taken .take .ensures))
 
 pub touch-spec : {M : Type 1} → statement M
 touch-spec =

@@ -1,46 +1,61 @@
+use Prim.Native.Nat.{_/_, _<_}
+use native.Mathlib.Omega.{arith}
+use Rattle.state.specs.World.{World, worldOf, sandboxAt}
+use Rattle.rules.proofs.FitLaws.{page-small}
+use Rattle.content.proofs.ReadingLaws.{source-there}
+use Rattle.memory.proofs.MemoryLaws.{touch-ranged, written}
 use borrow.Author.Needs.{needs}
 use Rattle.memory.proofs.store.write.Statement.{statement}
 use Rattle.memory.proofs.store.write.Tie as tie
-use Rattle.memory.proofs.store.write.Reads as reads
-use Rattle.memory.proofs.store.write.Lts as lts
-use Rattle.memory.proofs.store.touch.Reads as touch-reads
-use Rattle.table.proofs.store.store_byte.Reads as store-byte-reads
 
--- src/store.rt:99:9
+abbrev worldIn : tie.Start → World
+worldIn s = worldOf (s .args .machine) (s .args .pool .now) (s .args .table .now)
+
+small : (s : tie.Start) → s .args .q .p1 / 256 < 64
+small s = page-small (s .args .q .p1) (s .pre .1 .fit .written (s .pre .0) .0)
+
+-- behind the touch
+abbrev behind : tie.After-touch → tie.Start
+behind c = c .before .before .before .before .before .before
+
 touch-requires : tie.Need-touch-requires
 touch-requires c κs = search needs
 
--- src/store.rt:100:13
 cast-s : tie.Need-cast-s
 cast-s c = search needs
 
--- src/store.rt:101:23
 cast-store-byte : tie.Need-cast-store-byte
 cast-store-byte c = search needs
 
--- src/store.rt:102:52
 cast-store-byte-2 : tie.Need-cast-store-byte-2
 cast-store-byte-2 c = search needs
 
--- src/store.rt:102:72
 cast-store-byte-3 : tie.Need-cast-store-byte-3
-cast-store-byte-3 c = ?
+cast-store-byte-3 c = let s = behind (c .before .before .before .before .before .before .before .before .before .before) in omega (arith, s .pre .1 .fit .written (s .pre .0) .1)
 
--- src/store.rt:102:5
 store-byte-requires : tie.Need-store-byte-requires
-store-byte-requires c κs = ?
+store-byte-requires c κs =
+    let touching = c .before .before .before .before .before .before .before .before .before .before in
+    let s = behind touching in
+    let asked = s .pre .1 in
+    let own = sandboxAt (worldIn s) (s .args .q .sandbox) in
+    (asked .row, (small s,
+    touch-ranged (s .args .image .now) (s .args .frames) (s .args .images) (s .args .q) (worldIn s) asked (s .pre .0) _ _ (small s)
+    (source-there (s .args .image .now) (s .args .images) (own .present) (asked .ready .present) (asked .whole) (s .args .q .p1 / 256))
+    (touching .touch .ensures)))
 
--- src/store.rt:85:1
 same-length : tie.Need-same-length
 same-length c = search needs
 
--- src/store.rt:85:1
 same-length-2 : tie.Need-same-length-2
 same-length-2 c = search needs
 
--- src/store.rt:85:1
 returns : tie.Need-returns
-returns c = ?
+returns c =
+    let touching = c .before .before .before .before .before .before .before .before .before .before .before .before .before in
+    let s = behind touching in
+    written (s .args .image .now) (s .args .frames) (s .args .q) (worldIn s) _ _ (touching .touch .result .runs) (touching .touch .ensures) (s .pre .0)
+    (c .before .before .store-byte .ensures (touching .touch .result .held))
 
 pub write-spec : {M : Type 1} → statement M
 write-spec =

@@ -1,3 +1,4 @@
+use mathlib.Core.Path.{refl}
 use Rattle.frames.specs.declared.Held.{Held}
 use Rattle.table.specs.Store.{Store, kept}
 use Rattle.areas.specs.Areas.{Near}
@@ -63,12 +64,21 @@ frames-held-requires c κs = search needs
 cast-result-4 : tie.Need-cast-result-4
 cast-result-4 c = search needs
 
+kept-requires : tie.Need-kept-requires
+kept-requires c κs = search needs
+
+cast-result-5 : tie.Need-cast-result-5
+cast-result-5 c = search needs
+
+add-result : tie.Need-add-result
+add-result c = search needs
+
 returns-4 : tie.Need-returns-4
 returns-4 c = λ h.
-    let s = c .before .before .before .before .before .before .before .before .before .before in
-    let frames = c .frames-held in
-    report-value (s .args .image .now) (s .args .q) (s .args .b) (lent s h) (frames .result) (s .args .frames) (c .before .before .if4 .taken)
-    (s .pre .1 .1 .1 .1 .1 .1) (frames .ensures)
+    let s = c .before .before .before .before .before .before .before .before .before .before .before .before in
+    let frames = c .before .frames-held in
+    report-value (s .args .image .now) (s .args .q) (s .args .b) (lent s h) _ (frames .result) (c .kept .result) (s .args .frames) (c .before .before .before .before .if4 .taken)
+    (s .pre .1 .1 .1 .1 .1 .1) (frames .ensures) (c .kept .ensures .0) refl
 
 cast-lowest-difference : tie.Need-cast-lowest-difference
 cast-lowest-difference c = search needs
@@ -78,8 +88,8 @@ lowest-difference-requires c κs =
     let s = c .before .before .before .before .before .before .before .before .before .before in
     (s .pre .0, (s .pre .1 .1 .0, (s .pre .1 .1 .1 .0, s .pre .1 .1 .1 .1 .0)))
 
-cast-result-5 : tie.Need-cast-result-5
-cast-result-5 c = search needs
+cast-result-6 : tie.Need-cast-result-6
+cast-result-6 c = search needs
 
 returns-5 : tie.Need-returns-5
 returns-5 c = λ h.
@@ -109,9 +119,12 @@ value-of-spec =
     cast-frames-held
     frames-held-requires
     cast-result-4
+    kept-requires
+    cast-result-5
+    add-result
     returns-4
     cast-lowest-difference
     lowest-difference-requires
-    cast-result-5
+    cast-result-6
     returns-5
     returns-6)
