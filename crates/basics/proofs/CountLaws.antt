@@ -164,5 +164,6 @@ unfolding count
 count-once p zero h = omega arith
 count-once p (suc n) h =
     by-cases (p n)
-    (λ e. let z = count-zero p n (λ i l. by-cases (p i) (λ d. absurd (let x = h i n (omega arith) (omega arith) d e in omega arith)) (λ d. d)) in rw e (omega (arith, z)))
+    (λ e. let z = count-zero p n (λ i l. by-cases (p i) (λ d. absurd (let x = h i n (omega arith) (omega arith) d e in omega arith)) (λ d. d)) in rw e
+    (omega (arith, z)))
     (λ e. rw e (omega (arith, count-once p n (λ i j a b. h i j (omega arith) (omega arith)))))

@@ -65,7 +65,8 @@ unfolding best
 shortest-least l zero i d = absurd (omega arith)
 shortest-least l (suc n) i d =
     by-cases (leb (l n) (l (best noLonger l n)))
-    (λ e. let m : l n ≤ l (best noLonger l n) = leb-true _ _ e in rw e (last-or (λ j. l n ≤ l j) n i d (omega arith) (λ k. omega (arith, shortest-least l n i k))))
+    (λ e. let m : l n ≤ l (best noLonger l n) = leb-true _ _ e in rw e
+    (last-or (λ j. l n ≤ l j) n i d (omega arith) (λ k. omega (arith, shortest-least l n i k))))
     (λ e. let m : l (best noLonger l n) < l n = leb-false _ _ e in rw e (last-or (λ j. l (best noLonger l n) ≤ l j) n i d (omega arith) (shortest-least l n i)))
 
 -- ---- a place changed, and a row moved up
@@ -203,8 +204,10 @@ module _ {ℓ ℓ′} {A : Type ℓ} {B : Type ℓ′} (size : A → ℕ) (size�
         let w : Walk A = walkTo size n none starts add row m in
         let w′ : Walk B = walkTo size′ n none′ starts add′ row′ m in
         record {
-          rows = λ i l. by-cases (starts m) (λ x. rw x (push-same (w .row) (w′ .row) (w .current) (w′ .current) (ih .rows) (ih .current) i l)) (λ x. rw x (ih .rows i l));
-          current = by-cases (starts m) (λ x. rw x (more m none none′ u (first m) empty)) (λ x. rw x (more m (w .current) (w′ .current) u (ih .holds) (ih .current)));
+          rows = λ i l.
+              by-cases (starts m) (λ x. rw x (push-same (w .row) (w′ .row) (w .current) (w′ .current) (ih .rows) (ih .current) i l)) (λ x. rw x (ih .rows i l));
+          current =
+              by-cases (starts m) (λ x. rw x (more m none none′ u (first m) empty)) (λ x. rw x (more m (w .current) (w′ .current) u (ih .holds) (ih .current)));
           holds = by-cases (starts m) (λ x. rw x (next m none u (first m))) (λ x. rw x (next m (w .current) u (ih .holds)));
         }
 

@@ -54,4 +54,5 @@ module _ (w n : ℕ) (hw : w < 2 ^ 64) (hn : n ≤ 64) where
         let low : j < n = ⊎-elim (λ p. p) (λ p. absurd (not-le-of-lt below (le-trans (pow-mono p) (first .2)))) (lt-or-ge j n) in
         let unset : bit w j ≡ 0 = omega (arith, digit j low, bit-top j (freeOf w n) (first .2) (first .3)) in
         ap (λ (x : ℕ). Frame (record { 0 = x })) at
-        ∙ sym (greatest-is (bit w) n j low unset (λ k a b e. let d : 0 ≡ 1 - bit w k = sym (bit-above (suc j) (freeOf w n) k (first .3) a) ∙ digit k b in omega arith))
+        ∙ sym (greatest-is (bit w) n j low unset
+        (λ k a b e. let d : 0 ≡ 1 - bit w k = sym (bit-above (suc j) (freeOf w n) k (first .3) a) ∙ digit k b in omega arith))

@@ -45,7 +45,8 @@ unfolding greatest
 greatest-found p zero f e = absurd (let z : _≡_ {A = ℕ} 0 1 = cc in omega arith)
 greatest-found p (suc n) f e = go (eqb (p n) 0) refl e (greatest-found p n f)
   where
-    go : (t : Bool) → eqb (p n) 0 ≡ t → (Frame (record { 0 = n }) when t else greatest p n) ≡ Frame f → (greatest p n ≡ Frame f → Greatest p n (f .0)) → Greatest p (suc n) (f .0)
+    go : (t : Bool) → eqb (p n) 0 ≡ t → (Frame (record { 0 = n }) when t else greatest p n) ≡ Frame f → (greatest p n ≡ Frame f → Greatest p n (f .0))
+        → Greatest p (suc n) (f .0)
     go true q s ih =
         let g : _≡_ {A = FrameNo} (record { 0 = n }) f = cc in
         let m : n ≡ f .0 = ap (λ (x : FrameNo). x .0) g in
@@ -104,7 +105,8 @@ free-high h n l =
     ap (greatest (held h)) e ∙ greatest-add (held h) 64 (n - 64)
     ∙ ap₂ (after 64) (greatest-same (λ k. held h (64 + k)) (bit (h .high)) (n - 64) (λ k m. held-high h k)) (free-low h 64 (omega arith))
 
-pub free-found : (h : Held) (n : ℕ) (f : FrameNo) → 64 ≤ n → greatest (bit (h .high)) (n - 64) ≡ Frame f → Frame (record { 0 = 64 + f .0 }) ≡ greatest (held h) n
+pub free-found : (h : Held) (n : ℕ) (f : FrameNo) → 64 ≤ n → greatest (bit (h .high)) (n - 64) ≡ Frame f
+    → Frame (record { 0 = 64 + f .0 }) ≡ greatest (held h) n
 free-found h n f l e = sym (free-high h n l ∙ ap (λ (r : Free). after 64 r (greatest (bit (h .low)) 64)) e)
 
 pub free-rest : (h : Held) (n : ℕ) → 64 ≤ n → greatest (bit (h .high)) (n - 64) ≡ None → greatest (bit (h .low)) 64 ≡ greatest (held h) n

@@ -141,7 +141,8 @@ pub least-words : (h : Held) (low high : ℕ) → low ≡ lowest (λ k. eqb (bit
     → (low when ltb low 64 else 64 + high) ≡ leastHeld h
 unfolding leastHeld
 least-words h low high a b =
-    let l : lowest (λ f. eqb (held h f) 1) 0 64 ≡ low = lowest-same (λ f. eqb (held h f) 1) (λ k. eqb (bit (h .low) k) 1) 0 64 (λ i d. rw (held-low h i d)) ∙ sym a in
+    let l : lowest (λ f. eqb (held h f) 1) 0 64 ≡ low = lowest-same (λ f. eqb (held h f) 1) (λ k. eqb (bit (h .low) k) 1) 0 64 (λ i d. rw (held-low h i d))
+    ∙ sym a in
     let u : lowest (λ f. eqb (held h f) 1) 64 64 ≡ 64 + high =
     lowest-above (λ f. eqb (held h f) 1) (λ k. eqb (bit (h .high) k) 1) 64 0 (λ i. rw (held-high h i)) 64 ∙ ap (λ (x : ℕ). 64 + x) (sym b) in
     sym (lowest-parts (λ f. eqb (held h f) 1) 0 64 64 ∙ rw (l, u))

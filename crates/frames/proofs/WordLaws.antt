@@ -1,7 +1,8 @@
 -- Laws of a word's bits, for any number and any place.
 use mathlib.Core.Path.{_≡_, refl, sym, ap, ap₂, _∙_}
 use Prim.Native.Nat.{ℕ, zero, suc, _+_, _-_, _*_, _/_, _%_, _^_, _≤_, _<_}
-use native.Mathlib.Nat.{div-div-eq-div-mul, mul-comm, mul-assoc, pow-suc, mod-lt, mod-le, le-trans, mul-le-mul-right, div-mul-le-self, zero-lt-suc, div-eq-of-lt, not-suc-le-zero, lt-of-lt-of-le}
+use native.Mathlib.Nat.{div-div-eq-div-mul, mul-comm, mul-assoc, pow-suc, mod-lt, mod-le, le-trans, mul-le-mul-right}
+use native.Mathlib.Nat.{div-mul-le-self, zero-lt-suc, div-eq-of-lt, not-suc-le-zero, lt-of-lt-of-le}
 use native.Mathlib.Omega.{arith}
 use lib.Arith.{lt-one, digits-div}
 use lib.Pow.{pow-mono}
@@ -119,7 +120,8 @@ pub word-ext : (n w v : ℕ) → w < 2 ^ n → v < 2 ^ n → ((k : ℕ) → k < 
 word-ext zero w v hw hv h = lt-one hw ∙ sym (lt-one hv)
 word-ext (suc n) w v hw hv h =
     let low : w % 2 ≡ v % 2 = sym (bit-zero w) ∙ h 0 (omega arith) ∙ bit-zero v in
-    let high : w / 2 ≡ v / 2 = word-ext n (w / 2) (v / 2) (half-lt w n hw) (half-lt v n hv) (λ k l. sym (bit-suc w k) ∙ h (suc k) (omega arith) ∙ bit-suc v k) in
+    let high : w / 2 ≡ v / 2 = word-ext n (w / 2) (v / 2) (half-lt w n hw) (half-lt v n hv)
+    (λ k l. sym (bit-suc w k) ∙ h (suc k) (omega arith) ∙ bit-suc v k) in
     omega arith
 
 -- the highest bit that is set, and the places above it

@@ -1,7 +1,9 @@
 -- The number and value of each answer, as document 01 gives them.
 use Prim.Native.Nat.{ℕ}
 use Rattle.interface.specs.declared.answer.Refusal.{Refusal}
-use Rattle.interface.specs.declared.answer.Refusal.the-variants.{Malformed, NoSuchCall, Unsound, NotOpen, AlreadyOpen, OutsideLimits, SnapshotTaken, NoSnapshot, NotMapped, AlreadyMapped, NoGap, NotWritable, ShareExceeded, TooManyAreas}
+use Rattle.interface.specs.declared.answer.Refusal.the-variants.{Malformed, NoSuchCall, Unsound, NotOpen, AlreadyOpen, OutsideLimits}
+use Rattle.interface.specs.declared.answer.Refusal.the-variants.{SnapshotTaken, NoSnapshot, NotMapped, AlreadyMapped, NoGap, NotWritable}
+use Rattle.interface.specs.declared.answer.Refusal.the-variants.{ShareExceeded, TooManyAreas}
 use Rattle.interface.specs.declared.answer.Answer.{Answer}
 use Rattle.interface.specs.declared.answer.Answer.the-variants.{Value, Refused}
 

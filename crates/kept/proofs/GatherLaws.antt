@@ -53,7 +53,9 @@ module _ (st : Store) (s : ℕ) (f : Slots) (r : Runs) (eight : length (r .list)
       by-cases (startsArea f m)
       (λ e. record {
         whole = rw e (pushed-length (w .runs) (w .current) (ih .whole));
-        rows = λ i l. rw e (pushed-row (w .runs) (w .current) (ih .whole) i l ∙ push-same (row (w .runs)) (v .row) (w .current) (ih .rows) i l ∙ ap (λ (h : Held). push countHeld 8 (v .row) h i) (ih .hand));
+        rows = λ i l.
+            rw e (pushed-row (w .runs) (w .current) (ih .whole) i l ∙ push-same (row (w .runs)) (v .row) (w .current) (ih .rows) i l
+            ∙ ap (λ (h : Held). push countHeld 8 (v .row) h i) (ih .hand));
         hand = rw e;
       })
       (λ e. record { whole = rw e (ih .whole); rows = λ i l. rw e (ih .rows i l); hand = rw e (ap (gather st s f m) (ih .hand)) })
@@ -64,6 +66,8 @@ module _ (st : Store) (s : ℕ) (f : Slots) (r : Runs) (eight : length (r .list)
       let a = along 64 in
       let w : Gathering = gatherTo st s f r 64 in
       let v : Walk Held = walkTo countHeld 8 noneHeld (startsArea f) (gather st s f) (row r) 64 in
-      same-runs (pushed (w .runs) (w .current)) (tabled (rowRewound st s f (row r))) (pushed-length (w .runs) (w .current) (a .whole)) (tabled-length (rowRewound st s f (row r)))
-      (λ i l. pushed-row (w .runs) (w .current) (a .whole) i l ∙ push-same (row (w .runs)) (v .row) (w .current) (a .rows) i l ∙ ap (λ (h : Held). push countHeld 8 (v .row) h i) (a .hand)
+      same-runs (pushed (w .runs) (w .current)) (tabled (rowRewound st s f (row r))) (pushed-length (w .runs) (w .current) (a .whole))
+      (tabled-length (rowRewound st s f (row r)))
+      (λ i l. pushed-row (w .runs) (w .current) (a .whole) i l ∙ push-same (row (w .runs)) (v .row) (w .current) (a .rows) i l
+      ∙ ap (λ (h : Held). push countHeld 8 (v .row) h i) (a .hand)
       ∙ sym (tabled-row (rowRewound st s f (row r)) i l))

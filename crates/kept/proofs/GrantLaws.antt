@@ -42,7 +42,11 @@ unfolding leftOf
 left-le run zero f = omega arith
 left-le run (suc j) f =
     ⊎-elim
-    (λ e. omega (arith, ap (held (mark (leftOf run j) (leastHeld (leftOf run j)) 0)) e, held-mark-same (leftOf run j) (leastHeld (leftOf run j)) 0 (omega arith)))
+    (λ e. omega (
+      arith,
+      ap (held (mark (leftOf run j) (leastHeld (leftOf run j)) 0)) e,
+      held-mark-same (leftOf run j) (leastHeld (leftOf run j)) 0 (omega arith),
+    ))
     (λ e. omega (arith, left-le run j f, held-mark-other (leftOf run j) (leastHeld (leftOf run j)) 0 f (omega arith) e)) (same-or f (leastHeld (leftOf run j)))
 
 -- ---- the fronts
@@ -90,7 +94,8 @@ module _ {C : ℕ → Type 0} (size n first : ℕ) (run : Held) (st : Store) (T 
             omega (arith, z, b, x, y, ih .marks g d))
             (λ e. let a = held-mark-other (s .marks) f 1 g (omega arith) e in
             let b = held-mark-other left f 0 g (omega arith) e in
-            let z : held (take size (first + j) f (zeros size) s .marks) g ≡ held (s .marks) g = ap (λ (h : Held). held h g) (take-marks size (first + j) f s) ∙ a in
+            let z : held (take size (first + j) f (zeros size) s .marks) g ≡ held (s .marks) g = ap (λ (h : Held). held h g) (take-marks size (first + j) f s)
+            ∙ a in
             omega (arith, z, b, ih .marks g d)) (same-or g f);
       }
 
@@ -118,6 +123,7 @@ module _ (size n first : ℕ) (st : Store) (rows : Rows) (s c m : ℕ) (row : s 
       (λ f l. omega (arith, kept-with rows s c (leftOf (rows s c) m) f row run, left-le (rows s c) m f))
 
 -- the lengths of the runs are those of the plain machine: one run has so many fewer
-pub lengths-less : (row : ℕ → Held) (c m i : ℕ) → m ≤ countHeld (row c) → lengths (inPlace c (leftOf (row c) m) row) i ≡ inPlace c (lengths row c - m) (lengths row) i
+pub lengths-less : (row : ℕ → Held) (c m i : ℕ) → m ≤ countHeld (row c)
+    → lengths (inPlace c (leftOf (row c) m) row) i ≡ inPlace c (lengths row c - m) (lengths row) i
 lengths-less row c m i h =
     by-cases (eqb c i) (λ e. rw e (omega (arith, left-count (row c) m h))) (λ e. rw e)

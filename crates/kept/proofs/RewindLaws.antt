@@ -39,9 +39,11 @@ pub free-entry : (size k : ℕ) (s : Store) (j : ℕ) → (entry (free size k s)
 unfolding free put
 free-entry size k s j =
     when-cases (λ (r : Store). (entry r j ≡ entry s j) ⊎ (entry r j ≡ 0)) (eqb (entry s k) 0) (λ _. inl refl)
-    (λ _. ⊎-elim (λ e. inr (ap (λ (x : ℕ). getD (set (s .table) k 0) x 0) e ∙ getD-clear (s .table) k)) (λ e. inl (getD-set-other (s .table) k j 0 0 e)) (same-or j k))
+    (λ _. ⊎-elim (λ e. inr (ap (λ (x : ℕ). getD (set (s .table) k 0) x 0) e ∙ getD-clear (s .table) k)) (λ e. inl (getD-set-other (s .table) k j 0 0 e))
+    (same-or j k))
 
-page-entry : (size k j : ℕ) (keep : Bool) (bytes : List ℕ) (s : Store) (i : ℕ) → (entry (rewindPage size k j keep bytes s) i ≡ entry s i) ⊎ (entry (rewindPage size k j keep bytes s) i ≡ 0)
+page-entry : (size k j : ℕ) (keep : Bool) (bytes : List ℕ) (s : Store) (i : ℕ)
+    → (entry (rewindPage size k j keep bytes s) i ≡ entry s i) ⊎ (entry (rewindPage size k j keep bytes s) i ≡ 0)
 unfolding rewindPage
 page-entry size k j true bytes s i = inl (fill-entry size k (pageFrom bytes (contents size s j)) s i)
 page-entry size k j false bytes s i = free-entry size k s i
@@ -112,7 +114,8 @@ module _ (size n : ℕ) (st : Store) (F : Filed size n st) (s : ℕ) (f : Slots)
             ⊎-elim
             (λ u. let none : count (goes g) 64 ≡ 0 = count-zero (goes g) 64 (λ i d. by-cases (goes g i)
             (λ e. absurd (let y = F .names .marked (frontOf s i) g (named g i e) in omega arith)) (λ e. e)) in omega arith)
-            (λ u. let few = count-once (goes g) 64 (λ i j a b d e. let y = F .names .once (frontOf s i) (frontOf s j) g (named g i d) (named g j e) in omega arith) in omega arith)
+            (λ u. let few = count-once (goes g) 64
+            (λ i j a b d e. let y = F .names .once (frontOf s i) (frontOf s j) g (named g i d) (named g j e) in omega arith) in omega arith)
             (held-or (st .marks) g)
 
         still : held (after .marks) g ≡ 1 → held (after .marks) g + count (goes g) 64 ≤ held (st .marks) g
@@ -146,7 +149,8 @@ module _ (size n : ℕ) (st : Store) (F : Filed size n st) (s : ℕ) (f : Slots)
       (λ e. let some : entry st (frontOf s i) ≡ 0 → ⊥ = eqb-false _ 0 (not-true _ (and-left (not (eqb (entry st (frontOf s i)) 0)) _ e)) in
       ⊎-elim
       (λ d z. (i, (omega arith, omega (arith, d))))
-      (λ d. rw e (λ z. let y = h g l (sym (held-mark-other a (entry st (frontOf s i) - 1) 1 g (omega arith) d) ∙ z) in (y .0, (omega (arith, y .1 .0), y .1 .1))))
+      (λ d. rw e (λ z. let y = h g l (sym (held-mark-other a (entry st (frontOf s i) - 1) 1 g (omega arith) d) ∙ z) in
+      (y .0, (omega (arith, y .1 .0), y .1 .1))))
       (same-or g (entry st (frontOf s i) - 1)))
       (λ e. rw e (λ z. let y = h g l z in (y .0, (omega (arith, y .1 .0), y .1 .1))))
 
@@ -169,6 +173,7 @@ module _ (size n : ℕ) (st : Store) (F : Filed size n st) (s : ℕ) (f : Slots)
       → (i : ℕ) → i < runPlaces → lengths (rowRewound st s f row) i ≡ runsRewound f front runs i
   unfolding rowRewound runsRewound
   rewind-lengths row front runs same fronts =
-      walked-same countHeld (λ (x : ℕ). x) runPlaces (omega arith) noneHeld 0 (startsArea f) (gather st s f) (λ i x. x + one (front i && isSpared (f i))) row runs 64
+      walked-same countHeld (λ (x : ℕ). x) runPlaces (omega arith) noneHeld 0 (startsArea f) (gather st s f)
+      (λ i x. x + one (front i && isSpared (f i))) row runs 64
       Before (λ i g l e. absurd (omega (arith, e, held-zero g))) (λ i a l h. before-next i a h) (none-count noneHeld (λ g l. held-zero g))
       (λ i a b l h e. gather-count i a h ∙ rw (e, fronts i l)) same 64 (omega arith)

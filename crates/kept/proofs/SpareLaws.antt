@@ -75,7 +75,8 @@ module _ (size n : ℕ) (st r : Store) (rows rows′ : Rows) (F : Filed size n s
       }
 
 -- fewer are kept
-pub spare-fewer : (size n : ℕ) (st : Store) (rows rows′ : Rows) → Spare size n st rows → ((f : ℕ) → f < 128 → keptAt rows′ f ≤ keptAt rows f) → n ≤ 128 → Spare size n st rows′
+pub spare-fewer : (size n : ℕ) (st : Store) (rows rows′ : Rows) → Spare size n st rows → ((f : ℕ) → f < 128 → keptAt rows′ f ≤ keptAt rows f) → n ≤ 128
+    → Spare size n st rows′
 spare-fewer size n st rows rows′ S less few =
     record {
       once = λ f l. omega (arith, S .once f l, less f l);

@@ -32,7 +32,8 @@ kept-same rows rows′ e f =
     sum-same (λ s. sum (λ i. held (rows s i) f) runPlaces) (λ s. sum (λ i. held (rows′ s i) f) runPlaces) 4
     (λ s l. sum-same (λ i. held (rows s i) f) (λ i. held (rows′ s i) f) runPlaces (λ i d. ap (λ (h : Held). held h f) (e s i l d)))
 
-pub spare-rows : (size n : ℕ) (st : Store) (rows rows′ : Rows) → ((s i : ℕ) → s < 4 → i < runPlaces → rows s i ≡ rows′ s i) → Spare size n st rows → Spare size n st rows′
+pub spare-rows : (size n : ℕ) (st : Store) (rows rows′ : Rows) → ((s i : ℕ) → s < 4 → i < runPlaces → rows s i ≡ rows′ s i) → Spare size n st rows
+    → Spare size n st rows′
 spare-rows size n st rows rows′ e S =
     let same = kept-same rows rows′ e in
     record {
@@ -124,7 +125,8 @@ frame-low size n st F k = by-entry (entry st k - 1 < 128) (entry st k) (λ e. om
 pub rewound-words : (size n : ℕ) (st : Store) → Filed size n st → (s : ℕ) (f : Slots) (row : Row) → Words row → Words (rowRewound st s f row)
 unfolding rowRewound
 rewound-words size n st F s f row W =
-    let all = walked-all TwoWords countHeld runPlaces noneHeld (startsArea f) (gather st s f) row (omega arith, omega arith) grow (λ i l. (W .low i l, W .high i l)) 64 in
+    let all = walked-all TwoWords countHeld runPlaces noneHeld (startsArea f) (gather st s f) row (omega arith, omega arith) grow
+    (λ i l. (W .low i l, W .high i l)) 64 in
     record { low = λ i l. all i l .0; high = λ i l. all i l .1 }
   where
     grow : (i : ℕ) (a : Held) → TwoWords a → TwoWords (gather st s f i a)

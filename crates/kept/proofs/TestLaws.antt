@@ -1,25 +1,27 @@
 -- The test of the kept frames says what `Spare` says.
 use mathlib.Core.Path.{_≡_, refl, sym, ap, _∙_}
+use mathlib.Core.Logic.{⊎-elim}
 use mathlib.Core.Bool.{Bool, true, false, _&&_}
 use mathlib.Core.List.{List, [], _∷_}
-use Prim.Native.Nat.{ℕ, zero, suc, _+_, _*_, _^_, _≤_, _<_, max}
+use Prim.Native.Nat.{ℕ, zero, suc, _+_, _*_, _^_, _≤_, _<_}
 use native.Mathlib.Numerals.{add-one}
 use native.Mathlib.Omega.{arith}
 use lib.Dec.{eqb, ltb}
 use lib.ListN.{length, getD}
-use borrow.Author.Tests.{eqb-true, eqb-false, eq-eqb, ltb-true, ltb-false, lt-ltb, le-ltb}
+use borrow.Author.Tests.{eqb-true, eqb-false, eq-eqb, ltb-true, ltb-false, lt-ltb}
 use Rattle.basics.specs.Choice.{implies}
 use Rattle.basics.specs.Ranges.{sum, every}
-use Rattle.basics.proofs.TestLaws.{by-cases, and-both, and-of, implied, implies-of}
+use Rattle.basics.proofs.TestLaws.{by-cases, never, both-ways, and-both, and-of, implied, implies-of}
 use Rattle.basics.proofs.LoopLaws.{every-at, every-of}
 use Rattle.interface.specs.Runs.{runPlaces}
 use Rattle.frames.specs.declared.Held.{Held}
-use Rattle.frames.specs.Frames.{held, noneHeld, bothHeld, apartHeld}
-use Rattle.frames.proofs.FrameLaws.{held-lt, held-zero}
-use Rattle.frames.proofs.PairLaws.{held-both, both-low, both-high, apart-true, apart-of}
-use Rattle.pages.specs.Parts.{frame, zeros, listed}
+use Rattle.frames.specs.Frames.{held, mark, countHeld, leastHeld, apartHeld}
+use Rattle.frames.proofs.FrameLaws.{held-lt, held-zero, held-mark-other, count-none}
+use Rattle.frames.proofs.PairLaws.{held-both, both-low, both-high, apart-true, apart-of, least-found}
+use Rattle.pages.specs.Parts.{frame, zeros}
 use Rattle.pages.proofs.PartLaws.{fits-pool, length-frame}
 use Rattle.marks.specs.declared.Marks.{Marks}
+use Rattle.marks.proofs.NamedLaws.{same-or}
 use Rattle.table.specs.Store.{Store, Filed}
 use Rattle.kept.specs.Spare.{Row, Rows, keptIn, keptAt, Spare, Words}
 use Rattle.kept.specs.Test.{addRun, runsTo, keptTo, blankb, frameOk, spareb}
@@ -31,7 +33,8 @@ record Found (seen : ℕ → ℕ) (m : Marks) : Type 0 where
   marks : (f : ℕ) → f < 128 → held (m .held) f ≡ seen f
   few : (f : ℕ) → f < 128 → seen f ≤ 1
 
-add-found : (seen : ℕ → ℕ) (m : Marks) (run : Held) → (m .good ≡ true → Found seen m) → addRun m run .good ≡ true → Found (λ f. seen f + held run f) (addRun m run)
+add-found : (seen : ℕ → ℕ) (m : Marks) (run : Held) → (m .good ≡ true → Found seen m) → addRun m run .good ≡ true
+    → Found (λ f. seen f + held run f) (addRun m run)
 add-found seen m run ih e =
     let both = and-both (apartHeld (m .held) run) (m .good) e in
     let old = ih (both .1) in
@@ -135,7 +138,8 @@ spare-true n st rows F h =
     let found = kept-found rows 4 (h₁ .0) in
     let ok : (f : ℕ) → f < 128 → held (keptTo rows 4 .held) f ≡ 1 → (ltb f n ≡ true) × (blankb (st .pool) f ≡ true) =
     λ f l e. and-both (ltb f n) (blankb (st .pool) f)
-    (implied (eqb (held (keptTo rows 4 .held) f) 1) (ltb f n && blankb (st .pool) f) (every-at (frameOk n (st .pool) (keptTo rows 4 .held)) 0 128 (h₂ .1) f (omega arith) (omega arith)) (eq-eqb _ 1 e)) in
+    (implied (eqb (held (keptTo rows 4 .held) f) 1) (ltb f n && blankb (st .pool) f)
+    (every-at (frameOk n (st .pool) (keptTo rows 4 .held)) 0 128 (h₂ .1) f (omega arith) (omega arith)) (eq-eqb _ 1 e)) in
     record {
       once = λ f l. omega (arith, apart-true (st .marks) (keptTo rows 4 .held) (h₂ .0) f, found .marks f l);
       ofPool = λ f a l. by-cases (eqb (held (keptTo rows 4 .held) f) 1)
@@ -171,12 +175,34 @@ pub runs-more : (row : Row) (found m : Marks) (i : ℕ) (run : Held) → m ≡ r
 unfolding runsTo
 runs-more row found m i run a b = rw (add-one i) (rw (a, b))
 
-module _ (n : ℕ) (pool : List ℕ) (kept : Held) (f : ℕ) (t : Bool) (is : t ≡ eqb (held kept f) 1) where
-  pub frame-unkept : t ≡ false → true ≡ frameOk n pool kept f
-  frame-unkept e = rw (← is, e)
+-- the kept frames, one by one
 
-  pub frame-past : t ≡ true → n ≤ f → false ≡ frameOk n pool kept f
-  frame-past e h = rw (← is, e, le-ltb f n h)
+every-same : (P Q : ℕ → Bool) (n : ℕ) → ((i : ℕ) → P i ≡ Q i) → every P 0 n ≡ every Q 0 n
+every-same P Q n e =
+    both-ways _ _ (λ h. every-of Q 0 n (λ i a b. sym (e i) ∙ every-at P 0 n h i a b)) (λ h. every-of P 0 n (λ i a b. e i ∙ every-at Q 0 n h i a b))
 
-  pub frame-tested : t ≡ true → f < n → (x : Bool) → x ≡ blankb pool f → x ≡ frameOk n pool kept f
-  frame-tested e h x d = d ∙ rw (← is, e, lt-ltb f n h)
+pub least-there : (kept : Held) → 1 ≤ countHeld kept → (f : ℕ) → f ≡ leastHeld kept → (f < 128) × (held kept f ≡ 1)
+least-there kept some f least = rw least (least-found kept some)
+
+module _ (n : ℕ) (pool : List ℕ) (kept : Held) where
+  pub none-left : countHeld kept ≡ 0 → every (frameOk n pool kept) 0 128 ≡ true
+  none-left e = every-of (frameOk n pool kept) 0 128 (λ f a b. rw (count-none kept e f b))
+
+  module _ (some : 1 ≤ countHeld kept) (f : ℕ) (least : f ≡ leastHeld kept) (t : Bool) (is : t ≡ (ltb f n && blankb pool f)) where
+    pub least-fails : t ≡ false → every (frameOk n pool kept) 0 128 ≡ false
+    least-fails e =
+        let there = least-there kept some f least in
+        by-cases (every (frameOk n pool kept) 0 128)
+        (λ h. let passes = every-at (frameOk n pool kept) 0 128 h f (omega arith) (there .0) in
+        never t (is ∙ implied (eqb (held kept f) 1) (ltb f n && blankb pool f) passes (eq-eqb _ 1 (there .1))) e)
+        (λ h. h)
+
+    -- it passes with its mark or without
+    pub least-passes : t ≡ true → every (frameOk n pool kept) 0 128 ≡ every (frameOk n pool (mark kept f 0)) 0 128
+    least-passes e =
+        every-same (frameOk n pool kept) (frameOk n pool (mark kept f 0)) 128
+        (λ g. ⊎-elim
+        (λ d. implies-of (eqb (held kept g) 1) (ltb g n && blankb pool g) (λ x. rw d (sym is ∙ e))
+        ∙ sym (implies-of (eqb (held (mark kept f 0) g) 1) (ltb g n && blankb pool g) (λ x. rw d (sym is ∙ e))))
+        (λ d. ap (λ m. implies (eqb m 1) (ltb g n && blankb pool g)) (sym (held-mark-other kept f 0 g (omega arith) d)))
+        (same-or g f))

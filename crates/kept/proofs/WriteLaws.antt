@@ -41,7 +41,8 @@ module _ (size n : ℕ) (st : Store) (rows : Rows) (s c g : ℕ) (row : s < 4) (
       (omega (arith, a, b), omega (arith, a, kept-with rows s c (mark (rows s c) g 0) g row run, held-mark-same (rows s c) g 0 (omega arith)))
 
 -- the lengths are the plain machine's: the run has one fewer
-pub given-lengths : (row : ℕ → Held) (c g i : ℕ) → g < 128 → held (row c) g ≡ 1 → lengths (inPlace c (mark (row c) g 0) row) i ≡ inPlace c (lengths row c - 1) (lengths row) i
+pub given-lengths : (row : ℕ → Held) (c g i : ℕ) → g < 128 → held (row c) g ≡ 1
+    → lengths (inPlace c (mark (row c) g 0) row) i ≡ inPlace c (lengths row c - 1) (lengths row) i
 given-lengths row c g i l e = by-cases (eqb c i) (λ d. rw d (omega (arith, count-without (row c) g l e))) (λ d. rw d)
 
 -- ---- a frame that is not held is taken
@@ -57,7 +58,8 @@ take-spare size n st rows k f ys F S place empty low idle unkept whole =
     (λ g T. take-tidy size n st T k f ys place empty low idle whole)
     (λ g l. ⊎-elim
     (λ e. let a : keptAt rows g ≡ 0 = ap (keptAt rows) e ∙ unkept in omega (arith, a, held-lt (take size k f ys st .marks) g))
-    (λ e. let a : held (take size k f ys st .marks) g ≡ held (st .marks) g = ap (λ (h : Held). held h g) (take-marks size k f ys st) ∙ held-mark-other (st .marks) f 1 g (omega arith) e in
+    (λ e. let a : held (take size k f ys st .marks) g ≡ held (st .marks) g = ap (λ (h : Held). held h g) (take-marks size k f ys st)
+    ∙ held-mark-other (st .marks) f 1 g (omega arith) e in
     omega (arith, a, S .once g l)) (same-or g f))
     (λ g l. omega arith)
 

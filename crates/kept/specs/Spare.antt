@@ -1,4 +1,5 @@
--- runPlaces of kept frames beside the store. The store's marks stay those of the frames that entries name; a kept frame is marked in its run, and in nothing else.
+-- Runs of kept frames beside the store. The store's marks stay those of the frames that entries name;
+-- a kept frame is marked in its run, and in nothing else.
 use mathlib.Core.Path.{_≡_}
 use mathlib.Core.Bool.{Bool, not, _&&_}
 use mathlib.Core.List.{List}
@@ -71,7 +72,8 @@ unfoldable pub leftOf : Held → ℕ → Held
 leftOf run zero = run
 leftOf run (suc j) = mark (leftOf run j) (leastHeld (leftOf run j)) 0
 
--- 'The first new pages get these frames as fronts, smallest frame number first': the j entries from first on take the j smallest frames of a run, which are zero
+-- 'The first new pages get these frames as fronts, smallest frame number first':
+-- the j entries from first on take the j smallest frames of a run, which are zero
 unfoldable pub grantTo : ℕ → ℕ → Held → Store → ℕ → Store
 grantTo size first run st zero = st
 grantTo size first run st (suc j) = take size (first + j) (leastHeld (leftOf run j)) (zeros size) (grantTo size first run st j)

@@ -1,10 +1,12 @@
 // Kept frames beside the store of pages (A3): the marks of the runs, and the test that kept frames are "held and zero, belong to one run and no entry".
-// It promises: the passes are those of specs/Test; by its laws (proofs/) the test is true exactly where `Spare` holds, and each operation on the store keeps it.
+// It promises: the passes are those of specs/Test; by its laws (proofs/) the test is true exactly where `Spare` holds,
+// and each operation on the store keeps it.
 // It stands on `runs` for the runs, on `marks` for what a pass finds, on `pool` for the bytes of a frame and on `table` for the store.
 ghost use mathlib.Core.Path.{_≡_};
+ghost use mathlib.Core.Bool.{_&&_};
 ghost use mathlib.Core.List.{List};
 ghost use Prim.Native.Nat.{ℕ, _+_, _*_, _≤_, _<_};
-ghost use lib.Dec.{eqb};
+ghost use lib.Dec.{eqb, ltb};
 ghost use lib.ListN.{length, getD, set};
 ghost use Rattle.basics.specs.Ranges.{every};
 ghost use Rattle.frames.specs.Frames.{mark, countHeld, leastHeld};
@@ -40,28 +42,30 @@ fn add_run(found: Marks, run: Held) -> Marks
     }
 }
 
-// Whether every kept frame is one of the pool, and zero.
+// Whether every kept frame is one of the pool, and zero: each is looked at, the smallest first, and no other.
 pub fn frames_ok(kept: Held, pool: &[u8], frames: u8) -> bool
     requires { ⌜ frames ≤ 128 ⌝ }
     requires { ⌜ length (now pool) ≡ frames * 256 ⌝ }
     ensures { λ r. ⌜ r ≡ every (frameOk frames (now (pool .entry)) kept) 0 128 ⌝ }
 {
-    for f in 0..128u8 {
-        if !frame_ok(kept, pool, frames, FrameNo(f)) {
+    let mut rest = kept;
+    let mut left = kept.count();
+    while left > 0 {
+        let f = rest.least();
+        if !frame_ok(pool, frames, FrameNo(f)) {
             return false;
         }
+        rest = rest.without(FrameNo(f));
+        left -= 1;
     }
     true
 }
 
-fn frame_ok(kept: Held, pool: &[u8], frames: u8, f: FrameNo) -> bool
-    requires { ⌜ f .0 < 128 ⌝ }
+// Whether a frame is one of the pool, and zero.
+fn frame_ok(pool: &[u8], frames: u8, f: FrameNo) -> bool
     requires { ⌜ length (now pool) ≡ frames * 256 ⌝ }
-    ensures { λ r. ⌜ r ≡ frameOk frames (now (pool .entry)) kept (f .0) ⌝ }
+    ensures { λ r. ⌜ r ≡ (ltb (f .0) frames && blankb (now (pool .entry)) (f .0)) ⌝ }
 {
-    if !kept.contains(f) {
-        return true;
-    }
     if frames <= f.0 {
         return false;
     }
@@ -77,17 +81,16 @@ fn is_blank(pool: &[u8], f: FrameNo) -> bool
     is_zero(&pool[start..start + Page::SIZE])
 }
 
-// Whether all bytes are zero.
+// Whether all bytes are zero. All are looked at, which takes no branch.
 fn is_zero(page: &[u8]) -> bool
     requires { ⌜ length (now page) ≡ 256 ⌝ }
     ensures { λ r. ⌜ r ≡ every (λ o. eqb (getD (now (page .entry)) o 0) 0) 0 256 ⌝ }
 {
+    let mut zero = true;
     for i in 0..256usize {
-        if page[i] != 0 {
-            return false;
-        }
+        zero = zero & (page[i] == 0);
     }
-    true
+    zero
 }
 
 // The marks of the entries, and what is left of a run.

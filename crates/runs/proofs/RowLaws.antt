@@ -83,7 +83,8 @@ pub sum-more : (l : ℕ → ℕ) (i n x : ℕ) → n ≡ sum l i → x ≡ l i �
 unfolding sum
 sum-more l i n x a b = rw (add-one i) (rw (a, b))
 
-pub shift-more : (c : ℕ) (r₀ : Runs) (i : ℕ) (r : Runs) (h : Held) (q : Runs) → c ≤ i → r ≡ shiftTo c r₀ (i - c) → h ≡ row r (i + 1) → q ≡ withRunAt i h r → q ≡ shiftTo c r₀ (i + 1 - c)
+pub shift-more : (c : ℕ) (r₀ : Runs) (i : ℕ) (r : Runs) (h : Held) (q : Runs) → c ≤ i → r ≡ shiftTo c r₀ (i - c) → h ≡ row r (i + 1) → q ≡ withRunAt i h r
+    → q ≡ shiftTo c r₀ (i + 1 - c)
 unfolding shiftTo
 shift-more c r₀ i r h q l a b d =
     let z : i + 1 - c ≡ suc (i - c) = omega arith in
@@ -97,7 +98,8 @@ module _ (r : Runs) (run : Held) (c n m : ℕ) (place : c ≡ best noLonger (len
   unfolding pushed
   push-stays h = rw (← place, ← size, ← old, le-leb n m h)
 
-pub push-moves : (r : Runs) (run : Held) (c n m : ℕ) (q : Runs) → c ≡ best noLonger (lengthsOf r) 8 → n ≡ countHeld run → m ≡ lengthsOf r c → m < n → q ≡ movedRuns c run r → q ≡ pushed r run
+pub push-moves : (r : Runs) (run : Held) (c n m : ℕ) (q : Runs) → c ≡ best noLonger (lengthsOf r) 8 → n ≡ countHeld run → m ≡ lengthsOf r c → m < n
+    → q ≡ movedRuns c run r → q ≡ pushed r run
 unfolding pushed
 push-moves r run c n m q place size old h d = rw (← place, ← size, ← old, lt-leb n m h) d
 

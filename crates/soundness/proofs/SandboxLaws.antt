@@ -1,7 +1,7 @@
 -- The test of a sandbox, by each of its ways out; and of its pages, where it has no areas.
 use Prim.Native.Nat.{ℕ, _≤_, _<_}
-use mathlib.Core.Path.{_≡_, refl, sym, ap}
-use mathlib.Core.Bool.{true, false, _&&_, false≢true}
+use mathlib.Core.Path.{_≡_, refl, sym, ap, _∙_}
+use mathlib.Core.Bool.{Bool, true, false, _&&_, false≢true}
 use native.Mathlib.Omega.{arith}
 use lib.Dec.{eqb}
 use borrow.Author.Tests.{le-leb, lt-leb}
@@ -17,7 +17,7 @@ use Rattle.areas.specs.Walk.{Formed}
 use Rattle.areas.proofs.WalkLaws.{between}
 use Rattle.state.specs.declared.sandbox.Sandbox.{Sandbox}
 use Rattle.state.specs.World.{copyOf}
-use Rattle.state.specs.Test.{namesNone, pageOk, pagesOk, recordOk, sandboxOk}
+use Rattle.state.specs.Test.{namesNone, pageOk, pagesOk, recordOk, sandboxOk, runsOk}
 
 module _ (images : ℕ) (st : Store) (s : ℕ) (b : Sandbox) where
   pub present-fails : wellFormed images (b .present) ≡ false → false ≡ sandboxOk images st s b
@@ -39,9 +39,10 @@ module _ (images : ℕ) (st : Store) (s : ℕ) (b : Sandbox) where
         unfolding sandboxOk
         charge-fails h = rw (present, snapshot, pages, ← is, lt-leb charge (b .share) h)
 
-        pub record-decides : charge ≤ b .share → recordOk (b .opened) (b .share) (b .taken) (b .present .count) (b .snapshot .count) ≡ sandboxOk images st s b
+        pub record-decides : charge ≤ b .share → (r : Bool) → r ≡ recordOk (b .opened) (b .share) (b .taken) (b .present .count) (b .snapshot .count)
+            → r ≡ sandboxOk images st s b
         unfolding sandboxOk
-        record-decides h = rw (present, snapshot, pages, ← is, le-leb charge (b .share) h)
+        record-decides h r e = e ∙ rw (present, snapshot, pages, ← is, le-leb charge (b .share) h)
 
 -- without areas nothing is mapped
 nothing-mapped : (a : Areas) → Formed a → a .count ≡ 0 → (i : ℕ) → slots a i ≡ Unmapped
@@ -61,3 +62,12 @@ unfolding pageOk
 page-none Unmapped Unmapped front back e g = refl
 page-none Unmapped (Mapped t) front back e g = absurd (false≢true (sym g))
 page-none (Mapped t) s front back e g = absurd (false≢true (sym e))
+
+-- a sandbox and its runs, by the code's ways out: b is what the array gives, d what the world has
+module _ (images : ℕ) (st : Store) (s : ℕ) (b d : Sandbox) (same : b ≡ d) (r : Bool) (is : r ≡ sandboxOk images st s b) where
+  pub sandbox-stops : r ≡ false → (sandboxOk images st s d && runsOk st s (d .opened) (d .share) (d .runs)) ≡ false
+  sandbox-stops e = rw (← same, ← is, e)
+
+  pub runs-decide : r ≡ true → (q : Bool) → q ≡ runsOk st s (b .opened) (b .share) (b .runs)
+      → q ≡ (sandboxOk images st s d && runsOk st s (d .opened) (d .share) (d .runs))
+  runs-decide e q t = t ∙ rw (← same, ← is, e)

@@ -1,24 +1,25 @@
 -- The tests of the runs, by the code's loops and ways out.
-use Prim.Native.Nat.{ℕ, zero, suc, _+_, _*_, _≤_, _<_}
-use mathlib.Core.Path.{_≡_, refl, sym, ap, _∙_}
-use mathlib.Core.Bool.{Bool, true, false, _&&_}
-use mathlib.Core.List.{List}
-use native.Mathlib.Numerals.{add-one}
+use Prim.Native.Nat.{ℕ, _+_, _*_, _≤_, _<_}
+use mathlib.Core.Path.{_≡_, sym}
+use mathlib.Core.Bool.{Bool, true, false, not}
 use native.Mathlib.Omega.{arith}
-use lib.Dec.{eqb, leb}
-use lib.ListN.{length, getD}
-use borrow.Author.Tests.{eq-eqb, le-leb, lt-leb}
+use lib.Dec.{leb}
+use lib.ListN.{length}
+use borrow.Author.Tests.{eq-eqb, le-leb}
 use Rattle.basics.specs.Ranges.{sum, every}
-use Rattle.frames.specs.declared.Held.{Held}
-use Rattle.frames.specs.Frames.{apartHeld, sameHeld, noneHeld}
+use Rattle.basics.proofs.TestLaws.{and-of, and-true, and-false, implies-of}
+use Rattle.basics.proofs.LoopLaws.{every-at}
+use Rattle.frames.specs.Frames.{held, apartHeld, sameHeld, noneHeld}
+use Rattle.frames.proofs.SumLaws.{sum-none}
+use Rattle.frames.proofs.FrameLaws.{held-zero, same-held-true, none-count}
 use Rattle.marks.specs.declared.Marks.{Marks}
-use Rattle.marks.specs.Named.{used, usedBelow}
+use Rattle.marks.specs.Named.{usedBelow}
 use Rattle.marks.specs.Marks.{from}
 use Rattle.table.specs.Store.{Store}
 use Rattle.runs.specs.declared.Runs.{Runs}
 use Rattle.runs.specs.Row.{row, lengthsOf}
 use Rattle.kept.specs.Spare.{Rows, keptBy}
-use Rattle.kept.specs.Test.{runsTo, keptTo, frameOk, spareb}
+use Rattle.kept.specs.Test.{keptTo, frameOk, spareb}
 use Rattle.state.specs.Test.{noneKept, runsOk}
 
 module _ (n : ℕ) (st : Store) (rows : Rows) (m : Marks) (found : m ≡ keptTo rows 4) where
@@ -34,21 +35,24 @@ module _ (n : ℕ) (st : Store) (rows : Rows) (m : Marks) (found : m ≡ keptTo 
   unfolding spareb
   frames-decide e d = rw (← found, e, d)
 
-module _ (st : Store) (s : ℕ) (opened : Bool) (share : ℕ) (r : Runs) (eight : length (r .list) ≡ 8) (u k : ℕ) (us : u ≡ usedBelow (from (s * 128) (st .table)) 128) (ks : k ≡ sum (lengthsOf r) 8) where
-  pub above-share : share < u + k → false ≡ runsOk st s opened share r
+-- runs without a frame keep none
+none-kept : (r : Runs) → noneKept r ≡ true → keptBy (row r) ≡ 0
+unfolding noneKept keptBy
+none-kept r e =
+    let empty : (i : ℕ) → i < 8 → row r i ≡ noneHeld =
+    λ i l. same-held-true (row r i) noneHeld (every-at (λ i. sameHeld (row r i) noneHeld) 0 8 e i (omega arith) l) in
+    sum-none (lengthsOf r) 8 (λ i l. none-count (row r i) (λ f d. rw (empty i l) (held-zero f)))
+
+module _ (st : Store) (s : ℕ) (opened : Bool) (share : ℕ) (r : Runs) (eight : length (r .list) ≡ 8) where
+  pub keeps-none : noneKept r ≡ true → usedBelow (from (s * 128) (st .table)) 128 ≤ share → true ≡ runsOk st s opened share r
+  unfolding runsOk
+  keeps-none e h = sym (and-of (eq-eqb _ 8 eight) (and-of (le-leb _ share (omega (arith, h, none-kept r e))) (implies-of (not opened) (noneKept r) (λ o. e))))
+
+  pub closed-keeps : noneKept r ≡ false → opened ≡ false → false ≡ runsOk st s opened share r
+  unfolding runsOk
+  closed-keeps e o = rw (eq-eqb _ 8 eight, e, o) (sym (and-false (leb (usedBelow (from (s * 128) (st .table)) 128 + keptBy (row r)) share)))
+
+  pub open-keeps : (u k : ℕ) → u ≡ usedBelow (from (s * 128) (st .table)) 128 → k ≡ sum (lengthsOf r) 8 → opened ≡ true
+      → leb (u + k) share ≡ runsOk st s opened share r
   unfolding runsOk keptBy
-  above-share h = rw (eq-eqb _ 8 eight, ← us, ← ks, lt-leb (u + k) share h)
-
-  pub open-keeps : u + k ≤ share → opened ≡ true → true ≡ runsOk st s opened share r
-  unfolding runsOk keptBy
-  open-keeps h o = rw (eq-eqb _ 8 eight, ← us, ← ks, le-leb (u + k) share h, o)
-
-  pub closed-keeps : u + k ≤ share → opened ≡ false → every (λ i. sameHeld (row r i) noneHeld) 0 8 ≡ runsOk st s opened share r
-  unfolding runsOk keptBy noneKept
-  closed-keeps h o = rw (eq-eqb _ 8 eight, ← us, ← ks, le-leb (u + k) share h, o)
-
-pub first-fails : (a b : Bool) → a ≡ false → false ≡ (a && b)
-first-fails a b e = rw e
-
-pub second-decides : (a b r : Bool) → a ≡ true → r ≡ b → r ≡ (a && b)
-second-decides a b r e d = d ∙ rw e
+  open-keeps u k us ks o = rw (eq-eqb _ 8 eight, ← us, ← ks, o) (sym (and-true (leb (u + k) share)))

@@ -1,15 +1,17 @@
 // Soundness, computed: "A state is sound if ..".
 ghost use mathlib.Core.Path.{_≡_};
+ghost use mathlib.Core.Bool.{_&&_};
 ghost use mathlib.Core.List.{List};
 ghost use Prim.Native.Nat.{ℕ, _≤_, _<_};
-ghost use lib.ListN.{length, getD};
+ghost use lib.ListN.{length};
 ghost use Rattle.basics.specs.Ranges.{every};
 ghost use Rattle.frames.specs.declared.Held.{Held as Words};
 ghost use Rattle.table.specs.Store.{kept};
 ghost use Rattle.areas.specs.Walk.{Formed};
-ghost use Rattle.state.specs.World.{worldOf, closedSandbox, wholePages, lengthsOk};
-ghost use Rattle.state.specs.Test.{namesNone, pageOk, pagesOk, recordOk, sandboxOk, soundb};
-use crate::spare::kept_ok;
+ghost use Rattle.state.specs.World.{World, worldOf, sandboxAt, wholePages, lengthsOk};
+ghost use Rattle.state.specs.Test.{namesNone, pageOk, pagesOk, recordOk, sandboxOk, runsOkAt, soundb};
+use crate::spare::runs_ok;
+use crate::spare::spare_ok;
 use areas::area::Areas;
 use areas::slot::backing_at;
 use areas::slot::follows;
@@ -38,7 +40,7 @@ pub fn sound(m: Machine, pool: &[u8], table: &[u16], image: &[u8]) -> bool
     if !sandboxes_ok(sandboxes, table, images) {
         return false;
     }
-    if !kept_ok(sandboxes, held, pool, table, frames) {
+    if !spare_ok(sandboxes, held, pool, frames) {
         return false;
     }
     shares(sandboxes) <= frames as u16
@@ -59,16 +61,22 @@ fn whole_pages(low: usize, high: usize, bytes: usize) -> bool
     (bytes % 256 == 0) & ((low <= bytes / 256) & (bytes / 256 <= high))
 }
 
+// Each sandbox, then its runs.
 fn sandboxes_ok(sandboxes: [Sandbox; 4], table: &[u16], images: u8) -> bool
     requires { ⌜ images ≤ 64 ⌝ }
     requires { ⌜ length (now table) ≡ 512 ⌝ }
     ensures { λ r. ⌜
-        ((h : Words) (pool : List ℕ) → r ≡ every (λ s. sandboxOk images (kept h pool (now (table .entry))) s (getD sandboxes s closedSandbox)) 0 4) ⌝ }
+        ((h : Words) (pool : List ℕ) → let w : World = record { sandboxes = sandboxes; store = kept h pool (now (table .entry)) } in
+        r ≡ every (λ s. sandboxOk images (w .store) s (sandboxAt w s) && runsOkAt w s) 0 4) ⌝ }
 {
     for s in 0..4u8 {
         let k = s as usize;
         let b = sandboxes[k];
         if !sandbox_ok(b, table, s, images) {
+            return false;
+        }
+        let runs = b.runs;
+        if !runs_ok(runs, table, s, b.opened, b.share) {
             return false;
         }
     }

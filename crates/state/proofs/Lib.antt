@@ -1,5 +1,6 @@
 pub mod LengthLaws
 pub mod SharesLaws
+pub mod PageLaws
 pub mod TestLaws
 pub mod SettledLaws
 pub mod NearLaws

@@ -9,7 +9,7 @@ use lib.ListN.{length}
 use borrow.Author.Tests.{eqb-true, eqb-false}
 use Rattle.basics.specs.Ranges.{one, count, sum}
 use Rattle.basics.proofs.TestLaws.{by-cases}
-use Rattle.basics.proofs.CountLaws.{sum-plus}
+use Rattle.basics.proofs.CountLaws.{count-sum, sum-plus}
 use Rattle.interface.specs.Slots.{isMapped, mappedPages}
 use Rattle.interface.specs.Runs.{longestRun}
 use Rattle.interface.proofs.ChargeLaws.{charge-covers}
@@ -26,8 +26,8 @@ use Rattle.areas.specs.Areas.{slots}
 use Rattle.state.specs.declared.sandbox.Sandbox.{Sandbox}
 use Rattle.state.specs.World.{World, sandboxAt, copyOf, framesOf, pagesIn, rowsOf}
 use Rattle.state.specs.Sound.{SoundAt}
-use Rattle.state.proofs.SettledLaws.{copied-slots}
-use Rattle.state.proofs.TestLaws.{Tested}
+use Rattle.state.proofs.TestLaws.{Passed, passed-committed, passed-untaken, sound-passed, Tested}
+use Rattle.state.proofs.SettledLaws.{copied-as}
 
 -- ---- sums that are no greater, and less where one place is
 
@@ -44,11 +44,6 @@ sum-less f h (suc n) i e l d =
     (λ t. let last : f n < h n = rw (eqb-true i n t) at d in omega (arith, last, sum-le f h n (λ j m. e j (omega arith))))
     (λ t. omega (arith, e n (omega arith), sum-less f h n i (λ j m. e j (omega arith)) (omega (arith, eqb-false i n t)) d))
 
-count-sum : (m : ℕ → Bool) (n : ℕ) → count m n ≡ sum (λ i. one (m i)) n
-unfolding count sum
-count-sum m zero = refl
-count-sum m (suc n) = rw (count-sum m n)
-
 -- entries that name a frame only at numbers that pass
 module _ (f : ℕ → ℕ) (m : ℕ → Bool) (n : ℕ) (e : (i : ℕ) → i < n → used (f i) ≤ one (m i)) where
   used-le : usedBelow f n ≤ count m n
@@ -59,9 +54,9 @@ module _ (f : ℕ → ℕ) (m : ℕ → Bool) (n : ℕ) (e : (i : ℕ) → i < n
   unfolding usedBelow
   used-less i l d = rw (count-sum m n) (sum-less (λ j. used (f j)) (λ j. one (m j)) n i e l d)
 
--- ---- a sandbox
+-- ---- a sandbox that passes its test, whatever it keeps
 
-module _ (images : ℕ) (st : Store) (s : ℕ) (b : Sandbox) (S : SoundAt images st s b) where
+module _ (images : ℕ) (st : Store) (s : ℕ) (b : Sandbox) (P : Passed images st s b) where
   abbrev mappedAt : ℕ → Bool
   mappedAt i = isMapped (slots (b .present) i)
 
@@ -70,30 +65,35 @@ module _ (images : ℕ) (st : Store) (s : ℕ) (b : Sandbox) (S : SoundAt images
 
   covers : mappedPages (slots (b .present)) + count copiedAt 64 ≤ b .share
   covers =
-      let copy = copied-slots images st s b S in
-      omega (arith, S .charged, charge-covers (slots (b .present)) (copyOf b) copiedAt (λ i c. rw copy (S .committed i c)) (λ i c. rw copy c))
+      let copy = copied-as b (passed-untaken images st s b P) in
+      omega (
+        arith,
+        P .charged,
+        charge-covers (slots (b .present)) (copyOf b) copiedAt (λ i c. rw copy (passed-committed images st s b P i c .1)) (λ i c. rw copy c),
+      )
 
   used-by : (k : ℕ) (m : Bool) → (m ≡ false → entry st k ≡ 0) → used (entry st k) ≤ one m
   used-by k true h = by-entry (used (entry st k) ≤ 1) (entry st k) (λ z. rw z (omega arith)) (λ f z. rw z (omega arith))
   used-by k false h = rw (h refl) (omega arith)
 
   fronts : (i : ℕ) → i < 64 → used (from (s * 128) (st .table) i) ≤ one (mappedAt i)
-  fronts i l = used-by (frontOf s i) (mappedAt i) (S .fronts i l)
+  fronts i l = used-by (frontOf s i) (mappedAt i) (P .page i l .fronts)
 
   backs : usedBelow (λ i. from (s * 128) (st .table) (64 + i)) 64 ≤ count copiedAt 64
   backs =
       used-le (λ i. from (s * 128) (st .table) (64 + i)) copiedAt 64
-      (λ i l. let z : s * 128 + (64 + i) ≡ s * 128 + i + 64 = omega arith in rw z (used-by (backOf s i) (copiedAt i) (S .backs i l)))
+      (λ i l. let z : s * 128 + (64 + i) ≡ s * 128 + i + 64 = omega arith in rw z (used-by (backOf s i) (copiedAt i) (P .page i l .backs)))
 
   -- its entries name at most as many frames as its share
-  pub holds-share : usedBelow (from (s * 128) (st .table)) 128 ≤ b .share
+  pub passed-share : usedBelow (from (s * 128) (st .table)) 128 ≤ b .share
   unfolding mappedPages
-  holds-share = omega (arith, used-add (from (s * 128) (st .table)) 64 64, covers, backs, used-le (from (s * 128) (st .table)) mappedAt 64 fronts)
+  passed-share = omega (arith, used-add (from (s * 128) (st .table)) 64 64, covers, backs, used-le (from (s * 128) (st .table)) mappedAt 64 fronts)
 
   -- and fewer where a mapped page has no front
-  pub holds-less : (i : ℕ) → i < 64 → isMapped (slots (b .present) i) ≡ true → entry st (frontOf s i) ≡ 0 → usedBelow (from (s * 128) (st .table)) 128 < b .share
+  passed-less : (i : ℕ) → i < 64 → isMapped (slots (b .present) i) ≡ true → entry st (frontOf s i) ≡ 0
+      → usedBelow (from (s * 128) (st .table)) 128 < b .share
   unfolding mappedPages
-  holds-less i l m e =
+  passed-less i l m e =
       omega (
         arith,
         used-add (from (s * 128) (st .table)) 64 64,
@@ -103,6 +103,9 @@ module _ (images : ℕ) (st : Store) (s : ℕ) (b : Sandbox) (S : SoundAt images
       )
 
 -- ---- the world
+
+pub holds-share : (images : ℕ) (st : Store) (s : ℕ) (b : Sandbox) → SoundAt images st s b → usedBelow (from (s * 128) (st .table)) 128 ≤ b .share
+holds-share images st s b S = omega (arith, S .inShare)
 
 -- fronts, backs and kept frames of sandbox s
 abbrev pub holds : World → ℕ → ℕ
@@ -129,5 +132,6 @@ module _ (image : List ℕ) (w : World) (S : Tested image w) (s i : ℕ) (l : s 
   pub kept-there : sandboxAt w s .share ≤ holds w s → 1 ≤ lengths (rowsOf w s) (longestRun (lengths (rowsOf w s)))
   unfolding keptBy
   kept-there h =
+      let images : ℕ = pagesIn (length image) in
       longest-some (lengths (rowsOf w s))
-      (omega (arith, h, holds-less (pagesIn (length image)) (w .store) s (sandboxAt w s) (S .each s l) i k m e))
+      (omega (arith, h, passed-less images (w .store) s (sandboxAt w s) (sound-passed images (w .store) s (sandboxAt w s) (S .each s l)) i k m e))

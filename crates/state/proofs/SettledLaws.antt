@@ -1,5 +1,6 @@
 -- The view of a sandbox of a sound state is settled.
 use mathlib.Core.Path.{_≡_, sym, ap, _∙_}
+use mathlib.Core.Bool.{false}
 use mathlib.Core.List.{List}
 use Prim.Native.Nat.{ℕ, _<_}
 use lib.ListN.{length}
@@ -7,7 +8,7 @@ use Rattle.basics.proofs.TestLaws.{by-cases}
 use Rattle.interface.specs.Slots.{copied}
 use Rattle.interface.specs.Settled.{Settled}
 use Rattle.table.specs.Store.{Store}
-use Rattle.areas.specs.Areas.{slots}
+use Rattle.areas.specs.Areas.{slots, empty}
 use Rattle.areas.proofs.ChangeLaws.{none-slots}
 use Rattle.areas.proofs.FewAreas.{few-areas}
 use Rattle.state.specs.declared.sandbox.Sandbox.{Sandbox}
@@ -15,9 +16,11 @@ use Rattle.state.specs.World.{World, sandboxAt, copyOf, pagesIn, viewAt}
 use Rattle.state.specs.Sound.{SoundAt, Sound}
 
 -- the snapshot's slots, whether one was taken or not
+pub copied-as : (b : Sandbox) → (b .taken ≡ false → b .snapshot ≡ empty) → copied (copyOf b) ≡ slots (b .snapshot)
+copied-as b untaken = by-cases (b .taken) (λ t. rw t) (λ t. rw t (sym (ap slots (untaken t) ∙ none-slots)))
+
 pub copied-slots : (images : ℕ) (st : Store) (s : ℕ) (b : Sandbox) → SoundAt images st s b → copied (copyOf b) ≡ slots (b .snapshot)
-copied-slots images st s b S =
-    by-cases (b .taken) (λ t. rw t) (λ t. rw t (sym (ap slots (S .untaken t) ∙ none-slots)))
+copied-slots images st s b S = copied-as b (S .untaken)
 
 pub settled-at : (image : List ℕ) (w : World) (s : ℕ) → SoundAt (pagesIn (length image)) (w .store) s (sandboxAt w s) → Settled (viewAt image w s)
 settled-at image w s A =

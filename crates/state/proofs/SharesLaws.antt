@@ -12,7 +12,15 @@ use Rattle.state.specs.World.{closedSandbox}
 
 -- what an array of sandboxes read past its end would give: all zero
 abbrev pub zeroSandbox : Sandbox
-zeroSandbox = record { opened = false; share = 0; present = record { count = 0; list = [] }; taken = false; snapshot = record { count = 0; list = [] }; runs = record { list = [] } }
+zeroSandbox =
+    record {
+      opened = false;
+      share = 0;
+      present = record { count = 0; list = [] };
+      taken = false;
+      snapshot = record { count = 0; list = [] };
+      runs = record { list = [] };
+    }
 
 pub shares-four : (l : List Sandbox) (d : Sandbox) → length l ≡ 4
     → getD l 0 d .share + getD l 1 d .share + getD l 2 d .share + getD l 3 d .share ≡ sum (λ s. getD l s closedSandbox .share) 4

@@ -11,11 +11,7 @@ use Rattle.basics.specs.Choice.{implies}
 use Rattle.basics.specs.Ranges.{every}
 use Rattle.basics.proofs.TestLaws.{by-cases, never, and-both, and-of, implied, implies-of}
 use Rattle.basics.proofs.LoopLaws.{every-at, every-of}
-use Rattle.interface.specs.declared.page.Backing.{Backing}
-use Rattle.interface.specs.declared.page.Backing.the-variants.{Anonymous, Image}
-use Rattle.interface.specs.declared.page.Slot.{Slot}
-use Rattle.interface.specs.Slots.{isMapped, isCommitted, backingAt, follows, chargeOf}
-use Rattle.interface.specs.Limits.{between}
+use Rattle.interface.specs.Slots.{isMapped, isCommitted, chargeOf}
 use Rattle.interface.proofs.SlotLaws.{committed-mapped, Inside}
 use Rattle.frames.specs.Frames.{held, noneHeld, sameHeld}
 use Rattle.frames.proofs.FrameLaws.{same-held-true, same-held-of}
@@ -32,18 +28,14 @@ use Rattle.kept.proofs.TestLaws.{spare-true, spare-found, spare-of}
 use Rattle.areas.specs.declared.area.Areas.{Areas}
 use Rattle.areas.specs.Areas.{slots, empty, Bounded}
 use Rattle.areas.specs.Formed.{WellFormed, wellFormed}
-use Rattle.areas.proofs.SlotLaws.{advance-zero}
-use Rattle.areas.proofs.PushLaws.{follows-true}
 use Rattle.areas.proofs.FormedLaws.{formed, formed-of}
 use Rattle.areas.proofs.KeptLaws.{slots-bounded}
 use Rattle.areas.proofs.ChangeLaws.{formed-empty}
 use Rattle.state.specs.declared.sandbox.Sandbox.{Sandbox}
 use Rattle.state.specs.World.{World, sandboxAt, sharesOf, copyOf, framesOf, pagesIn, wholePages, lengthsOk, rowsOf}
 use Rattle.state.specs.Sound.{SoundAt, Sound}
-use Rattle.state.specs.Test.{Typed, pageOk, pagesOk, noneKept, runsOk, recordOk, sandboxOk, sandboxesOk, runsOkAt, keptOk, soundb}
-
-not-of : (a : Bool) → a ≡ false → not a ≡ true
-not-of a e = rw e
+use Rattle.state.specs.Test.{Typed, pageOk, pagesOk, noneKept, runsOk, sandboxOk, sandboxesOk, runsOkAt, keptOk, soundb}
+use Rattle.state.proofs.PageLaws.{not-of, PageSound, page-true, page-of, RecordSound, record-true, record-of}
 
 -- ---- the lent lengths
 
@@ -76,82 +68,6 @@ lengths-true pool table image h =
 pub lengths-of : (pool table image : ℕ) → Lengths pool table image → lengthsOk pool table image ≡ true
 lengths-of pool table image L =
     and-of (whole-of 1 128 pool (L .pages) (L .some) (L .few)) (and-of (eq-eqb _ 512 (L .entries)) (whole-of 0 64 image (L .whole) (omega arith) (L .images)))
-
--- ---- a page
-
-backing-true : (a b : Backing) → follows a 0 b ≡ true → a ≡ b
-backing-true a b h = sym (advance-zero a) ∙ follows-true a b 0 h
-
-backing-self : (a : Backing) → follows a 0 a ≡ true
-unfolding follows
-backing-self Anonymous = refl
-backing-self (Image i) = eq-eqb (i .0 + 0) (i .0) (omega arith)
-
--- of a page's slot, the snapshot's, its front and its back entry
-record PageSound (present snapshot : Slot) (front back : ℕ) : Type 0 where
-  marked : isMapped snapshot ≡ true → isCommitted snapshot ≡ true
-  committed : isCommitted present ≡ true → isMapped snapshot ≡ true
-  backing : isCommitted present ≡ true → backingAt present ≡ backingAt snapshot
-  fronts : isMapped present ≡ false → front ≡ 0
-  backs : isMapped snapshot ≡ false → back ≡ 0
-
-page-true : (present snapshot : Slot) (front back : ℕ) → pageOk present snapshot front back ≡ true → PageSound present snapshot front back
-unfolding pageOk
-page-true present snapshot front back h =
-    let h₁ = and-both (implies (isMapped snapshot) (isCommitted snapshot)) _ h in
-    let h₂ = and-both (implies (isCommitted present) (isMapped snapshot)) _ (h₁ .1) in
-    let h₃ = and-both (implies (isCommitted present) (follows (backingAt present) 0 (backingAt snapshot))) _ (h₂ .1) in
-    let h₄ = and-both (implies (not (isMapped present)) (eqb front 0)) _ (h₃ .1) in
-    record {
-      marked = implied (isMapped snapshot) (isCommitted snapshot) (h₁ .0);
-      committed = implied (isCommitted present) (isMapped snapshot) (h₂ .0);
-      backing = λ c. backing-true _ _ (implied (isCommitted present) (follows (backingAt present) 0 (backingAt snapshot)) (h₃ .0) c);
-      fronts = λ m. eqb-true front 0 (implied (not (isMapped present)) (eqb front 0) (h₄ .0) (not-of _ m));
-      backs = λ m. eqb-true back 0 (implied (not (isMapped snapshot)) (eqb back 0) (h₄ .1) (not-of _ m));
-    }
-
-page-of : (present snapshot : Slot) (front back : ℕ) → PageSound present snapshot front back → pageOk present snapshot front back ≡ true
-unfolding pageOk
-page-of present snapshot front back P =
-    and-of (implies-of (isMapped snapshot) (isCommitted snapshot) (P .marked))
-    (and-of (implies-of (isCommitted present) (isMapped snapshot) (P .committed))
-    (and-of (implies-of (isCommitted present) (follows (backingAt present) 0 (backingAt snapshot)) (λ c. rw (P .backing c) (backing-self (backingAt snapshot))))
-    (and-of (implies-of (not (isMapped present)) (eqb front 0) (λ m. eq-eqb front 0 (P .fronts (not-true _ m))))
-    (implies-of (not (isMapped snapshot)) (eqb back 0) (λ m. eq-eqb back 0 (P .backs (not-true _ m)))))))
-
--- ---- the record of a sandbox
-
-record RecordSound (opened : Bool) (share : ℕ) (taken : Bool) (presentAreas snapshotAreas : ℕ) : Type 0 where
-  shared : opened ≡ true → (1 ≤ share) × (share ≤ 128)
-  untaken : taken ≡ false → snapshotAreas ≡ 0
-  closed : opened ≡ false → (share ≡ 0) × (presentAreas ≡ 0) × (taken ≡ false)
-
-record-true : (opened : Bool) (share : ℕ) (taken : Bool) (presentAreas snapshotAreas : ℕ)
-    → recordOk opened share taken presentAreas snapshotAreas ≡ true → RecordSound opened share taken presentAreas snapshotAreas
-unfolding recordOk
-record-true opened share taken presentAreas snapshotAreas h =
-    let nothing : Bool = eqb share 0 && (eqb presentAreas 0 && not taken) in
-    let h₁ = and-both (implies opened (between 1 128 share)) _ h in
-    let h₂ = and-both (implies (not taken) (eqb snapshotAreas 0)) (implies (not opened) nothing) (h₁ .1) in
-    record {
-      shared = λ o.
-          let r = and-both (leb 1 share) (leb share 128) (implied opened (between 1 128 share) (h₁ .0) o) in
-          (leb-true 1 share (r .0), leb-true share 128 (r .1));
-      untaken = λ t. eqb-true snapshotAreas 0 (implied (not taken) (eqb snapshotAreas 0) (h₂ .0) (not-of _ t));
-      closed = λ o.
-          let r = and-both (eqb share 0) (eqb presentAreas 0 && not taken) (implied (not opened) nothing (h₂ .1) (not-of _ o)) in
-          let n = and-both (eqb presentAreas 0) (not taken) (r .1) in
-          (eqb-true share 0 (r .0), eqb-true presentAreas 0 (n .0), not-true taken (n .1));
-    }
-
-record-of : (opened : Bool) (share : ℕ) (taken : Bool) (presentAreas snapshotAreas : ℕ)
-    → RecordSound opened share taken presentAreas snapshotAreas → recordOk opened share taken presentAreas snapshotAreas ≡ true
-unfolding recordOk
-record-of opened share taken presentAreas snapshotAreas R =
-    and-of (implies-of opened (between 1 128 share) (λ o. and-of (le-leb 1 share (R .shared o .0)) (le-leb share 128 (R .shared o .1))))
-    (and-of (implies-of (not taken) (eqb snapshotAreas 0) (λ t. eq-eqb snapshotAreas 0 (R .untaken (not-true taken t))))
-    (implies-of (not opened) (eqb share 0 && (eqb presentAreas 0 && not taken))
-    (λ o. let n = R .closed (not-true opened o) in and-of (eq-eqb share 0 (n .0)) (and-of (eq-eqb presentAreas 0 (n .1)) (not-of taken (n .2))))))
 
 -- ---- the runs of a sandbox
 
@@ -191,78 +107,91 @@ unfolding Bounded
 slots-inside images a f i m =
     by-cases (ltb i 64) (ltb-true i 64) (λ l. never (isMapped (slots a i)) m (ap isMapped (slots-bounded images a f i (ltb-false i 64 l))))
 
+-- what the test of a sandbox says: what soundness asks of it, but of its runs
+pub record Passed (images : ℕ) (st : Store) (s : ℕ) (b : Sandbox) : Type 0 where
+  pub present : WellFormed images (b .present)
+  pub snapshot : WellFormed images (b .snapshot)
+  pub page : (i : ℕ) → i < 64 → PageSound (slots (b .present) i) (slots (b .snapshot) i) (entry st (frontOf s i)) (entry st (backOf s i))
+  pub charged : chargeOf (slots (b .present)) (copyOf b) ≤ b .share
+  pub fields : RecordSound (b .opened) (b .share) (b .taken) (b .present .count) (b .snapshot .count)
+
 module _ (images : ℕ) (st : Store) (s : ℕ) (b : Sandbox) where
   abbrev pageAt : ℕ → Bool
   pageAt i = pageOk (slots (b .present) i) (slots (b .snapshot) i) (entry st (frontOf s i)) (entry st (backOf s i))
 
-  pages-true : pagesOk st s (b .present) (b .snapshot) ≡ true
-      → (i : ℕ) → i < 64 → PageSound (slots (b .present) i) (slots (b .snapshot) i) (entry st (frontOf s i)) (entry st (backOf s i))
-  unfolding pagesOk
-  pages-true h i l = page-true _ _ _ _ (every-at pageAt 0 64 h i (omega arith) (omega arith))
-
-  pages-of : SoundAt images st s b → pagesOk st s (b .present) (b .snapshot) ≡ true
-  unfolding pagesOk
-  pages-of S =
-      every-of pageAt 0 64
-      (λ i l d. page-of _ _ _ _ (record {
-        marked = S .marked i;
-        committed = S .committed i;
-        backing = S .backing i;
-        fronts = S .fronts i (omega arith);
-        backs = S .backs i (omega arith);
-      }))
-
-  pub sandbox-true : runsOk st s (b .opened) (b .share) (b .runs) ≡ true → sandboxOk images st s b ≡ true → SoundAt images st s b
-  unfolding sandboxOk
-  sandbox-true r h =
+  pub passed-true : sandboxOk images st s b ≡ true → Passed images st s b
+  unfolding sandboxOk pagesOk
+  passed-true h =
       let h₁ = and-both (wellFormed images (b .present)) _ h in
       let h₂ = and-both (wellFormed images (b .snapshot)) _ (h₁ .1) in
       let h₃ = and-both (pagesOk st s (b .present) (b .snapshot)) _ (h₂ .1) in
       let h₄ = and-both (leb (chargeOf (slots (b .present)) (copyOf b)) (b .share)) _ (h₃ .1) in
-      let K = runs-true st s (b .opened) (b .share) (b .runs) r in
-      let P : WellFormed images (b .present) = formed images (b .present) (h₁ .0) in
-      let C : WellFormed images (b .snapshot) = formed images (b .snapshot) (h₂ .0) in
-      let page = pages-true (h₃ .0) in
-      let R = record-true (b .opened) (b .share) (b .taken) (b .present .count) (b .snapshot .count) (h₄ .1) in
-      let below : (i : ℕ) → isCommitted (slots (b .present) i) ≡ true → i < 64 =
-      λ i c. slots-inside images (b .present) P i (committed-mapped (slots (b .present) i) c) in
-      let none : b .taken ≡ false → b .snapshot ≡ empty = λ t. formed-empty images (b .snapshot) C (R .untaken t) in
       record {
-        present = P;
-        snapshot = C;
-        marked = λ i m. page i (slots-inside images (b .snapshot) C i m) .marked m;
-        committed = λ i c. page i (below i c) .committed c;
-        backing = λ i c. page i (below i c) .backing c;
-        fronts = λ i l. page i l .fronts;
-        backs = λ i l. page i l .backs;
+        present = formed images (b .present) (h₁ .0);
+        snapshot = formed images (b .snapshot) (h₂ .0);
+        page = λ i l. page-true _ _ _ _ (every-at pageAt 0 64 (h₃ .0) i (omega arith) (omega arith));
         charged = leb-true _ _ (h₄ .0);
-        shared = R .shared;
+        fields = record-true (b .opened) (b .share) (b .taken) (b .present .count) (b .snapshot .count) (h₄ .1);
+      }
+
+  passed-of : Passed images st s b → sandboxOk images st s b ≡ true
+  unfolding sandboxOk pagesOk
+  passed-of P =
+      and-of (formed-of images (b .present) (P .present))
+      (and-of (formed-of images (b .snapshot) (P .snapshot))
+      (and-of (every-of pageAt 0 64 (λ i l d. page-of _ _ _ _ (P .page i (omega arith))))
+      (and-of (le-leb _ _ (P .charged)) (record-of (b .opened) (b .share) (b .taken) (b .present .count) (b .snapshot .count) (P .fields)))))
+
+  module _ (P : Passed images st s b) where
+    -- of every page, as no page past 63 is mapped
+    pub passed-committed : (i : ℕ) → isCommitted (slots (b .present) i) ≡ true → (i < 64) × (isMapped (slots (b .snapshot) i) ≡ true)
+    passed-committed i c =
+        let l = slots-inside images (b .present) (P .present) i (committed-mapped (slots (b .present) i) c) in
+        (l, P .page i l .committed c)
+
+    pub passed-untaken : b .taken ≡ false → b .snapshot ≡ empty
+    passed-untaken t = formed-empty images (b .snapshot) (P .snapshot) (P .fields .untaken t)
+
+  pub sandbox-true : runsOk st s (b .opened) (b .share) (b .runs) ≡ true → Passed images st s b → SoundAt images st s b
+  sandbox-true r P =
+      let K = runs-true st s (b .opened) (b .share) (b .runs) r in
+      record {
+        present = P .present;
+        snapshot = P .snapshot;
+        marked = λ i m. P .page i (slots-inside images (b .snapshot) (P .snapshot) i m) .marked m;
+        committed = λ i c. passed-committed P i c .1;
+        backing = λ i c. P .page i (passed-committed P i c .0) .backing c;
+        fronts = λ i l. P .page i l .fronts;
+        backs = λ i l. P .page i l .backs;
+        charged = P .charged;
+        shared = P .fields .shared;
         inShare = K .inShare;
         places = K .places;
-        untaken = none;
+        untaken = passed-untaken P;
         closed = λ o.
-            let n = R .closed o in
-            let x = formed-empty images (b .present) P (n .1) in
-            let y = none (n .2) in
+            let n = P .fields .closed o in
+            let x = formed-empty images (b .present) (P .present) (n .1) in
+            let y = passed-untaken P (n .2) in
             λ i. record { opened = o i; share = n .0 i; present = x i; taken = n .2 i; snapshot = y i; runs = K .closed o i };
       }
 
-  pub sandbox-of : SoundAt images st s b → sandboxOk images st s b ≡ true
-  unfolding sandboxOk
-  sandbox-of S =
-      and-of (formed-of images (b .present) (S .present))
-      (and-of (formed-of images (b .snapshot) (S .snapshot))
-      (and-of (pages-of S)
-      (and-of (le-leb _ _ (S .charged))
-      (record-of (b .opened) (b .share) (b .taken) (b .present .count) (b .snapshot .count) (record {
-        shared = S .shared;
-        untaken = λ t. ap (λ (a : Areas). a .count) (S .untaken t);
-        closed = λ o.
-            let e = S .closed o in
-            (ap (λ (c : Sandbox). c .share) e, ap (λ (c : Sandbox). c .present .count) e, ap (λ (c : Sandbox). c .taken) e);
-      })))))
+  pub sound-passed : SoundAt images st s b → Passed images st s b
+  sound-passed S =
+      record {
+        present = S .present;
+        snapshot = S .snapshot;
+        page = λ i l. record { marked = S .marked i; committed = S .committed i; backing = S .backing i; fronts = S .fronts i l; backs = S .backs i l };
+        charged = S .charged;
+        fields = record {
+          shared = S .shared;
+          untaken = λ t. ap (λ (a : Areas). a .count) (S .untaken t);
+          closed = λ o.
+              let e = S .closed o in
+              (ap (λ (c : Sandbox). c .share) e, ap (λ (c : Sandbox). c .present .count) e, ap (λ (c : Sandbox). c .taken) e);
+        };
+      }
 
-  pub runs-sound : SoundAt images st s b → runsOk st s (b .opened) (b .share) (b .runs) ≡ true
+  runs-sound : SoundAt images st s b → runsOk st s (b .opened) (b .share) (b .runs) ≡ true
   runs-sound S =
       runs-of st s (b .opened) (b .share) (b .runs) (record {
         places = S .places;
@@ -276,13 +205,19 @@ module _ (images : ℕ) (w : World) where
   abbrev sandboxPasses : ℕ → Bool
   sandboxPasses s = sandboxOk images (w .store) s (sandboxAt w s)
 
-  pub sandboxes-true : every (runsOkAt w) 0 4 ≡ true → sandboxesOk images w ≡ true → (s : ℕ) → s < 4 → SoundAt images (w .store) s (sandboxAt w s)
+  sandboxes-passed : sandboxesOk images w ≡ true → (s : ℕ) → s < 4 → Passed images (w .store) s (sandboxAt w s)
   unfolding sandboxesOk
-  sandboxes-true r h s l = sandbox-true images (w .store) s (sandboxAt w s) (every-at (runsOkAt w) 0 4 r s (omega arith) (omega arith)) (every-at sandboxPasses 0 4 h s (omega arith) (omega arith))
+  sandboxes-passed h s l = passed-true images (w .store) s (sandboxAt w s) (every-at sandboxPasses 0 4 h s (omega arith) (omega arith))
+
+  pub sandboxes-true : every (runsOkAt w) 0 4 ≡ true → sandboxesOk images w ≡ true → (s : ℕ) → s < 4 → SoundAt images (w .store) s (sandboxAt w s)
+  sandboxes-true r h s l =
+      sandbox-true images (w .store) s (sandboxAt w s) (every-at (runsOkAt w) 0 4 r s (omega arith) (omega arith)) (sandboxes-passed h s l)
 
   pub sandboxes-of : ((s : ℕ) → s < 4 → SoundAt images (w .store) s (sandboxAt w s)) → sandboxesOk images w ≡ true
   unfolding sandboxesOk
-  sandboxes-of each = every-of sandboxPasses 0 4 (λ s l d. sandbox-of images (w .store) s (sandboxAt w s) (each s (omega arith)))
+  sandboxes-of each =
+      every-of sandboxPasses 0 4
+      (λ s l d. passed-of images (w .store) s (sandboxAt w s) (sound-passed images (w .store) s (sandboxAt w s) (each s (omega arith))))
 
 -- what a test that passes shows of a state: all that `Sound` says but for the ranges of the runs' words, which their types give. (The marks are two words of
 -- 64 bits, because they are those that the pass over the entries found.)
@@ -352,7 +287,8 @@ sound-of image w S =
       whole = S .whole;
       images = S .images;
     }))
-    (and-of (named-marksb (framesOf w) (w .store .marks) (w .store .table) (S .filed .few) (S .filed .entries) (S .filed .low) (S .filed .high) (S .filed .names))
+    (and-of (named-marksb (framesOf w) (w .store .marks) (w .store .table) (S .filed .few) (S .filed .entries) (S .filed .low) (S .filed .high)
+    (S .filed .names))
     (and-of (sandboxes-of (pagesIn (length image)) w (S .each))
     (and-of
     (and-of (every-of (runsOkAt w) 0 4 (λ s l d. runs-sound (pagesIn (length image)) (w .store) s (sandboxAt w s) (S .each s (omega arith))))

@@ -1,50 +1,71 @@
--- The loop has passed f frames: whether all pass is whether the rest do.
+-- The smallest frames were looked at and pass: whether all kept frames do is whether the rest do.
 use mathlib.Core.Path.{_≡_, refl, sym, _∙_}
-use Prim.Native.Nat.{_≤_, _-_}
+use Prim.Native.Nat.{_-_, _≤_}
 use native.Mathlib.Omega.{arith}
 use borrow.Author.Needs.{needs}
 use borrow.Author.Tests.{not-true, not-false}
 use Rattle.basics.specs.Ranges.{every}
-use Rattle.basics.proofs.LoopLaws.{every-next, every-stop, every-end}
+use Rattle.frames.specs.Frames.{mark, countHeld}
+use Rattle.frames.proofs.FrameLaws.{count-without}
 use Rattle.kept.specs.Test.{frameOk}
+use Rattle.kept.proofs.TestLaws.{none-left, least-there, least-fails, least-passes}
 use Rattle.kept.proofs.frames_ok.Statement.{statement}
 use Rattle.kept.proofs.frames_ok.Tie as tie
 
 abbrev Inv-loop : tie.InvT-loop
-Inv-loop kept pool frames f₀ f = (f ≤ 128) × (every (frameOk frames pool kept) 0 128 ≡ every (frameOk frames pool kept) f (128 - f))
+Inv-loop pool frames rest₀ left₀ rest left = (left ≡ countHeld rest) × (every (frameOk frames pool rest₀) 0 128 ≡ every (frameOk frames pool rest) 0 128)
 
 abbrev μ-loop : tie.MeasureT-loop
-μ-loop kept pool frames f₀ f = 128 - f
+μ-loop pool frames rest₀ left₀ rest left = left
+
+count-requires : tie.Need-count-requires Inv-loop μ-loop
+count-requires c κs = search needs
 
 loop-holds : tie.Need-loop-holds Inv-loop μ-loop
-loop-holds c = (omega arith, refl)
+loop-holds c = (c .count .ensures, refl)
+
+least-requires : tie.Need-least-requires Inv-loop μ-loop
+least-requires c κs = search needs
 
 frame-ok-requires : tie.Need-frame-ok-requires Inv-loop μ-loop
 frame-ok-requires c κs = search needs
 
 returns : tie.Need-returns Inv-loop μ-loop
 returns c =
-    let l = c .before .before .before .loop in
-    let a = c .before .before .before .before .before .args in
-    sym (l .inv .1 ∙ every-stop (frameOk (a .frames) (a .pool .now) (a .kept)) 128 (l .f) (c .before .before .loop-test .taken) (sym (c .before .frame-ok .ensures) ∙ not-true _ (c .if1 .taken)))
+    let l = c .before .before .before .before .loop in
+    sym (l .inv .1
+    ∙ least-fails _ _ (l .rest) (omega (arith, l .inv .0, c .before .before .before .loop-test .taken)) _ (c .before .before .least .ensures) _
+    (c .before .frame-ok .ensures) (not-true _ (c .if1 .taken)))
 
-add-f : tie.Need-add-f Inv-loop μ-loop
-add-f c = search needs
+without-requires : tie.Need-without-requires Inv-loop μ-loop
+without-requires c κs =
+    let l = c .before .before .before .before .loop in
+    least-there (l .rest) (omega (arith, l .inv .0, c .before .before .before .loop-test .taken)) _ (c .before .before .least .ensures) .0
+
+sub-left : tie.Need-sub-left Inv-loop μ-loop
+sub-left c = search needs
 
 loop-less : tie.Need-loop-less Inv-loop μ-loop
 loop-less c = search needs
 
 loop-again : tie.Need-loop-again Inv-loop μ-loop
 loop-again c =
-    let l = c .before .before .before .loop in
-    let a = c .before .before .before .before .before .args in
-    (search needs, l .inv .1 ∙ every-next (frameOk (a .frames) (a .pool .now) (a .kept)) 128 (l .f) (c .before .before .loop-test .taken) (sym (c .before .frame-ok .ensures) ∙ not-false _ (c .if1 .left)))
+    let l = c .before .before .before .before .before .loop in
+    let a = c .before .before .before .before .before .before .before .before .args in
+    let f = c .before .before .before .least .result in
+    let some : 1 ≤ countHeld (l .rest) = omega (arith, l .inv .0, c .before .before .before .before .loop-test .taken) in
+    let there = least-there (l .rest) some f (c .before .before .before .least .ensures) in
+    let fewer : l .left - 1 ≡ countHeld (mark (l .rest) f 0) = omega (arith, l .inv .0, count-without (l .rest) f (there .0) (there .1)) in
+    let passes = least-passes (a .frames) (a .pool .now) (l .rest) some f (c .before .before .before .least .ensures) _ (c .before .before .frame-ok .ensures)
+    (not-false _ (c .before .if1 .left)) in
+    rw (c .without .ensures) (fewer, l .inv .1 ∙ passes)
 
 returns-2 : tie.Need-returns-2 Inv-loop μ-loop
 returns-2 c =
     let l = c .before .loop in
-    let a = c .before .before .before .args in
-    sym (l .inv .1 ∙ every-end (frameOk (a .frames) (a .pool .now) (a .kept)) 128 (l .f) (c .loop-test .left))
+    sym (l .inv .1 ∙ none-left _ _ (l .rest) (omega (arith, l .inv .0, c .loop-test .left)))
 
 pub frames-ok-spec : {M : Type 1} → statement M
-frames-ok-spec = tie.close (tie.spec Inv-loop μ-loop loop-holds frame-ok-requires returns add-f loop-less loop-again returns-2)
+frames-ok-spec =
+    tie.close
+    (tie.spec Inv-loop μ-loop count-requires loop-holds least-requires frame-ok-requires returns without-requires sub-left loop-less loop-again returns-2)

@@ -13,7 +13,8 @@ use Rattle.kept.proofs.grant.Tie as tie
 
 abbrev Inv-loop : tie.InvT-loop
 Inv-loop table₀ first n g₀ i₀ table g i =
-    (i ≤ n) × (length table ≡ length table₀) × (g .rest ≡ leftOf (g₀ .rest) i) × ((pool : List ℕ) → kept (g .held) pool table ≡ adoptTo first (g₀ .rest) (kept (g₀ .held) pool table₀) i)
+    (i ≤ n) × (length table ≡ length table₀) × (g .rest ≡ leftOf (g₀ .rest) i)
+    × ((pool : List ℕ) → kept (g .held) pool table ≡ adoptTo first (g₀ .rest) (kept (g₀ .held) pool table₀) i)
 
 abbrev μ-loop : tie.MeasureT-loop
 μ-loop table₀ first n g₀ i₀ table g i = n - i
@@ -31,8 +32,10 @@ add-grant-one c = search needs
 grant-one-requires : tie.Need-grant-one-requires Inv-loop μ-loop
 grant-one-requires c κs =
     let l = c .before .before .loop in
-    let start = c .before .before .before .before in
-    (omega (arith, l .inv .1, start .pre .0, c .before .loop-test .taken), least-low _ (l .g .rest) (l .i) _ (l .inv .2) (c .before .loop-test .taken) (start .pre .1))
+    let start = c .before .before .before .before in (
+      omega (arith, l .inv .1, start .pre .0, c .before .loop-test .taken),
+      least-low _ (l .g .rest) (l .i) _ (l .inv .2) (c .before .loop-test .taken) (start .pre .1),
+    )
 
 add-i : tie.Need-add-i Inv-loop μ-loop
 add-i c = search needs
@@ -44,8 +47,12 @@ loop-again : tie.Need-loop-again Inv-loop μ-loop
 loop-again c =
     let l = c .before .before .before .before .before .loop in
     let e = c .before .before .grant-one .ensures in
-    let same = ap length (e .1 .1) ∙ length-set (l .table) _ _ in
-    (search needs, same ∙ l .inv .1, left-more _ (l .g .rest) _ (l .i) (l .inv .2) (e .1 .0), λ pool. adopt-more _ _ (l .g .held) _ pool (l .table) _ _ (l .g .rest) (l .i) (l .inv .2) (l .inv .3 pool) (e .0) (e .1 .1))
+    let same = ap length (e .1 .1) ∙ length-set (l .table) _ _ in (
+      search needs,
+      same ∙ l .inv .1,
+      left-more _ (l .g .rest) _ (l .i) (l .inv .2) (e .1 .0),
+      λ pool. adopt-more _ _ (l .g .held) _ pool (l .table) _ _ (l .g .rest) (l .i) (l .inv .2) (l .inv .3 pool) (e .0) (e .1 .1),
+    )
 
 same-length : tie.Need-same-length Inv-loop μ-loop
 same-length c = search needs

@@ -41,7 +41,10 @@ same-length c = search needs
 
 -- src/lib.rt:117:1
 returns : tie.Need-returns
-returns c = (rw (c .before .with .ensures, c .before .before .least .ensures), (rw (c .without .ensures, c .before .before .least .ensures), rw (c .before .before .least .ensures)))
+returns c = (
+  rw (c .before .with .ensures, c .before .before .least .ensures),
+  (rw (c .without .ensures, c .before .before .least .ensures), rw (c .before .before .least .ensures)),
+)
 
 pub grant-one-spec : {M : Type 1} → statement M
 grant-one-spec =

@@ -1,33 +1,33 @@
--- The loop has passed i bytes, all zero: whether all are is whether the rest are.
-use mathlib.Core.Path.{_≡_, refl, sym, _∙_}
+-- So far all bytes are zero, or not.
+use mathlib.Core.Path.{_≡_, refl, sym, ap, _∙_}
+use mathlib.Core.Bool.{Bool}
+use mathlib.Core.List.{List}
 use Prim.Native.Nat.{ℕ, _≤_, _-_}
 use native.Mathlib.Omega.{arith}
 use lib.Dec.{eqb}
 use lib.ListN.{getD}
 use borrow.Author.Needs.{needs}
-use borrow.Author.Tests.{eq-eqb, ne-eqb}
 use Rattle.basics.specs.Ranges.{every}
-use Rattle.basics.proofs.LoopLaws.{every-next, every-stop, every-end}
+use Rattle.basics.proofs.LoopLaws.{every-last}
 use Rattle.kept.proofs.is_zero.Statement.{statement}
 use Rattle.kept.proofs.is_zero.Tie as tie
 
+-- the test of byte i
+abbrev of : List ℕ → ℕ → Bool
+of page i = eqb (getD page i 0) 0
+
 abbrev Inv-loop : tie.InvT-loop
-Inv-loop page i₀ i = (i ≤ 256) × (every (λ o. eqb (getD page o 0) 0) 0 256 ≡ every (λ o. eqb (getD page o 0) 0) i (256 - i))
+Inv-loop page zero₀ i₀ zero i = (i ≤ 256) × (zero ≡ every (of page) 0 i)
 
 abbrev μ-loop : tie.MeasureT-loop
-μ-loop page i₀ i = 256 - i
+μ-loop page zero₀ i₀ zero i = 256 - i
 
 loop-holds : tie.Need-loop-holds Inv-loop μ-loop
+unfolding every
 loop-holds c = (omega arith, refl)
 
-shared-slice-read-if1 : tie.Need-shared-slice-read-if1 Inv-loop μ-loop
-shared-slice-read-if1 c = search needs
-
-returns : tie.Need-returns Inv-loop μ-loop
-returns c =
-    let l = c .before .before .before .loop in
-    let page = c .before .before .before .before .args .page .now in
-    sym (l .inv .1 ∙ every-stop (λ o. eqb (getD page o 0) 0) 256 (l .i) (c .before .before .loop-test .taken) (ne-eqb (getD page (l .i) 0) 0 (c .if1 .taken)))
+shared-slice-read-zero : tie.Need-shared-slice-read-zero Inv-loop μ-loop
+shared-slice-read-zero c = search needs
 
 add-i : tie.Need-add-i Inv-loop μ-loop
 add-i c = search needs
@@ -37,15 +37,14 @@ loop-less c = search needs
 
 loop-again : tie.Need-loop-again Inv-loop μ-loop
 loop-again c =
-    let l = c .before .before .before .loop in
-    let page = c .before .before .before .before .args .page .now in
-    (search needs, l .inv .1 ∙ every-next (λ o. eqb (getD page o 0) 0) 256 (l .i) (c .before .before .loop-test .taken) (eq-eqb (getD page (l .i) 0) 0 (c .if1 .left)))
+    let page = c .before .before .before .args .page .now in
+    let l = c .before .before .loop in
+    (search needs, rw (l .inv .1) (sym (every-last (of page) (l .i))))
 
-returns-2 : tie.Need-returns-2 Inv-loop μ-loop
-returns-2 c =
+returns : tie.Need-returns Inv-loop μ-loop
+returns c =
     let l = c .before .loop in
-    let page = c .before .before .args .page .now in
-    sym (l .inv .1 ∙ every-end (λ o. eqb (getD page o 0) 0) 256 (l .i) (c .loop-test .left))
+    l .inv .1 ∙ ap (every (of (c .before .before .args .page .now)) 0) (omega (arith, l .inv .0, c .loop-test .left))
 
 pub is-zero-spec : {M : Type 1} → statement M
-is-zero-spec = tie.close (tie.spec Inv-loop μ-loop loop-holds shared-slice-read-if1 returns add-i loop-less loop-again returns-2)
+is-zero-spec = tie.close (tie.spec Inv-loop μ-loop loop-holds shared-slice-read-zero add-i loop-less loop-again returns)

@@ -28,7 +28,8 @@ add-t8 : tie.Need-add-t8
 add-t8 c =
     let arm = c .before .before in
     let start = arm .before .before .before .before in
-    let found = greatest-found (bit (start .args .self .high)) (start .args .frames - 64) (arm .high .given .0 .0) (sym (arm .before .before .greatest-unset2 .ensures) ∙ arm .high .given .1) in
+    let found = greatest-found (bit (start .args .self .high)) (start .args .frames - 64) (arm .high .given .0 .0)
+    (sym (arm .before .before .greatest-unset2 .ensures) ∙ arm .high .given .1) in
     omega (arith, found .within, start .pre)
 
 enum-told : tie.Need-enum-told
@@ -47,7 +48,8 @@ returns-3 : tie.Need-returns-3
 returns-3 c =
     let arm = c .before in
     let test = arm .before .before .before in
-    c .greatest-unset3 .ensures ∙ free-rest (test .before .args .self) _ (le-of-lt (test .if1 .left)) (sym (arm .before .before .greatest-unset2 .ensures) ∙ arm .enum-told .given .1)
+    c .greatest-unset3 .ensures ∙ free-rest (test .before .args .self) _ (le-of-lt (test .if1 .left))
+    (sym (arm .before .before .greatest-unset2 .ensures) ∙ arm .enum-told .given .1)
 
 pub greatest-free-spec : {M : Type 1} → statement M
 greatest-free-spec =

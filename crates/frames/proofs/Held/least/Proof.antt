@@ -30,7 +30,8 @@ add-result c =
 returns-2 : tie.Need-returns-2
 returns-2 c =
     let self = c .before .before .before .args .self in
-    sym (rw (le-ltb _ 64 (c .before .if1 .left))) ∙ least-words self (c .before .before .lowest-set .result) (c .lowest-set2 .result) (c .before .before .lowest-set .ensures) (c .lowest-set2 .ensures)
+    sym (rw (le-ltb _ 64 (c .before .if1 .left)))
+    ∙ least-words self (c .before .before .lowest-set .result) (c .lowest-set2 .result) (c .before .before .lowest-set .ensures) (c .lowest-set2 .ensures)
 
 pub least-spec : {M : Type 1} → statement M
 least-spec = tie.close (tie.spec lowest-set-requires returns lowest-set-requires-2 add-result returns-2)

@@ -18,12 +18,14 @@ is-fitter-requires c κs = search needs
 returns : tie.Need-returns
 returns c =
     let a = c .before .before .before .before .args in
-    better-new (fitter (a .pages)) (lengthsOf (a .self)) _ _ _ _ (c .before .before .before .length .ensures .0) (c .before .before .length2 .ensures .0) (sym (c .before .is-fitter .ensures) ∙ c .if1 .taken)
+    better-new (fitter (a .pages)) (lengthsOf (a .self)) _ _ _ _ (c .before .before .before .length .ensures .0) (c .before .before .length2 .ensures .0)
+    (sym (c .before .is-fitter .ensures) ∙ c .if1 .taken)
 
 returns-2 : tie.Need-returns-2
 returns-2 c =
     let a = c .before .before .before .before .args in
-    better-old (fitter (a .pages)) (lengthsOf (a .self)) _ _ _ _ (c .before .before .before .length .ensures .0) (c .before .before .length2 .ensures .0) (sym (c .before .is-fitter .ensures) ∙ c .if1 .left)
+    better-old (fitter (a .pages)) (lengthsOf (a .self)) _ _ _ _ (c .before .before .before .length .ensures .0) (c .before .before .length2 .ensures .0)
+    (sym (c .before .is-fitter .ensures) ∙ c .if1 .left)
 
 pub fitter-of-spec : {M : Type 1} → statement M
 fitter-of-spec = tie.close (tie.spec length-requires length-requires-2 is-fitter-requires returns returns-2)

@@ -32,8 +32,11 @@ loop-again : tie.Need-loop-again Inv-loop μ-loop
 loop-again c =
     let a = c .before .before .before .args in
     let l = c .before .before .loop in
-    let row = lengthsOf (a .self) in
-    (search needs, better-low (fitter (a .pages)) row (l .i) (l .best) _ (c .before .loop-test .taken) (l .inv .1) (c .fitter-of .ensures), best-more (fitter (a .pages)) row (l .i) (l .best) _ (l .inv .2) (c .fitter-of .ensures))
+    let row = lengthsOf (a .self) in (
+      search needs,
+      better-low (fitter (a .pages)) row (l .i) (l .best) _ (c .before .loop-test .taken) (l .inv .1) (c .fitter-of .ensures),
+      best-more (fitter (a .pages)) row (l .i) (l .best) _ (l .inv .2) (c .fitter-of .ensures),
+    )
 
 returns : tie.Need-returns Inv-loop μ-loop
 unfolding runFor

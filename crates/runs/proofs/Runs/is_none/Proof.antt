@@ -26,7 +26,8 @@ returns : tie.Need-returns Inv-loop μ-loop
 returns c =
     let l = c .before .before .before .loop in
     let a = c .before .before .before .before .args in
-    sym (l .inv .1 ∙ every-stop (λ j. sameHeld (row (a .self) j) noneHeld) 8 (l .i) (c .before .before .loop-test .taken) (sym (c .before .is-empty .ensures) ∙ not-true _ (c .if1 .taken)))
+    sym (l .inv .1 ∙ every-stop (λ j. sameHeld (row (a .self) j) noneHeld) 8 (l .i) (c .before .before .loop-test .taken)
+    (sym (c .before .is-empty .ensures) ∙ not-true _ (c .if1 .taken)))
 
 add-i : tie.Need-add-i Inv-loop μ-loop
 add-i c = search needs
@@ -37,8 +38,11 @@ loop-less c = search needs
 loop-again : tie.Need-loop-again Inv-loop μ-loop
 loop-again c =
     let l = c .before .before .before .loop in
-    let a = c .before .before .before .before .args in
-    (search needs, l .inv .1 ∙ every-next (λ j. sameHeld (row (a .self) j) noneHeld) 8 (l .i) (c .before .before .loop-test .taken) (sym (c .before .is-empty .ensures) ∙ not-false _ (c .if1 .left)))
+    let a = c .before .before .before .before .args in (
+      search needs,
+      l .inv .1 ∙ every-next (λ j. sameHeld (row (a .self) j) noneHeld) 8 (l .i) (c .before .before .loop-test .taken)
+          (sym (c .before .is-empty .ensures) ∙ not-false _ (c .if1 .left)),
+    )
 
 returns-2 : tie.Need-returns-2 Inv-loop μ-loop
 returns-2 c =

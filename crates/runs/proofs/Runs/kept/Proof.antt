@@ -35,8 +35,11 @@ loop-less c = search needs
 
 loop-again : tie.Need-loop-again Inv-loop μ-loop
 loop-again c =
-    let l = c .before .before .loop in
-    (search needs, omega (arith, l .inv .1, c .length .ensures .1), sum-more (lengthsOf (c .before .before .before .args .self)) (l .i) (l .n) _ (l .inv .2) (c .length .ensures .0))
+    let l = c .before .before .loop in (
+      search needs,
+      omega (arith, l .inv .1, c .length .ensures .1),
+      sum-more (lengthsOf (c .before .before .before .args .self)) (l .i) (l .n) _ (l .inv .2) (c .length .ensures .0),
+    )
 
 returns : tie.Need-returns Inv-loop μ-loop
 returns c =

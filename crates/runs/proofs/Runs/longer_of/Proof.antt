@@ -13,10 +13,14 @@ length-requires-2 : tie.Need-length-requires-2
 length-requires-2 c κs = search needs
 
 returns : tie.Need-returns
-returns c = better-new longer (lengthsOf (c .before .before .before .args .self)) _ _ _ _ (c .before .length2 .ensures .0) (c .before .before .length .ensures .0) (lt-ltb _ _ (c .if1 .taken))
+returns c =
+    better-new longer (lengthsOf (c .before .before .before .args .self)) _ _ _ _ (c .before .length2 .ensures .0) (c .before .before .length .ensures .0)
+    (lt-ltb _ _ (c .if1 .taken))
 
 returns-2 : tie.Need-returns-2
-returns-2 c = better-old longer (lengthsOf (c .before .before .before .args .self)) _ _ _ _ (c .before .length2 .ensures .0) (c .before .before .length .ensures .0) (le-ltb _ _ (c .if1 .left))
+returns-2 c =
+    better-old longer (lengthsOf (c .before .before .before .args .self)) _ _ _ _ (c .before .length2 .ensures .0) (c .before .before .length .ensures .0)
+    (le-ltb _ _ (c .if1 .left))
 
 pub longer-of-spec : {M : Type 1} → statement M
 longer-of-spec = tie.close (tie.spec length-requires length-requires-2 returns returns-2)

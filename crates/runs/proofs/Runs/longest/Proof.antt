@@ -32,8 +32,11 @@ loop-again : tie.Need-loop-again Inv-loop μ-loop
 loop-again c =
     let a = c .before .before .before .args in
     let l = c .before .before .loop in
-    let row = lengthsOf (a .self) in
-    (search needs, better-low longer row (l .i) (l .best) _ (c .before .loop-test .taken) (l .inv .1) (c .longer-of .ensures), best-more longer row (l .i) (l .best) _ (l .inv .2) (c .longer-of .ensures))
+    let row = lengthsOf (a .self) in (
+      search needs,
+      better-low longer row (l .i) (l .best) _ (c .before .loop-test .taken) (l .inv .1) (c .longer-of .ensures),
+      best-more longer row (l .i) (l .best) _ (l .inv .2) (c .longer-of .ensures),
+    )
 
 returns : tie.Need-returns Inv-loop μ-loop
 unfolding longestRun

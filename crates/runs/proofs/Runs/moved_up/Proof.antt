@@ -35,8 +35,11 @@ loop-less c = search needs
 loop-again : tie.Need-loop-again Inv-loop μ-loop
 loop-again c =
     let l = c .before .before .before .loop in
-    let a = c .before .before .before .before .args in
-    (omega (arith, l .inv .0), omega (arith, c .before .before .loop-test .taken), shift-more (a .place) (a .self) (l .i) (l .r) _ _ (l .inv .0) (l .inv .2) (c .before .at .ensures) (c .with .ensures))
+    let a = c .before .before .before .before .args in (
+      omega (arith, l .inv .0),
+      omega (arith, c .before .before .loop-test .taken),
+      shift-more (a .place) (a .self) (l .i) (l .r) _ _ (l .inv .0) (l .inv .2) (c .before .at .ensures) (c .with .ensures),
+    )
 
 with-requires-2 : tie.Need-with-requires-2 Inv-loop μ-loop
 with-requires-2 c κs = search needs

@@ -27,7 +27,8 @@ moved-up-requires c κs = search needs
 -- src/lib.rt:96:5
 returns-2 : tie.Need-returns-2
 returns-2 c =
-    push-moves _ _ _ _ _ _ (c .before .before .before .before .shortest .ensures .0) (c .before .before .before .count .ensures) (c .before .before .length .ensures .0) (c .before .if1 .left) (c .moved-up .ensures)
+    push-moves _ _ _ _ _ _ (c .before .before .before .before .shortest .ensures .0) (c .before .before .before .count .ensures)
+    (c .before .before .length .ensures .0) (c .before .if1 .left) (c .moved-up .ensures)
 
 pub push-spec : {M : Type 1} → statement M
 push-spec =

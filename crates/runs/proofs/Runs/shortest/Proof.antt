@@ -31,8 +31,11 @@ loop-again : tie.Need-loop-again Inv-loop μ-loop
 loop-again c =
     let a = c .before .before .before .args in
     let l = c .before .before .loop in
-    let row = lengthsOf (a .self) in
-    (search needs, better-low noLonger row (l .i) (l .best) _ (c .before .loop-test .taken) (l .inv .1) (c .shorter-of .ensures), best-more noLonger row (l .i) (l .best) _ (l .inv .2) (c .shorter-of .ensures))
+    let row = lengthsOf (a .self) in (
+      search needs,
+      better-low noLonger row (l .i) (l .best) _ (c .before .loop-test .taken) (l .inv .1) (c .shorter-of .ensures),
+      best-more noLonger row (l .i) (l .best) _ (l .inv .2) (c .shorter-of .ensures),
+    )
 
 returns : tie.Need-returns Inv-loop μ-loop
 returns c =

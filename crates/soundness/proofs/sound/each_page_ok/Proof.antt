@@ -29,8 +29,13 @@ Inv-loop table s present snapshot p₀ q₀ here₀ there₀ i₀ p q here there
 abbrev μ-loop : tie.MeasureT-loop
 μ-loop table s present snapshot p₀ q₀ here₀ there₀ i₀ p q here there i = 64 - i
 
+abbrev test : tie.Start Inv-loop μ-loop → ℕ → Bool
+test s = of (s .args .t1) (s .args .t2) (s .args .table .now) (s .args .s)
+
 -- the page's test, and where the walks are at the next page
-tested : (c : tie.After-page-ok Inv-loop μ-loop) → c .page-ok .result ≡ (of (c .before .before .before .before .before .before .before .before .before .before .args .t1) (c .before .before .before .before .before .before .before .before .before .before .args .t2) (c .before .before .before .before .before .before .before .before .before .before .args .table .now) (c .before .before .before .before .before .before .before .before .before .before .args .s)) (c .before .before .before .before .before .before .loop .i)
+tested : (c : tie.After-page-ok Inv-loop μ-loop)
+    → c .page-ok .result ≡ test (c .before .before .before .before .before .before .before .before .before .before)
+    (c .before .before .before .before .before .before .loop .i)
 tested c =
     let s = c .before .before .before .before .before .before .before .before .before .before in
     let l = c .before .before .before .before .before .before .loop in
@@ -50,11 +55,14 @@ present-more c =
     let l = c .before .before .before .before .before .before .before .before .before .loop in
     stand-more (s .args .t1) (s .pre .1 .1 .0) (l .i) (l .p) (l .here) (l .inv .2) (c .before .is-left .result) (c .before .is-left .ensures) (c .if2 .taken)
 
-present-at : (c : tie.Joined2 Inv-loop μ-loop) → Standing (c .before .before .before .before .before .before .before .before .before .before .before .before .before .args .t1) (c .before .before .before .before .before .before .before .before .before .loop .i + 1) (c .if2 .p) (c .if2 .here)
+present-at : (c : tie.Joined2 Inv-loop μ-loop) →
+    let s = c .before .before .before .before .before .before .before .before .before .before .before .before .before in
+    Standing (s .args .t1) (c .before .before .before .before .before .before .before .before .before .loop .i + 1) (c .if2 .p) (c .if2 .here)
 present-at c =
     let s = c .before .before .before .before .before .before .before .before .before .before .before .before .before in
     let l = c .before .before .before .before .before .before .before .before .before .loop in
-    stand-next (s .args .t1) (s .pre .1 .1 .0) (l .i) (l .p) (l .here) (l .inv .2) (c .before .is-left .result) (c .if2 .p) (c .if2 .here) (c .before .is-left .ensures)
+    stand-next (s .args .t1) (s .pre .1 .1 .0) (l .i) (l .p) (l .here) (l .inv .2) (c .before .is-left .result) (c .if2 .p) (c .if2 .here)
+    (c .before .is-left .ensures)
     (⊎-elim (λ w. inl (w .0 .taken, w .2, w .3)) (λ w. inr (w .0 .left, w .1, w .2)) (c .if2 .came))
 
 snapshot-more : (c : tie.Then3 Inv-loop μ-loop) → c .before .before .before .before .before .before .before .before .before .before .before .loop .q + 1 < 8
@@ -63,11 +71,14 @@ snapshot-more c =
     let l = c .before .before .before .before .before .before .before .before .before .before .before .loop in
     stand-more (s .args .t2) (s .pre .1 .1 .1) (l .i) (l .q) (l .there) (l .inv .3) (c .before .is-left2 .result) (c .before .is-left2 .ensures) (c .if3 .taken)
 
-snapshot-at : (c : tie.Joined3 Inv-loop μ-loop) → Standing (c .before .before .before .before .before .before .before .before .before .before .before .before .before .before .before .args .t2) (c .before .before .before .before .before .before .before .before .before .before .before .loop .i + 1) (c .if3 .q) (c .if3 .there)
+snapshot-at : (c : tie.Joined3 Inv-loop μ-loop) →
+    let s = c .before .before .before .before .before .before .before .before .before .before .before .before .before .before .before in
+    Standing (s .args .t2) (c .before .before .before .before .before .before .before .before .before .before .before .loop .i + 1) (c .if3 .q) (c .if3 .there)
 snapshot-at c =
     let s = c .before .before .before .before .before .before .before .before .before .before .before .before .before .before .before in
     let l = c .before .before .before .before .before .before .before .before .before .before .before .loop in
-    stand-next (s .args .t2) (s .pre .1 .1 .1) (l .i) (l .q) (l .there) (l .inv .3) (c .before .is-left2 .result) (c .if3 .q) (c .if3 .there) (c .before .is-left2 .ensures)
+    stand-next (s .args .t2) (s .pre .1 .1 .1) (l .i) (l .q) (l .there) (l .inv .3) (c .before .is-left2 .result) (c .if3 .q) (c .if3 .there)
+    (c .before .is-left2 .ensures)
     (⊎-elim (λ w. inl (w .0 .taken, w .2, w .3)) (λ w. inr (w .0 .left, w .1, w .2)) (c .if3 .came))
 
 element-copy-out-here : tie.Need-element-copy-out-here Inv-loop μ-loop
@@ -85,7 +96,9 @@ front-requires : tie.Need-front-requires Inv-loop μ-loop
 front-requires c κs = (c .before .before .before .before .before .pre .0, (c .loop-test .taken, c .before .before .before .before .before .pre .1 .0))
 
 back-requires : tie.Need-back-requires Inv-loop μ-loop
-back-requires c κs = (c .before .before .before .before .before .before .pre .0, (c .before .loop-test .taken, c .before .before .before .before .before .before .pre .1 .0))
+back-requires c κs =
+    let s = c .before .before .before .before .before .before in
+    (s .pre .0, (c .before .loop-test .taken, s .pre .1 .0))
 
 slot-here-requires : tie.Need-slot-here-requires Inv-loop μ-loop
 slot-here-requires c κs =
@@ -105,9 +118,12 @@ page-ok-requires c κs = tt
 returns : tie.Need-returns Inv-loop μ-loop
 unfolding pagesOk
 returns c = λ h pool.
+    let l = c .before .before .before .before .before .before .before .loop in
     sym
-    (c .before .before .before .before .before .before .before .loop .inv .1
-    ∙ every-stop (of (c .before .before .before .before .before .before .before .before .before .before .before .args .t1) (c .before .before .before .before .before .before .before .before .before .before .before .args .t2) (c .before .before .before .before .before .before .before .before .before .before .before .args .table .now) (c .before .before .before .before .before .before .before .before .before .before .before .args .s)) 64 (c .before .before .before .before .before .before .before .loop .i) (c .before .before .before .before .before .before .loop-test .taken) (sym (tested (c .before)) ∙ not-true _ (c .if1 .taken)))
+    (l .inv .1
+    ∙ every-stop (test (c .before .before .before .before .before .before .before .before .before .before .before)) 64 (l .i)
+    (c .before .before .before .before .before .before .loop-test .taken)
+    (sym (tested (c .before)) ∙ not-true _ (c .if1 .taken)))
 
 add-t26 : tie.Need-add-t26 Inv-loop μ-loop
 add-t26 c = omega (arith, c .before .before .before .before .before .before .loop-test .taken)
@@ -155,14 +171,19 @@ loop-again : tie.Need-loop-again Inv-loop μ-loop
 loop-again c =
     let l = c .before .before .before .before .before .before .before .before .before .before .before .loop in (
       omega arith,
-      l .inv .1 ∙ every-next (of (c .before .before .before .before .before .before .before .before .before .before .before .before .before .before .before .args .t1) (c .before .before .before .before .before .before .before .before .before .before .before .before .before .before .before .args .t2) (c .before .before .before .before .before .before .before .before .before .before .before .before .before .before .before .args .table .now) (c .before .before .before .before .before .before .before .before .before .before .before .before .before .before .before .args .s)) 64 (l .i) (c .before .before .before .before .before .before .before .before .before .before .loop-test .taken) (sym (tested (c .before .before .before .before .before)) ∙ not-false _ (c .before .before .before .before .if1 .left)),
+      l .inv .1 ∙ every-next (test (c .before .before .before .before .before .before .before .before .before .before .before .before .before .before .before))
+          64 (l .i)
+          (c .before .before .before .before .before .before .before .before .before .before .loop-test .taken)
+          (sym (tested (c .before .before .before .before .before)) ∙ not-false _ (c .before .before .before .before .if1 .left)),
       present-at (c .before .before),
       snapshot-at c,
     )
 
 returns-2 : tie.Need-returns-2 Inv-loop μ-loop
 unfolding pagesOk
-returns-2 c = λ h pool. sym (c .before .loop .inv .1 ∙ every-end (of (c .before .before .before .before .before .args .t1) (c .before .before .before .before .before .args .t2) (c .before .before .before .before .before .args .table .now) (c .before .before .before .before .before .args .s)) 64 (c .before .loop .i) (c .loop-test .left))
+returns-2 c = λ h pool.
+    let l = c .before .loop in
+    sym (l .inv .1 ∙ every-end (test (c .before .before .before .before .before)) 64 (l .i) (c .loop-test .left))
 
 pub each-page-ok-spec : {M : Type 1} → statement M
 each-page-ok-spec =

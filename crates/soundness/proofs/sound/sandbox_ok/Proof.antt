@@ -1,42 +1,104 @@
-use mathlib.Core.Path.{sym, _∙_}
+use Prim.Native.Nat.{ℕ}
+use mathlib.Core.Path.{_≡_, sym, _∙_}
+use mathlib.Core.Bool.{true}
+use mathlib.Core.List.{List}
+use borrow.Author.Needs.{needs}
 use borrow.Author.Tests.{not-true, not-false}
-use Rattle.table.specs.Store.{kept}
+use Rattle.frames.specs.declared.Held.{Held}
+use Rattle.table.specs.Store.{Store, kept}
+use Rattle.areas.specs.Formed.{wellFormed}
+use Rattle.areas.specs.Walk.{Formed}
 use Rattle.areas.proofs.FormedLaws.{formed}
 use Rattle.areas.proofs.WalkLaws.{settled}
+use Rattle.state.specs.Test.{pagesOk}
 use Rattle.soundness.proofs.SandboxLaws.{present-fails, snapshot-fails, pages-fail, charge-fails, record-decides}
-use borrow.Author.Needs.{needs}
 use Rattle.soundness.proofs.sound.sandbox_ok.Statement.{statement}
 use Rattle.soundness.proofs.sound.sandbox_ok.Tie as tie
+
+-- the start, from behind each test that was passed
+abbrev start1 : tie.Else1 → tie.Start
+start1 c = c .before .before .before .before
+
+abbrev start2 : tie.Else2 → tie.Start
+start2 c = start1 (c .before .before .before)
+
+abbrev start3 : tie.Else3 → tie.Start
+start3 c = start2 (c .before .before)
+
+abbrev store : tie.Start → Held → List ℕ → Store
+store s h pool = kept h pool (s .args .table .now)
+
+-- what each says
+present-hold : (c : tie.Else1) → wellFormed (start1 c .args .images) (start1 c .args .b .present) ≡ true
+present-hold c = sym (c .before .well-formed .ensures .0) ∙ not-false (c .before .well-formed .result) (c .if1 .left)
+
+present-formed : (c : tie.Else1) → Formed (start1 c .args .b .present)
+present-formed c =
+    let s = start1 c in
+    settled (s .args .images) (s .args .b .present) (formed (s .args .images) (s .args .b .present) (present-hold c)) (s .pre .1 .0)
+
+snapshot-hold : (c : tie.Else2) → wellFormed (start2 c .args .images) (start2 c .args .b .snapshot) ≡ true
+snapshot-hold c = sym (c .before .well-formed2 .ensures .0) ∙ not-false (c .before .well-formed2 .result) (c .if2 .left)
+
+snapshot-formed : (c : tie.Else2) → Formed (start2 c .args .b .snapshot)
+snapshot-formed c =
+    let s = start2 c in
+    settled (s .args .images) (s .args .b .snapshot) (formed (s .args .images) (s .args .b .snapshot) (snapshot-hold c)) (s .pre .1 .0)
+
+pages-hold : (c : tie.Else3) (h : Held) (pool : List ℕ) →
+    let s = start3 c in
+    pagesOk (store s h pool) (s .args .s) (s .args .b .present) (s .args .b .snapshot) ≡ true
+pages-hold c h pool = sym (c .before .pages-ok .ensures h pool) ∙ not-false (c .before .pages-ok .result) (c .if3 .left)
 
 well-formed-requires : tie.Need-well-formed-requires
 well-formed-requires c κs = search needs
 
 returns : tie.Need-returns
-returns c = λ h pool. present-fails (c .before .before .before .before .args .images) (kept h pool (c .before .before .before .before .args .table .now)) (c .before .before .before .before .args .s) (c .before .before .before .before .args .b) (sym (c .before .well-formed .ensures .0) ∙ not-true (c .before .well-formed .result) (c .if1 .taken))
+returns c = λ h pool.
+    let s = c .before .before .before .before in
+    present-fails (s .args .images) (store s h pool) (s .args .s) (s .args .b)
+    (sym (c .before .well-formed .ensures .0) ∙ not-true (c .before .well-formed .result) (c .if1 .taken))
 
 well-formed-requires-2 : tie.Need-well-formed-requires-2
 well-formed-requires-2 c κs = search needs
 
 returns-2 : tie.Need-returns-2
-returns-2 c = λ h pool. snapshot-fails (c .before .before .before .before .before .before .before .args .images) (kept h pool (c .before .before .before .before .before .before .before .args .table .now)) (c .before .before .before .before .before .before .before .args .s) (c .before .before .before .before .before .before .before .args .b) (sym (c .before .before .before .before .well-formed .ensures .0) ∙ not-false (c .before .before .before .before .well-formed .result) (c .before .before .before .if1 .left)) (sym (c .before .well-formed2 .ensures .0) ∙ not-true (c .before .well-formed2 .result) (c .if2 .taken))
+returns-2 c = λ h pool.
+    let p = c .before .before .before in
+    let s = start1 p in
+    snapshot-fails (s .args .images) (store s h pool) (s .args .s) (s .args .b) (present-hold p)
+    (sym (c .before .well-formed2 .ensures .0) ∙ not-true (c .before .well-formed2 .result) (c .if2 .taken))
 
 pages-ok-requires : tie.Need-pages-ok-requires
-pages-ok-requires c κs = (c .before .before .before .before .before .before .before .pre .0, (c .before .before .before .before .before .before .before .pre .1 .1, (settled (c .before .before .before .before .before .before .before .args .images) (c .before .before .before .before .before .before .before .args .b .present) (formed (c .before .before .before .before .before .before .before .args .images) (c .before .before .before .before .before .before .before .args .b .present) (sym (c .before .before .before .before .well-formed .ensures .0) ∙ not-false (c .before .before .before .before .well-formed .result) (c .before .before .before .if1 .left))) (c .before .before .before .before .before .before .before .pre .1 .0), settled (c .before .before .before .before .before .before .before .args .images) (c .before .before .before .before .before .before .before .args .b .snapshot) (formed (c .before .before .before .before .before .before .before .args .images) (c .before .before .before .before .before .before .before .args .b .snapshot) (sym (c .before .well-formed2 .ensures .0) ∙ not-false (c .before .well-formed2 .result) (c .if2 .left))) (c .before .before .before .before .before .before .before .pre .1 .0))))
+pages-ok-requires c κs = let s = start2 c in (s .pre .0, (s .pre .1 .1, (present-formed (c .before .before .before), snapshot-formed c)))
 
 returns-3 : tie.Need-returns-3
-returns-3 c = λ h pool. pages-fail (c .before .before .before .before .before .before .before .before .before .args .images) (kept h pool (c .before .before .before .before .before .before .before .before .before .args .table .now)) (c .before .before .before .before .before .before .before .before .before .args .s) (c .before .before .before .before .before .before .before .before .before .args .b) (sym (c .before .before .before .before .before .before .well-formed .ensures .0) ∙ not-false (c .before .before .before .before .before .before .well-formed .result) (c .before .before .before .before .before .if1 .left)) (sym (c .before .before .before .well-formed2 .ensures .0) ∙ not-false (c .before .before .before .well-formed2 .result) (c .before .before .if2 .left)) (sym (c .before .pages-ok .ensures h pool) ∙ not-true (c .before .pages-ok .result) (c .if3 .taken))
+returns-3 c = λ h pool.
+    let p = c .before .before in
+    let s = start2 p in
+    pages-fail (s .args .images) (store s h pool) (s .args .s) (s .args .b) (present-hold (p .before .before .before)) (snapshot-hold p)
+    (sym (c .before .pages-ok .ensures h pool) ∙ not-true (c .before .pages-ok .result) (c .if3 .taken))
 
 charge-requires : tie.Need-charge-requires
-charge-requires c κs = (settled (c .before .before .before .before .before .before .before .before .before .args .images) (c .before .before .before .before .before .before .before .before .before .args .b .present) (formed (c .before .before .before .before .before .before .before .before .before .args .images) (c .before .before .before .before .before .before .before .before .before .args .b .present) (sym (c .before .before .before .before .before .before .well-formed .ensures .0) ∙ not-false (c .before .before .before .before .before .before .well-formed .result) (c .before .before .before .before .before .if1 .left))) (c .before .before .before .before .before .before .before .before .before .pre .1 .0), settled (c .before .before .before .before .before .before .before .before .before .args .images) (c .before .before .before .before .before .before .before .before .before .args .b .snapshot) (formed (c .before .before .before .before .before .before .before .before .before .args .images) (c .before .before .before .before .before .before .before .before .before .args .b .snapshot) (sym (c .before .before .before .well-formed2 .ensures .0) ∙ not-false (c .before .before .before .well-formed2 .result) (c .before .before .if2 .left))) (c .before .before .before .before .before .before .before .before .before .pre .1 .0))
+charge-requires c κs = (present-formed (c .before .before .before .before .before), snapshot-formed (c .before .before))
 
 returns-4 : tie.Need-returns-4
-returns-4 c = λ h pool. charge-fails (c .before .before .before .before .before .before .before .before .before .before .before .before .args .images) (kept h pool (c .before .before .before .before .before .before .before .before .before .before .before .before .args .table .now)) (c .before .before .before .before .before .before .before .before .before .before .before .before .args .s) (c .before .before .before .before .before .before .before .before .before .before .before .before .args .b) (sym (c .before .before .before .before .before .before .before .before .before .well-formed .ensures .0) ∙ not-false (c .before .before .before .before .before .before .before .before .before .well-formed .result) (c .before .before .before .before .before .before .before .before .if1 .left)) (sym (c .before .before .before .before .before .before .well-formed2 .ensures .0) ∙ not-false (c .before .before .before .before .before .before .well-formed2 .result) (c .before .before .before .before .before .if2 .left)) (sym (c .before .before .before .before .pages-ok .ensures h pool) ∙ not-false (c .before .before .before .before .pages-ok .result) (c .before .before .before .if3 .left)) (c .before .before .charge .result) (c .before .before .charge .ensures) (c .if4 .taken)
+returns-4 c = λ h pool.
+    let p = c .before .before .before in
+    let s = start3 p in
+    charge-fails (s .args .images) (store s h pool) (s .args .s) (s .args .b) (present-hold (p .before .before .before .before .before))
+    (snapshot-hold (p .before .before)) (pages-hold p h pool) (c .before .before .charge .result) (c .before .before .charge .ensures) (c .if4 .taken)
 
 record-ok-requires : tie.Need-record-ok-requires
 record-ok-requires c κs = search needs
 
 returns-5 : tie.Need-returns-5
-returns-5 c = λ h pool. c .record-ok .ensures ∙ record-decides (c .before .before .before .before .before .before .before .before .before .before .before .before .before .args .images) (kept h pool (c .before .before .before .before .before .before .before .before .before .before .before .before .before .args .table .now)) (c .before .before .before .before .before .before .before .before .before .before .before .before .before .args .s) (c .before .before .before .before .before .before .before .before .before .before .before .before .before .args .b) (sym (c .before .before .before .before .before .before .before .before .before .before .well-formed .ensures .0) ∙ not-false (c .before .before .before .before .before .before .before .before .before .before .well-formed .result) (c .before .before .before .before .before .before .before .before .before .if1 .left)) (sym (c .before .before .before .before .before .before .before .well-formed2 .ensures .0) ∙ not-false (c .before .before .before .before .before .before .before .well-formed2 .result) (c .before .before .before .before .before .before .if2 .left)) (sym (c .before .before .before .before .before .pages-ok .ensures h pool) ∙ not-false (c .before .before .before .before .before .pages-ok .result) (c .before .before .before .before .if3 .left)) (c .before .before .before .charge .result) (c .before .before .before .charge .ensures) (c .before .if4 .left)
+returns-5 c = λ h pool.
+    let p = c .before .before .before .before in
+    let s = start3 p in
+    record-decides (s .args .images) (store s h pool) (s .args .s) (s .args .b) (present-hold (p .before .before .before .before .before))
+    (snapshot-hold (p .before .before)) (pages-hold p h pool) (c .before .before .before .charge .result) (c .before .before .before .charge .ensures)
+    (c .before .if4 .left) (c .record-ok .result) (c .record-ok .ensures)
 
 pub sandbox-ok-spec : {M : Type 1} → statement M
 sandbox-ok-spec =

@@ -1,10 +1,10 @@
 use Rattle.state.proofs.SharesLaws.{zeroSandbox}
 use borrow.Author.Needs.{needs}
 use native.Mathlib.Omega.{arith}
-use Prim.Native.Nat.{ℕ, _-_, _≤_}
-use mathlib.Core.Path.{_≡_, refl, sym, ap, _∙_}
-use mathlib.Core.Bool.{Bool}
-use mathlib.Core.List.{List}
+use Prim.Native.Nat.{ℕ, _-_, _≤_, _<_}
+use mathlib.Core.Path.{_≡_, refl, sym, _∙_}
+use mathlib.Core.Bool.{Bool, _&&_}
+use mathlib.Core.List.{List, []}
 use lib.ListN.{length, getD}
 use borrow.Author.Tests.{not-true, not-false}
 use Rattle.basics.specs.Ranges.{every}
@@ -12,19 +12,26 @@ use Rattle.basics.proofs.TestLaws.{length-mapped}
 use Rattle.basics.proofs.ListLaws.{getD-any}
 use Rattle.basics.proofs.LoopLaws.{every-next, every-stop, every-end}
 use Rattle.frames.specs.declared.Held.{Held}
-use Rattle.table.specs.Store.{kept}
+use Rattle.frames.specs.Frames.{noneHeld}
+use Rattle.table.specs.Store.{Store, kept}
 use Rattle.state.specs.declared.sandbox.Sandbox.{Sandbox}
-use Rattle.state.specs.World.{closedSandbox}
-use Rattle.state.specs.Test.{sandboxOk}
+use Rattle.state.specs.World.{World, sandboxAt, closedSandbox}
+use Rattle.state.specs.Test.{sandboxOk, runsOkAt}
+use Rattle.state.proofs.TestLaws.{passed-true}
+use Rattle.state.proofs.Room.{passed-share}
+use Rattle.soundness.proofs.SandboxLaws.{sandbox-stops, runs-decide}
 use Rattle.soundness.proofs.sound.sandboxes_ok.Statement.{statement}
 use Rattle.soundness.proofs.sound.sandboxes_ok.Tie as tie
 
--- the test of sandbox s
+-- the test of sandbox s and of its runs
 abbrev tests : Held → List ℕ → List ℕ → ℕ → List Sandbox → ℕ → Bool
-tests h pool table images sandboxes s = sandboxOk images (kept h pool table) s (getD sandboxes s closedSandbox)
+tests h pool table images sandboxes s =
+    let w : World = record { sandboxes = sandboxes; store = kept h pool table } in
+    sandboxOk images (w .store) s (sandboxAt w s) && runsOkAt w s
 
 abbrev Inv-loop : tie.InvT-loop
-Inv-loop table images sandboxes s₀ s = (s ≤ 4) × ((h : Held) (pool : List ℕ) → every (tests h pool table images sandboxes) 0 4 ≡ every (tests h pool table images sandboxes) s (4 - s))
+Inv-loop table images sandboxes s₀ s =
+    (s ≤ 4) × ((h : Held) (pool : List ℕ) → every (tests h pool table images sandboxes) 0 4 ≡ every (tests h pool table images sandboxes) s (4 - s))
 
 abbrev μ-loop : tie.MeasureT-loop
 μ-loop table images sandboxes s₀ s = 4 - s
@@ -32,11 +39,22 @@ abbrev μ-loop : tie.MeasureT-loop
 four : (c : tie.Start Inv-loop μ-loop) → length (c .args .t1) ≡ 4
 four c = search length-mapped
 
-here : (c : tie.After-sandbox-ok Inv-loop μ-loop) (h : Held) (pool : List ℕ) → c .sandbox-ok .result ≡ tests h pool (c .before .before .before .before .before .args .table .now) (c .before .before .before .before .before .args .images) (c .before .before .before .before .before .args .t1) (c .before .before .before .loop .s)
+same : (start : tie.Start Inv-loop μ-loop) (s : ℕ) → s < 4 → getD (start .args .t1) s zeroSandbox ≡ getD (start .args .t1) s closedSandbox
+same start s l = getD-any (start .args .t1) s zeroSandbox closedSandbox (omega (arith, four start, l))
+
+-- what the two calls say of the world's sandbox
+here : (c : tie.After-runs-ok Inv-loop μ-loop) (h : Held) (pool : List ℕ) →
+    let a = c .before .before .before .before .before .before .before .before .args in
+    c .runs-ok .result ≡ tests h pool (a .table .now) (a .images) (a .t1) (c .before .before .before .before .before .before .loop .s)
 here c h pool =
-    c .sandbox-ok .ensures h pool
-    ∙ ap (λ (b : Sandbox). sandboxOk (c .before .before .before .before .before .args .images) (kept h pool (c .before .before .before .before .before .args .table .now)) (c .before .before .before .loop .s) b)
-    (getD-any (c .before .before .before .before .before .args .t1) (c .before .before .before .loop .s) zeroSandbox closedSandbox (let e = four (c .before .before .before .before .before) in omega arith))
+    let start = c .before .before .before .before .before .before .before .before in
+    let a = start .args in
+    let s : ℕ = c .before .before .before .before .before .before .loop .s in
+    let t = c .before .before .before .sandbox-ok in
+    runs-decide (a .images) (kept h pool (a .table .now)) s (getD (a .t1) s zeroSandbox) (getD (a .t1) s closedSandbox)
+    (same start s (c .before .before .before .before .before .loop-test .taken)) (t .result) (t .ensures h pool) (not-false _ (c .before .before .if1 .left))
+    (c .runs-ok .result)
+    (c .runs-ok .ensures h pool)
 
 loop-holds : tie.Need-loop-holds Inv-loop μ-loop
 loop-holds c = (omega arith, λ h pool. refl)
@@ -54,19 +72,57 @@ sandbox-ok-requires : tie.Need-sandbox-ok-requires Inv-loop μ-loop
 sandbox-ok-requires c κs = (c .before .loop-test .taken, c .before .before .before .before .pre)
 
 returns : tie.Need-returns Inv-loop μ-loop
-returns c = λ h pool. sym (c .before .before .before .before .loop .inv .1 h pool ∙ every-stop (tests h pool (c .before .before .before .before .before .before .args .table .now) (c .before .before .before .before .before .before .args .images) (c .before .before .before .before .before .before .args .t1)) 4 (c .before .before .before .before .loop .s) (c .before .before .before .loop-test .taken) (sym (here (c .before) h pool) ∙ not-true (c .before .sandbox-ok .result) (c .if1 .taken)))
+returns c = λ h pool.
+    let start = c .before .before .before .before .before .before in
+    let a = start .args in
+    let l = c .before .before .before .before .loop in
+    let low = c .before .before .before .loop-test .taken in
+    let t = c .before .sandbox-ok in
+    sym (l .inv .1 h pool ∙ every-stop (tests h pool (a .table .now) (a .images) (a .t1)) 4 (l .s) low
+    (sandbox-stops (a .images) (kept h pool (a .table .now)) (l .s) (getD (a .t1) (l .s) zeroSandbox) (getD (a .t1) (l .s) closedSandbox)
+    (same start (l .s) low) (t .result) (t .ensures h pool) (not-true _ (c .if1 .taken))))
 
-add-s : tie.Need-add-s Inv-loop μ-loop
-add-s c = omega arith
-
-loop-less : tie.Need-loop-less Inv-loop μ-loop
-loop-less c = omega arith
-
-loop-again : tie.Need-loop-again Inv-loop μ-loop
-loop-again c = (omega arith, λ h pool. c .before .before .before .before .loop .inv .1 h pool ∙ every-next (tests h pool (c .before .before .before .before .before .before .args .table .now) (c .before .before .before .before .before .before .args .images) (c .before .before .before .before .before .before .args .t1)) 4 (c .before .before .before .before .loop .s) (c .before .before .before .loop-test .taken) (sym (here (c .before) h pool) ∙ not-false (c .before .sandbox-ok .result) (c .if1 .left)))
+-- a sandbox that passed has entries within its share
+runs-ok-requires : tie.Need-runs-ok-requires Inv-loop μ-loop
+runs-ok-requires c κs =
+    let start = c .before .before .before .before .before .before .before in
+    let a = start .args in
+    let s : ℕ = c .before .before .before .before .before .loop .s in
+    let b : Sandbox = getD (a .t1) s zeroSandbox in
+    let st : Store = kept noneHeld [] (a .table .now) in
+    let t = c .before .before .sandbox-ok in
+    let passed = passed-true (a .images) st s b (sym (t .ensures noneHeld []) ∙ not-false _ (c .before .if1 .left)) in
+    (c .before .before .before .before .loop-test .taken, (start .pre .1, passed-share (a .images) st s b passed))
 
 returns-2 : tie.Need-returns-2 Inv-loop μ-loop
-returns-2 c = λ h pool. sym (c .before .loop .inv .1 h pool ∙ every-end (tests h pool (c .before .before .before .args .table .now) (c .before .before .before .args .images) (c .before .before .before .args .t1)) 4 (c .before .loop .s) (c .loop-test .left))
+returns-2 c = λ h pool.
+    let a = c .before .before .before .before .before .before .before .before .before .args in
+    let l = c .before .before .before .before .before .before .before .loop in
+    sym (l .inv .1 h pool ∙ every-stop (tests h pool (a .table .now) (a .images) (a .t1)) 4 (l .s)
+    (c .before .before .before .before .before .before .loop-test .taken)
+    (sym (here (c .before) h pool) ∙ not-true _ (c .if2 .taken)))
+
+add-s : tie.Need-add-s Inv-loop μ-loop
+add-s c = search needs
+
+loop-less : tie.Need-loop-less Inv-loop μ-loop
+loop-less c = search needs
+
+loop-again : tie.Need-loop-again Inv-loop μ-loop
+loop-again c =
+    let a = c .before .before .before .before .before .before .before .before .before .args in
+    let l = c .before .before .before .before .before .before .before .loop in (
+      search needs,
+      λ h pool. l .inv .1 h pool
+          ∙ every-next (tests h pool (a .table .now) (a .images) (a .t1)) 4 (l .s) (c .before .before .before .before .before .before .loop-test .taken)
+          (sym (here (c .before) h pool) ∙ not-false _ (c .if2 .left)),
+    )
+
+returns-3 : tie.Need-returns-3 Inv-loop μ-loop
+returns-3 c = λ h pool.
+    let a = c .before .before .before .args in
+    let l = c .before .loop in
+    sym (l .inv .1 h pool ∙ every-end (tests h pool (a .table .now) (a .images) (a .t1)) 4 (l .s) (c .loop-test .left))
 
 pub sandboxes-ok-spec : {M : Type 1} → statement M
 sandboxes-ok-spec =
@@ -80,7 +136,9 @@ sandboxes-ok-spec =
     array-copy-out-b
     sandbox-ok-requires
     returns
+    runs-ok-requires
+    returns-2
     add-s
     loop-less
     loop-again
-    returns-2)
+    returns-3)

@@ -1,56 +1,121 @@
-use mathlib.Core.Path.{sym, _∙_}
+use mathlib.Core.Path.{_≡_, sym, _∙_}
+use mathlib.Core.Bool.{true}
 use native.Mathlib.Omega.{arith}
 use lib.ListN.{length}
 use borrow.Author.Needs.{needs}
 use borrow.Author.Tests.{not-true, not-false}
-use Rattle.state.specs.World.{worldOf}
-use Rattle.state.specs.Test.{sandboxesOk, keptOk}
-use Rattle.state.proofs.TestLaws.{lengths-true}
-use Rattle.soundness.proofs.StateLaws.{lengths-fail, marks-fail, sandboxes-fail, kept-fails, shares-decide}
+use Rattle.marks.specs.Marks.{marksb}
+use Rattle.state.specs.World.{World, worldOf, framesOf, lengthsOk}
+use Rattle.state.proofs.TestLaws.{Lengths, lengths-true}
+use Rattle.soundness.proofs.StateLaws.{lengths-fail, marks-fail, sandboxes-fail, spare-fails, shares-decide}
 use Rattle.soundness.proofs.sound.sound.Statement.{statement}
 use Rattle.soundness.proofs.sound.sound.Tie as tie
+
+-- the start, from behind each test that was passed
+abbrev start1 : tie.Else1 → tie.Start
+start1 c = c .before .before .before .before .before
+
+abbrev start2 : tie.Else2 → tie.Start
+start2 c = start1 (c .before .before .before)
+
+abbrev start3 : tie.Else3 → tie.Start
+start3 c = start2 (c .before .before .before)
+
+abbrev world : tie.Start → World
+world s = worldOf (s .args .m) (s .args .pool .now) (s .args .table .now)
+
+-- what each says
+lengths-hold : (c : tie.Else1) →
+    let a = start1 c .args in
+    lengthsOk (length (a .pool .now)) (length (a .table .now)) (length (a .image .now)) ≡ true
+lengths-hold c = sym (c .before .lengths-ok .ensures) ∙ not-false (c .before .lengths-ok .result) (c .if1 .left)
+
+lengths : (c : tie.Else1) →
+    let a = start1 c .args in
+    Lengths (length (a .pool .now)) (length (a .table .now)) (length (a .image .now))
+lengths c = let a = start1 c .args in lengths-true (length (a .pool .now)) (length (a .table .now)) (length (a .image .now)) (lengths-hold c)
+
+marks-hold : (c : tie.Else2) →
+    let w = world (start2 c) in
+    marksb (framesOf w) (w .store .marks) (w .store .table) ≡ true
+marks-hold c = sym (c .before .marks-match .ensures) ∙ not-false (c .before .marks-match .result) (c .if2 .left)
 
 lengths-ok-requires : tie.Need-lengths-ok-requires
 lengths-ok-requires c κs = search needs
 
 returns : tie.Need-returns
-returns c = lengths-fail (c .before .before .before .before .before .args .image .now) (worldOf (c .before .before .before .before .before .args .m) (c .before .before .before .before .before .args .pool .now) (c .before .before .before .before .before .args .table .now)) (sym (c .before .lengths-ok .ensures) ∙ not-true (c .before .lengths-ok .result) (c .if1 .taken))
+returns c =
+    let s = c .before .before .before .before .before in
+    lengths-fail (s .args .image .now) (world s) (sym (c .before .lengths-ok .ensures) ∙ not-true (c .before .lengths-ok .result) (c .if1 .taken))
 
 cast-frames : tie.Need-cast-frames
-cast-frames c = let l = lengths-true (length (c .before .before .before .before .before .args .pool .now)) (length (c .before .before .before .before .before .args .table .now)) (length (c .before .before .before .before .before .args .image .now)) (sym (c .before .lengths-ok .ensures) ∙ not-false (c .before .lengths-ok .result) (c .if1 .left)) in omega arith
+cast-frames c = let l = lengths c in omega arith
 
 cast-images : tie.Need-cast-images
-cast-images c = let l = lengths-true (length (c .before .before .before .before .before .args .pool .now)) (length (c .before .before .before .before .before .args .table .now)) (length (c .before .before .before .before .before .args .image .now)) (sym (c .before .lengths-ok .ensures) ∙ not-false (c .before .lengths-ok .result) (c .if1 .left)) in omega arith
+cast-images c = let l = lengths c in omega arith
 
 marks-match-requires : tie.Need-marks-match-requires
-marks-match-requires c κs = let l = lengths-true (length (c .before .before .before .before .before .before .args .pool .now)) (length (c .before .before .before .before .before .before .args .table .now)) (length (c .before .before .before .before .before .before .args .image .now)) (sym (c .before .before .lengths-ok .ensures) ∙ not-false (c .before .before .lengths-ok .result) (c .before .if1 .left)) in (l .entries, l .few)
+marks-match-requires c κs = let l = lengths (c .before) in (l .entries, l .few)
 
 returns-2 : tie.Need-returns-2
-returns-2 c = marks-fail (c .before .before .before .before .before .before .before .before .args .image .now) (worldOf (c .before .before .before .before .before .before .before .before .args .m) (c .before .before .before .before .before .before .before .before .args .pool .now) (c .before .before .before .before .before .before .before .before .args .table .now)) (sym (c .before .before .before .before .lengths-ok .ensures) ∙ not-false (c .before .before .before .before .lengths-ok .result) (c .before .before .before .if1 .left)) (sym (c .before .marks-match .ensures) ∙ not-true (c .before .marks-match .result) (c .if2 .taken))
+returns-2 c =
+    let p = c .before .before .before in
+    marks-fail (start1 p .args .image .now) (world (start1 p)) (lengths-hold p)
+    (sym (c .before .marks-match .ensures) ∙ not-true (c .before .marks-match .result) (c .if2 .taken))
 
 sandboxes-ok-requires : tie.Need-sandboxes-ok-requires
-sandboxes-ok-requires c κs = let l = lengths-true (length (c .before .before .before .before .before .before .before .before .before .args .pool .now)) (length (c .before .before .before .before .before .before .before .before .before .args .table .now)) (length (c .before .before .before .before .before .before .before .before .before .args .image .now)) (sym (c .before .before .before .before .before .lengths-ok .ensures) ∙ not-false (c .before .before .before .before .before .lengths-ok .result) (c .before .before .before .before .if1 .left)) in (l .images, l .entries)
+sandboxes-ok-requires c κs = let l = lengths (c .before .before .before .before) in (l .images, l .entries)
 
 returns-3 : tie.Need-returns-3
-unfolding sandboxesOk
-returns-3 c = sandboxes-fail (c .before .before .before .before .before .before .before .before .before .before .before .args .image .now) (worldOf (c .before .before .before .before .before .before .before .before .before .before .before .args .m) (c .before .before .before .before .before .before .before .before .before .before .before .args .pool .now) (c .before .before .before .before .before .before .before .before .before .before .before .args .table .now)) (sym (c .before .before .before .before .before .before .before .lengths-ok .ensures) ∙ not-false (c .before .before .before .before .before .before .before .lengths-ok .result) (c .before .before .before .before .before .before .if1 .left)) (sym (c .before .before .before .before .marks-match .ensures) ∙ not-false (c .before .before .before .before .marks-match .result) (c .before .before .before .if2 .left)) (sym (c .before .sandboxes-ok .ensures (c .before .before .before .before .before .before .before .before .before .before .before .args .m .held) (c .before .before .before .before .before .before .before .before .before .before .before .args .pool .now)) ∙ not-true (c .before .sandboxes-ok .result) (c .if3 .taken))
+returns-3 c =
+    let p = c .before .before .before in
+    let a = start2 p .args in
+    sandboxes-fail (a .image .now) (world (start2 p)) (lengths-hold (p .before .before .before)) (marks-hold p)
+    (c .before .sandboxes-ok .result) (c .before .sandboxes-ok .ensures (a .m .held) (a .pool .now)) (not-true _ (c .if3 .taken))
 
-kept-ok-requires : tie.Need-kept-ok-requires
-kept-ok-requires c κs = let l = lengths-true (length (c .before .before .before .before .before .before .before .before .before .before .before .args .pool .now)) (length (c .before .before .before .before .before .before .before .before .before .before .before .args .table .now)) (length (c .before .before .before .before .before .before .before .before .before .before .before .args .image .now)) (sym (c .before .before .before .before .before .before .before .lengths-ok .ensures) ∙ not-false (c .before .before .before .before .before .before .before .lengths-ok .result) (c .before .before .before .before .before .before .if1 .left)) in (l .few, (omega (arith, l .pages), l .entries))
+spare-ok-requires : tie.Need-spare-ok-requires
+spare-ok-requires c κs = let l = lengths (c .before .before .before .before .before .before) in (l .few, omega (arith, l .pages))
 
 returns-4 : tie.Need-returns-4
-unfolding sandboxesOk keptOk
-returns-4 c = kept-fails (c .before .before .before .before .before .before .before .before .before .before .before .before .before .args .image .now) (worldOf (c .before .before .before .before .before .before .before .before .before .before .before .before .before .args .m) (c .before .before .before .before .before .before .before .before .before .before .before .before .before .args .pool .now) (c .before .before .before .before .before .before .before .before .before .before .before .before .before .args .table .now)) (sym (c .before .before .before .before .before .before .before .before .before .lengths-ok .ensures) ∙ not-false (c .before .before .before .before .before .before .before .before .before .lengths-ok .result) (c .before .before .before .before .before .before .before .before .if1 .left)) (sym (c .before .before .before .before .before .before .marks-match .ensures) ∙ not-false (c .before .before .before .before .before .before .marks-match .result) (c .before .before .before .before .before .if2 .left)) (sym (c .before .before .before .sandboxes-ok .ensures (c .before .before .before .before .before .before .before .before .before .before .before .before .before .args .m .held) (c .before .before .before .before .before .before .before .before .before .before .before .before .before .args .pool .now)) ∙ not-false (c .before .before .before .sandboxes-ok .result) (c .before .before .if3 .left)) (sym (c .before .kept-ok .ensures) ∙ not-true (c .before .kept-ok .result) (c .if4 .taken))
+returns-4 c =
+    let p = c .before .before in
+    let t = p .before .sandboxes-ok in
+    let a = start3 p .args in
+    spare-fails (a .image .now) (world (start3 p)) (lengths-hold (p .before .before .before .before .before .before)) (marks-hold (p .before .before .before))
+    (t .result) (t .ensures (a .m .held) (a .pool .now)) (not-false _ (p .if3 .left)) (c .before .spare-ok .result)
+    (c .before .spare-ok .ensures (a .table .now)) (not-true _ (c .if4 .taken))
 
 shares-requires : tie.Need-shares-requires
 shares-requires c κs = search needs
 
 cast-result : tie.Need-cast-result
-cast-result c = let l = lengths-true (length (c .before .before .before .before .before .before .before .before .before .before .before .before .before .before .args .pool .now)) (length (c .before .before .before .before .before .before .before .before .before .before .before .before .before .before .args .table .now)) (length (c .before .before .before .before .before .before .before .before .before .before .before .before .before .before .args .image .now)) (sym (c .before .before .before .before .before .before .before .before .before .before .lengths-ok .ensures) ∙ not-false (c .before .before .before .before .before .before .before .before .before .before .lengths-ok .result) (c .before .before .before .before .before .before .before .before .before .if1 .left)) in omega arith
+cast-result c = let l = lengths (c .before .before .before .before .before .before .before .before .before) in omega arith
 
 returns-5 : tie.Need-returns-5
-unfolding sandboxesOk keptOk
-returns-5 c = rw (c .shares .ensures .0) (shares-decide (c .before .before .before .before .before .before .before .before .before .before .before .before .before .before .args .image .now) (worldOf (c .before .before .before .before .before .before .before .before .before .before .before .before .before .before .args .m) (c .before .before .before .before .before .before .before .before .before .before .before .before .before .before .args .pool .now) (c .before .before .before .before .before .before .before .before .before .before .before .before .before .before .args .table .now)) (sym (c .before .before .before .before .before .before .before .before .before .before .lengths-ok .ensures) ∙ not-false (c .before .before .before .before .before .before .before .before .before .before .lengths-ok .result) (c .before .before .before .before .before .before .before .before .before .if1 .left)) (sym (c .before .before .before .before .before .before .before .marks-match .ensures) ∙ not-false (c .before .before .before .before .before .before .before .marks-match .result) (c .before .before .before .before .before .before .if2 .left)) (sym (c .before .before .before .before .sandboxes-ok .ensures (c .before .before .before .before .before .before .before .before .before .before .before .before .before .before .args .m .held) (c .before .before .before .before .before .before .before .before .before .before .before .before .before .before .args .pool .now)) ∙ not-false (c .before .before .before .before .sandboxes-ok .result) (c .before .before .before .if3 .left)) (sym (c .before .before .kept-ok .ensures) ∙ not-false (c .before .before .kept-ok .result) (c .before .if4 .left)))
+returns-5 c =
+    let p = c .before .before .before in
+    let t = p .before .sandboxes-ok in
+    let q = c .before .before .spare-ok in
+    let a = start3 p .args in
+    rw (c .shares .ensures .0)
+    (shares-decide (a .image .now) (world (start3 p)) (lengths-hold (p .before .before .before .before .before .before))
+    (marks-hold (p .before .before .before)) (t .result) (t .ensures (a .m .held) (a .pool .now)) (not-false _ (p .if3 .left)) (q .result)
+    (q .ensures (a .table .now)) (not-false _ (c .before .if4 .left)))
 
 pub sound-spec : {M : Type 1} → statement M
-sound-spec = tie.close (tie.spec lengths-ok-requires returns cast-frames cast-images marks-match-requires returns-2 sandboxes-ok-requires returns-3 kept-ok-requires returns-4 shares-requires cast-result returns-5)
+sound-spec =
+    tie.close
+    (tie.spec
+    lengths-ok-requires
+    returns
+    cast-frames
+    cast-images
+    marks-match-requires
+    returns-2
+    sandboxes-ok-requires
+    returns-3
+    spare-ok-requires
+    returns-4
+    shares-requires
+    cast-result
+    returns-5)

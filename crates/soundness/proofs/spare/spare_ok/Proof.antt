@@ -23,7 +23,8 @@ kept-marks-requires c κs = search needs
 returns : tie.Need-returns
 returns c = λ table.
     let a = c .before .before .before .before .before .args in
-    twice (a .frames) (kept (a .held) (a .pool .now) table) (rows (a .sandboxes)) (c .before .before .before .kept-marks .result) (c .before .before .before .kept-marks .ensures) (not-true _ (c .if1 .taken))
+    twice (a .frames) (kept (a .held) (a .pool .now) table) (rows (a .sandboxes)) (c .before .before .before .kept-marks .result)
+    (c .before .before .before .kept-marks .ensures) (not-true _ (c .if1 .taken))
 
 apart-requires : tie.Need-apart-requires
 apart-requires c κs = search needs
@@ -31,7 +32,8 @@ apart-requires c κs = search needs
 returns-2 : tie.Need-returns-2
 returns-2 c = λ table.
     let a = c .before .before .before .before .before .before .before .args in
-    named-too (a .frames) (kept (a .held) (a .pool .now) table) (rows (a .sandboxes)) (c .before .before .before .before .before .kept-marks .result) (c .before .before .before .before .before .kept-marks .ensures) (not-false _ (c .before .before .if1 .left))
+    named-too (a .frames) (kept (a .held) (a .pool .now) table) (rows (a .sandboxes)) (c .before .before .before .before .before .kept-marks .result)
+    (c .before .before .before .before .before .kept-marks .ensures) (not-false _ (c .before .before .if1 .left))
     (sym (c .before .apart .ensures) ∙ not-true _ (c .if2 .taken))
 
 frames-ok-requires : tie.Need-frames-ok-requires
@@ -41,7 +43,9 @@ returns-3 : tie.Need-returns-3
 returns-3 c = λ table.
     let a = c .before .before .before .before .before .before .before .before .args in
     c .frames-ok .ensures
-    ∙ frames-decide (a .frames) (kept (a .held) (a .pool .now) table) (rows (a .sandboxes)) (c .before .before .before .before .before .before .kept-marks .result) (c .before .before .before .before .before .before .kept-marks .ensures) (not-false _ (c .before .before .before .if1 .left))
+    ∙ frames-decide (a .frames) (kept (a .held) (a .pool .now) table) (rows (a .sandboxes))
+    (c .before .before .before .before .before .before .kept-marks .result) (c .before .before .before .before .before .before .kept-marks .ensures)
+    (not-false _ (c .before .before .before .if1 .left))
     (sym (c .before .before .apart .ensures) ∙ not-false _ (c .before .if2 .left))
 
 pub spare-ok-spec : {M : Type 1} → statement M

@@ -1,6 +1,8 @@
-use mathlib.Core.Path.{sym, _∙_}
+use mathlib.Core.Path.{_≡_, sym, _∙_}
+use mathlib.Core.Bool.{true}
 use lib.ListN.{length}
 use borrow.Author.Tests.{not-true, not-false}
+use Rattle.state.specs.World.{lengthsOk}
 use Rattle.state.proofs.TestLaws.{lengths-true}
 use Rattle.state.proofs.StartLaws.{start-refused, start-made}
 use borrow.Author.Needs.{needs}
@@ -14,10 +16,22 @@ lengths-ok-requires : tie.Need-lengths-ok-requires
 lengths-ok-requires c κs = search needs
 
 returns : tie.Need-returns
-returns c = start-refused (c .before .before .before .before .before .before .args .pool .now) (c .before .before .before .before .before .before .args .table .now) (c .before .before .before .before .before .before .args .image .now) (sym (c .before .lengths-ok .ensures) ∙ not-true (c .before .lengths-ok .result) (c .if1 .taken)) (c .before .before .fresh .result) (c .before .before .fresh .ensures)
+returns c =
+    let a = c .before .before .before .before .before .before .args in
+    start-refused (a .pool .now) (a .table .now) (a .image .now)
+    (sym (c .before .lengths-ok .ensures) ∙ not-true (c .before .lengths-ok .result) (c .if1 .taken)) (c .before .before .fresh .result)
+    (c .before .before .fresh .ensures)
+
+-- the lengths are right, from behind their test
+lengths-hold : (c : tie.Else1) →
+    let a = c .before .before .before .before .before .before .args in
+    lengthsOk (length (a .pool .now)) (length (a .table .now)) (length (a .image .now)) ≡ true
+lengths-hold c = sym (c .before .lengths-ok .ensures) ∙ not-false (c .before .lengths-ok .result) (c .if1 .left)
 
 start-requires : tie.Need-start-requires
-start-requires c κs = lengths-true (length (c .before .before .before .before .before .before .before .before .args .pool .now)) (length (c .before .before .before .before .before .before .before .before .args .table .now)) (length (c .before .before .before .before .before .before .before .before .args .image .now)) (sym (c .before .before .before .lengths-ok .ensures) ∙ not-false (c .before .before .before .lengths-ok .result) (c .before .before .if1 .left)) .entries
+start-requires c κs =
+    let a = c .before .before .before .before .before .before .before .before .args in
+    lengths-true (length (a .pool .now)) (length (a .table .now)) (length (a .image .now)) (lengths-hold (c .before .before)) .entries
 
 same-length : tie.Need-same-length
 same-length c = search needs
@@ -26,7 +40,12 @@ same-length-2 : tie.Need-same-length-2
 same-length-2 c = search needs
 
 returns-2 : tie.Need-returns-2
-returns-2 c = start-made (c .before .before .before .before .before .before .before .before .before .before .before .before .before .args .pool .now) (c .before .before .before .before .before .before .before .before .before .before .before .before .before .args .table .now) (c .before .before .before .before .before .before .before .before .before .before .before .before .before .args .image .now) (sym (c .before .before .before .before .before .before .before .before .lengths-ok .ensures) ∙ not-false (c .before .before .before .before .before .before .before .before .lengths-ok .result) (c .before .before .before .before .before .before .before .if1 .left)) (c .before .before .before .before .before .before .before .before .before .fresh .result) _ (c .before .before .before .before .before .before .before .before .before .fresh .ensures) (c .before .before .before .before .start .ensures)
+returns-2 c =
+    let a = c .before .before .before .before .before .before .before .before .before .before .before .before .before .args in
+    let made = c .before .before .before .before .before .before .before .before .before .fresh in
+    start-made (a .pool .now) (a .table .now) (a .image .now) (lengths-hold (c .before .before .before .before .before .before .before)) (made .result) _
+    (made .ensures)
+    (c .before .before .before .before .start .ensures)
 
 pub start-spec : {M : Type 1} → statement M
 start-spec =

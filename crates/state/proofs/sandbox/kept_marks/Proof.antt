@@ -59,8 +59,11 @@ loop-again c =
     let start = c .before .before .before .before .before .before in
     let l = c .before .before .before .before .loop in
     let low = c .before .before .before .loop-test .taken in
-    let same = getD-any (start .args .t1) (l .s) zeroSandbox closedSandbox (let e = four start in omega (arith, low, e)) in
-    (search needs, kept-more (rows (start .args .t1)) (l .s) (l .found) _ (row (getD (start .args .t1) (l .s) zeroSandbox .runs)) (l .inv .1) (ap (λ (b : Sandbox). row (b .runs)) same) (c .add-runs .ensures))
+    let same = getD-any (start .args .t1) (l .s) zeroSandbox closedSandbox (let e = four start in omega (arith, low, e)) in (
+      search needs,
+      kept-more (rows (start .args .t1)) (l .s) (l .found) _ (row (getD (start .args .t1) (l .s) zeroSandbox .runs)) (l .inv .1)
+          (ap (λ (b : Sandbox). row (b .runs)) same) (c .add-runs .ensures),
+    )
 
 returns : tie.Need-returns Inv-loop μ-loop
 returns c =
@@ -69,4 +72,5 @@ returns c =
     l .inv .1 ∙ ap (keptTo (rows (c .before .before .before .args .t1))) end
 
 pub kept-marks-spec : {M : Type 1} → statement M
-kept-marks-spec = tie.close (tie.spec Inv-loop μ-loop none-requires loop-holds cast-k mul-b array-copy-out-b add-runs-requires add-s loop-less loop-again returns)
+kept-marks-spec =
+    tie.close (tie.spec Inv-loop μ-loop none-requires loop-holds cast-k mul-b array-copy-out-b add-runs-requires add-s loop-less loop-again returns)

@@ -58,7 +58,11 @@ add-result-3 c = search needs
 
 -- src/sandbox.rt:116:1
 returns : tie.Need-returns
-returns c = (shares-four (c .before .before .before .before .before .before .before .before .args .t1) zeroSandbox (four (c .before .before .before .before .before .before .before .before)), omega arith)
+returns c = (
+  shares-four (c .before .before .before .before .before .before .before .before .args .t1) zeroSandbox
+      (four (c .before .before .before .before .before .before .before .before)),
+  omega arith,
+)
 
 pub shares-spec : {M : Type 1} → statement M
 shares-spec =

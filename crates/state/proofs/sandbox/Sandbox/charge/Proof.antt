@@ -34,12 +34,24 @@ uncommitted-pages-requires c κs = search needs
 
 -- src/sandbox.rt:111:9
 add-result : tie.Need-add-result
-add-result c = omega (arith, c .before .mapped-pages2 .ensures, c .uncommitted-pages .ensures, mapped-small (slots (c .before .before .before .before .before .before .args .self .snapshot)), uncommitted-small (slots (c .before .before .before .before .before .before .args .self .present)))
+add-result c =
+    omega (
+      arith,
+      c .before .mapped-pages2 .ensures,
+      c .uncommitted-pages .ensures,
+      mapped-small (slots (c .before .before .before .before .before .before .args .self .snapshot)),
+      uncommitted-small (slots (c .before .before .before .before .before .before .args .self .present)),
+    )
 
 -- src/sandbox.rt:101:5
 returns-2 : tie.Need-returns-2
 unfolding chargeOf
-returns-2 c = rw (not-false (c .before .before .before .before .before .before .args .self .taken) (c .before .before .if1 .left), c .before .mapped-pages2 .ensures, c .uncommitted-pages .ensures)
+returns-2 c =
+    rw (
+      not-false (c .before .before .before .before .before .before .args .self .taken) (c .before .before .if1 .left),
+      c .before .mapped-pages2 .ensures,
+      c .uncommitted-pages .ensures,
+    )
 
 pub charge-spec : {M : Type 1} → statement M
 charge-spec =
