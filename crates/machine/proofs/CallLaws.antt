@@ -1,12 +1,13 @@
 -- A call, by each of its ways out; and what a sound state gives to the parts of an accepted call.
 use Prim.Native.Nat.{ℕ, _<_}
 use mathlib.Core.Path.{_≡_, refl, sym, ap, _∙_}
+use mathlib.Core.Logic.{⊎-elim, inl, inr}
 use mathlib.Core.Bool.{true, false, false≢true}
 use mathlib.Core.List.{List}
 use lib.Dec.{eqb}
 use lib.ListN.{length, set}
-use borrow.Author.Tests.{lt-ltb, eqb-true}
-use Rattle.basics.proofs.TestLaws.{and-left, and-right, and-both}
+use borrow.Author.Tests.{lt-ltb, eq-eqb}
+use Rattle.basics.proofs.TestLaws.{and-left, and-right, and-of}
 use Rattle.interface.specs.declared.answer.Refusal.{Refusal}
 use Rattle.interface.specs.declared.answer.Refusal.the-variants.{Malformed, NoSuchCall, Unsound, NotOpen, AlreadyOpen, OutsideLimits, SnapshotTaken}
 use Rattle.interface.specs.declared.answer.Refusal.the-variants.{NoSnapshot, NotMapped, AlreadyMapped, NoGap, NotWritable, ShareExceeded, TooManyAreas}
@@ -15,34 +16,22 @@ use Rattle.interface.specs.Answers.{refusalNumber}
 use Rattle.interface.specs.Requests.{Write, isCall, pageOf}
 use Rattle.interface.specs.Slots.{isMapped}
 use Rattle.interface.specs.Refusals.{allMapped, refusal}
-use Rattle.interface.proofs.AcceptedLaws.{accepted}
+use Rattle.interface.proofs.AcceptedLaws.{accepted, map-fits}
 use Rattle.table.specs.Store.{Store}
+use Rattle.runs.specs.declared.Runs.{Runs}
 use Rattle.areas.specs.Areas.{slots}
 use Rattle.state.specs.declared.sandbox.Sandbox.{Sandbox}
-use Rattle.marks.specs.Marks.{marksb}
-use Rattle.marks.proofs.MarkLaws.{words}
-use Rattle.state.specs.World.{World, sandboxAt, framesOf, pagesIn, viewAt, lengthsOk}
-use Rattle.state.proofs.TestLaws.{lengths-true, sound-true}
-use Rattle.state.specs.Sound.{Sound}
+use Rattle.state.specs.World.{World, sandboxAt, withRuns, framesOf, pagesIn, viewAt}
 use Rattle.state.specs.Test.{soundb}
-use Rattle.state.proofs.Room.{room}
+use Rattle.state.proofs.TestLaws.{Tested}
+use Rattle.state.proofs.Room.{room-left, frame-there}
 use Rattle.rules.specs.After.{sandboxAfter}
 use Rattle.rules.specs.Ready.{Ready}
 use Rattle.rules.proofs.FitLaws.{fit, page-small}
 use Rattle.memory.specs.Memory.{valueAt}
-use Rattle.machine.specs.Step.{Outcome, Stepped, numberAt, takes, step}
+use Rattle.machine.specs.Step.{Outcome, Stepped, numberAt, takes, gives, step}
 use Rattle.memory.specs.Parts.{Asked, StoreStepped}
 use Rattle.machine.specs.Parts.{Performed}
-
--- a state whose test passes is sound: the marks are two words of 64 bits, because they are those that the pass over the entries found
-pub sound-of-test : (image : List ℕ) (w : World) → length (w .sandboxes) ≡ 4 → soundb image w ≡ true → Sound image w
-unfolding soundb
-sound-of-test image w four e =
-    let tested = and-both (lengthsOk (length (w .store .pool)) (length (w .store .table)) (length image)) _ e in
-    let lengths = lengths-true (length (w .store .pool)) (length (w .store .table)) (length image) (tested .0) in
-    let marks = and-left (marksb (framesOf w) (w .store .marks) (w .store .table)) _ (tested .1) in
-    let two = words (framesOf w) (w .store .marks) (w .store .table) (lengths .few) marks in
-    sound-true image w (record { row = four; low = two .0; high = two .1 }) e
 
 -- no refusal has the number 0
 pub some-number : (why : Refusal) → eqb (refusalNumber why) 0 ≡ false
@@ -65,10 +54,18 @@ module _ (image : List ℕ) (w : World) (q : Request) where
   -- a refused call
   pub stepped-refused : (why : Refusal) → refusalNumber why ≡ numberAt image w q
       → Stepped image w q (record { answer = record { number = refusalNumber why; value = 0 }; world = w })
-  unfolding step takes
+  unfolding step takes gives
   stepped-refused why e =
       let no : eqb (numberAt image w q) 0 ≡ false = rw (← e) (some-number why) in
-      record { frame = 0; free = λ t. absurd (false≢true (sym no ∙ and-left (eqb (numberAt image w q) 0) _ t)); equals = rw (no, e) }
+      record {
+        frame = 0;
+        given = 0;
+        chosen = record {
+          gave = λ t. absurd (false≢true (sym no ∙ and-left (eqb (numberAt image w q) 0) _ t));
+          free = λ t. absurd (false≢true (sym no ∙ and-left (eqb (numberAt image w q) 0) _ t));
+        };
+        equals = rw (no, e);
+      }
 
   pub number-two : isCall q ≡ false → 2 ≡ numberAt image w q
   unfolding numberAt
@@ -88,20 +85,32 @@ module _ (image : List ℕ) (w : World) (q : Request) where
 
   -- an accepted call
   pub stepped : (o : Outcome) → numberAt image w q ≡ 0 → Performed image w q o → Stepped image w q o
-  unfolding step takes
-  stepped o n p = record { frame = p .frame; free = λ t. p .free (and-right (eqb (numberAt image w q) 0) _ t); equals = p .equals ∙ rw n }
+  unfolding step takes gives
+  stepped o n p =
+      let accepted : eqb (numberAt image w q) 0 ≡ true = eq-eqb (numberAt image w q) 0 n in
+      record {
+        frame = p .frame;
+        given = p .given;
+        chosen = record {
+          gave = λ t. p .gave (and-right (eqb (numberAt image w q) 0) _ t);
+          free = λ t. ⊎-elim (λ u. inl u) (λ g. inr (and-of accepted (g .0), g .1)) (p .takes (and-right (eqb (numberAt image w q) 0) _ t));
+        };
+        equals = p .equals ∙ rw n;
+      }
 
-  pub performed : (frames value : ℕ) (sandboxes : List Sandbox) (st : Store) → framesOf w ≡ frames
-      → StoreStepped image frames q (sandboxAt w (q .sandbox)) (w .store) st → value ≡ valueAt image q (sandboxAt w (q .sandbox)) (w .store)
-      → sandboxes ≡ set (w .sandboxes) (q .sandbox) (sandboxAfter q (sandboxAt w (q .sandbox)))
+  pub performed : (frames value : ℕ) (sandboxes : List Sandbox) (st : Store) (runs : Runs) → framesOf w ≡ frames
+      → StoreStepped image frames q w st runs → value ≡ valueAt image q (sandboxAt w (q .sandbox)) (w .store)
+      → sandboxes ≡ set (w .sandboxes) (q .sandbox) (withRuns runs (sandboxAfter q (sandboxAt w (q .sandbox))))
       → Performed image w q (record { answer = record { number = 0; value = value }; world = record { sandboxes = sandboxes; store = st } })
-  performed frames value sandboxes st f t v e = record {
+  performed frames value sandboxes st runs f t v e = record {
     frame = t .frame;
-    free = λ h. record { ofPool = rw f (t .free h .0); unheld = t .free h .1 };
-    equals = rw (v, e, t .equals);
+    given = t .given;
+    gave = t .gave;
+    takes = λ h. rw f (t .takes h);
+    equals = rw (v, e, t .equals, t .runs);
   }
 
-  module _ (S : Sound image w) (row : q .sandbox < 4) where
+  module _ (S : Tested image w) (row : q .sandbox < 4) where
     -- the sandbox of a sound state
     pub ready : Ready (pagesIn (length image)) (sandboxAt w (q .sandbox))
     ready = record {
@@ -114,19 +123,24 @@ module _ (image : List ℕ) (w : World) (q : Request) where
     }
 
     -- what an accepted call's parts ask
-    pub asked : refusal (viewAt image w (q .sandbox)) q ≡ 0 → Asked image (framesOf w) (pagesIn (length image)) q (sandboxAt w (q .sandbox)) (w .store)
+    pub asked : refusal (viewAt image w (q .sandbox)) q ≡ 0 → Asked image (framesOf w) (pagesIn (length image)) q w
     unfolding allMapped
     asked n =
         let a = accepted (viewAt image w (q .sandbox)) q n in
         let within-limits = fit (pagesIn (length image)) q (S .images) (a .inLimits) in
+        let small : q .code ≡ Write → pageOf q < 64 = λ e. page-small (q .p1) (within-limits .written e .0) in
+        let there : q .code ≡ Write → isMapped (slots (sandboxAt w (q .sandbox) .present) (pageOf q)) ≡ true = λ e. rw e at (a .mapped) in
         record {
           row = row;
           fit = within-limits;
           ready = ready;
           whole = S .whole;
           filed = S .filed;
-          room = λ e z.
-              let code = eqb-true (q .code) Write e in
-              let there : isMapped (slots (sandboxAt w (q .sandbox) .present) (pageOf q)) ≡ true = rw code at (a .mapped) in
-              room image w S (q .sandbox) (pageOf q) row (page-small (q .p1) (within-limits .written code .0)) there z;
+          spare = S .spare;
+          found = S .found;
+          mapped = λ e. map-fits (viewAt image w (q .sandbox)) q a e;
+          fits = λ e z. room-left image w S (q .sandbox) (pageOf q) row (small e) (there e) z;
+          room = λ e z h.
+              let f = frame-there image w S (q .sandbox) (pageOf q) row (small e) (there e) z h in
+              (f .0, record { ofPool = f .1 .0; unnamed = f .1 .1 .0; unkept = f .1 .1 .1 });
         }

@@ -1,23 +1,21 @@
--- The step of the machine: what a request answers and leaves, given the frame that a write takes if it takes one.
+-- The step of the machine: what a request answers and leaves, given the frame that a write takes and the one that it gives up, where it does.
 use mathlib.Core.Path.{_≡_}
 use mathlib.Core.Logic.{_⊎_}
 use mathlib.Core.Bool.{Bool, true, not, _&&_}
 use mathlib.Core.List.{List}
-use Prim.Native.Nat.{ℕ, _<_}
+use Prim.Native.Nat.{ℕ}
 use lib.Dec.{eqb}
 use Rattle.basics.specs.Choice.{_when_else_}
 use Rattle.interface.specs.declared.request.Request.{Request}
 use Rattle.interface.specs.Answers.{Answered}
 use Rattle.interface.specs.Requests.{_is_, Write, isCall, pageOf}
 use Rattle.interface.specs.Refusals.{refusal}
-use Rattle.frames.specs.Frames.{held}
 use Rattle.table.specs.Store.{entry, frontOf}
-use Rattle.kept.specs.Spare.{keptAt}
 use Rattle.state.specs.declared.sandbox.Sandbox.{Sandbox}
-use Rattle.state.specs.World.{World, sandboxAt, withSandbox, withRuns, framesOf, viewAt, rowsOf}
+use Rattle.state.specs.World.{World, sandboxAt, withSandbox, withRuns, framesOf, viewAt}
 use Rattle.state.specs.Test.{soundb}
 use Rattle.rules.specs.After.{sandboxAfter}
-use Rattle.memory.specs.Memory.{givesAt, longestOf, runsAfter, storeAfter, valueAt}
+use Rattle.memory.specs.Memory.{Unheld, InLongest, givesAt, runsAfter, storeAfter, valueAt}
 
 -- ---- the step
 
@@ -60,16 +58,13 @@ takes image w q = eqb (numberAt image w q) 0 && (q is Write && eqb (entry (w .st
 unfoldable pub gives : List ℕ → World → Request → Bool
 gives image w q = eqb (numberAt image w q) 0 && givesAt q (sandboxAt w (q .sandbox)) (w .store)
 
--- a frame of the pool that is not held: no entry names it, and no run keeps it
-pub record Free (w : World) (f : ℕ) : Type 0 where
-  pub ofPool : f < framesOf w
-  pub unnamed : held (w .store .marks) f ≡ 0
-  pub unkept : keptAt (rowsOf w) f ≡ 0
+-- a frame of the pool that is not held
+abbrev pub Free : World → ℕ → Type 0
+Free w f = Unheld (framesOf w) w f
 
 -- a frame of the longest run of sandbox s
-pub record OfLongest (w : World) (s given : ℕ) : Type 0 where
-  pub low : given < 128
-  pub kept : held (rowsOf w s (longestOf (sandboxAt w s))) given ≡ 1
+abbrev pub OfLongest : World → ℕ → ℕ → Type 0
+OfLongest w s given = InLongest (sandboxAt w s .runs) given
 
 -- What a call ensures of its outcome. Two things may differ from one correct program to another: the frame of the longest run that a write gives up ("which one
 -- is open"), and the frame that a write takes: it was unheld, or was given up by this very call ("the write may take it").

@@ -2,7 +2,6 @@
 ghost use mathlib.Core.Path.{_≡_};
 ghost use Prim.Native.Nat.{_<_};
 ghost use lib.ListN.{length};
-ghost use Rattle.table.specs.Store.{kept};
 ghost use Rattle.state.specs.World.{worldOf, sandboxAt, pagesIn};
 ghost use Rattle.rules.specs.After.{presentAfter};
 ghost use Rattle.machine.specs.Step.{Stepped};
@@ -65,7 +64,7 @@ fn refuse(machine: Machine, why: Refusal) -> Reply
     }
 }
 
-// An accepted request: its value, then the store, then the sandbox with its new areas.
+// An accepted request: its value, then the store and the runs, then the sandbox with its new areas and runs.
 fn perform(
     machine: Machine,
     pool: &mut [u8],
@@ -76,8 +75,7 @@ fn perform(
     frames: u8,
     images: u8,
 ) -> Reply
-    requires { ⌜ Asked (now image) frames images q (sandboxAt (worldOf machine (now pool) (now table)) (q .sandbox))
-        (kept (machine .held) (now pool) (now table)) ⌝ }
+    requires { ⌜ Asked (now image) frames images q (worldOf machine (now pool) (now table)) ⌝ }
     requires { ⌜ pagesIn (length (now pool)) ≡ frames ⌝ }
     requires { ⌜ present ≡ presentAfter q (sandboxAt (worldOf machine (now pool) (now table)) (q .sandbox)) ⌝ }
     ensures { λ r. ⌜ Performed (now (image .entry)) (worldOf machine (now (pool .entry)) (now (table .entry))) q
@@ -87,11 +85,12 @@ fn perform(
     let mut m = machine;
     let b = m.sandboxes[k];
     let value = value_of(pool, table, image, b, q, frames, images);
-    let held = m.held;
-    let h = store_after(held, pool, table, image, b, q, frames, images);
+    let left = store_after(machine, pool, table, image, q, frames, images);
+    let held = left.held;
+    let runs = left.runs;
     let after = sandbox_after(b, q, present);
-    m.sandboxes[k] = after;
-    m.held = h;
+    m.sandboxes[k] = after.with_runs(runs);
+    m.held = held;
     Reply {
         machine: m,
         answer: Answer::Value(value),

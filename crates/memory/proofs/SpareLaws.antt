@@ -34,8 +34,8 @@ use Rattle.areas.specs.Areas.{slots}
 use Rattle.state.specs.declared.sandbox.Sandbox.{Sandbox}
 use Rattle.state.specs.World.{World, sandboxAt, rowsOf}
 use Rattle.memory.specs.declared.spare.Given.{Given}
-use Rattle.memory.specs.Memory.{holdsIn, givesAt, placeFor, framesFor, longestOf}
-use Rattle.memory.specs.Parts.{ownFront, mapRuns, mapAdopts, Unheld, Asked, OfLongest, GaveUp, Takes}
+use Rattle.memory.specs.Memory.{Unheld, InLongest, givesAt, placeFor, framesFor, longestOf}
+use Rattle.memory.specs.Parts.{ownFront, mapRuns, mapAdopts, Asked, GaveUp, Takes}
 
 -- ---- a map
 
@@ -125,7 +125,7 @@ module _ (image : List ℕ) (frames images : ℕ) (q : Request) (w : World) (A :
   own = sandboxAt w (q .sandbox)
 
   -- a frame of a run is one of the pool and of no entry
-  pub longest-frame : (given : ℕ) → OfLongest (own .runs) given → (given < frames) × (held (w .store .marks) given ≡ 0)
+  pub longest-frame : (given : ℕ) → InLongest (own .runs) given → (given < frames) × (held (w .store .marks) given ≡ 0)
   longest-frame given o =
       let kept = run-kept (rowsOf w) (q .sandbox) (longestOf own) given (A .row) (longest-low (lengthsOf (own .runs))) in
       let once = A .spare .once given (o .low) in (
@@ -135,7 +135,7 @@ module _ (image : List ℕ) (frames images : ℕ) (q : Request) (w : World) (A :
       )
 
   -- the frame that a write takes is one of the pool, and no entry names it
-  pub takes-free : (f given : ℕ) → Takes frames q w f given → (givesAt q own (w .store) ≡ true → OfLongest (own .runs) given)
+  pub takes-free : (f given : ℕ) → Takes frames q w f given → (givesAt q own (w .store) ≡ true → InLongest (own .runs) given)
       → (f < frames) × (held (w .store .marks) f ≡ 0)
   takes-free f given t gave =
       ⊎-elim (λ u. (u .ofPool, u .unnamed)) (λ g. rw (g .1) (longest-frame given (gave (g .0)))) t

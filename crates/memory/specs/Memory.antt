@@ -1,7 +1,8 @@
 -- What an accepted request makes of the store, given the frame that a write takes if it takes one.
+use mathlib.Core.Path.{_≡_}
 use mathlib.Core.Bool.{Bool, not, _&&_}
 use mathlib.Core.List.{List}
-use Prim.Native.Nat.{ℕ, _+_, _*_, _/_}
+use Prim.Native.Nat.{ℕ, _+_, _*_, _/_, _<_}
 use lib.Dec.{eqb}
 use lib.ListN.{length, getD}
 use Rattle.basics.specs.Choice.{_when_else_}
@@ -10,16 +11,30 @@ use Rattle.interface.specs.Requests.{_is_, Map, Unmap, Read, Write, Snapshot, R
 use Rattle.interface.specs.Slots.{isCommitted, mappedPages}
 use Rattle.interface.specs.Outcome.{firstOf}
 use Rattle.interface.specs.Runs.{takesRun, runFor, granted, longestRun, givesUp}
-use Rattle.frames.specs.Frames.{mark, countHeld}
+use Rattle.frames.specs.Frames.{held, mark, countHeld}
 use Rattle.marks.specs.Named.{usedBelow}
 use Rattle.marks.specs.Marks.{marksTo, from}
 use Rattle.table.specs.Store.{Store, entry, frontOf, take, storeByte, freeTo, moveTo, rewindTo}
 use Rattle.runs.specs.declared.Runs.{Runs}
 use Rattle.runs.specs.Row.{row, lengthsOf, withRunAt, tabled}
-use Rattle.kept.specs.Spare.{keptBy, rowRewound, leftOf, grantTo}
+use Rattle.kept.specs.Spare.{keptAt, keptBy, rowRewound, leftOf, grantTo}
 use Rattle.areas.specs.Areas.{slots}
 use Rattle.state.specs.declared.sandbox.Sandbox.{Sandbox}
+use Rattle.state.specs.World.{World, rowsOf}
 use Rattle.content.specs.Content.{pageUnder, pageRead, copyPage, differing}
+
+-- ---- frames
+
+-- a frame of a pool of so many that is not held: no entry names it, and no run keeps it
+pub record Unheld (frames : ℕ) (w : World) (f : ℕ) : Type 0 where
+  pub ofPool : f < frames
+  pub unnamed : held (w .store .marks) f ≡ 0
+  pub unkept : keptAt (rowsOf w) f ≡ 0
+
+-- a frame of the longest of these runs
+pub record InLongest (runs : Runs) (given : ℕ) : Type 0 where
+  pub low : given < 128
+  pub kept : held (row runs (longestRun (lengthsOf runs))) given ≡ 1
 
 -- ---- runs of kept frames
 

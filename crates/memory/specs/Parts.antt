@@ -25,7 +25,7 @@ use Rattle.state.specs.declared.sandbox.Sandbox.{Sandbox}
 use Rattle.state.specs.World.{World, sandboxAt, rowsOf}
 use Rattle.rules.specs.Ready.{Fit, Ready}
 use Rattle.memory.specs.declared.spare.Given.{Given}
-use Rattle.memory.specs.Memory.{holdsIn, givesAt, placeFor, framesFor, runsAfter, touched, storeAfter}
+use Rattle.memory.specs.Memory.{Unheld, InLongest, holdsIn, givesAt, placeFor, framesFor, runsAfter, touched, storeAfter}
 
 -- the front entry of the page that a write names
 abbrev pub ownFront : Request → Store → ℕ
@@ -38,12 +38,6 @@ mapRuns q b = withRunAt (placeFor q b) (leftOf (row (b .runs) (placeFor q b)) (f
 unfoldable pub mapAdopts : Request → Sandbox → Store → Store
 mapAdopts q b st =
     adoptTo (frontOf (q .sandbox) (firstOf (slots (b .present)) q)) (row (b .runs) (placeFor q b)) st (framesFor q b) when takesRun q else st
-
--- a frame of so many that no entry names and no run keeps
-pub record Unheld (frames : ℕ) (w : World) (f : ℕ) : Type 0 where
-  pub ofPool : f < frames
-  pub unnamed : held (w .store .marks) f ≡ 0
-  pub unkept : keptAt (rowsOf w) f ≡ 0
 
 -- what a part of an accepted call asks: a request within its limits for one of the four sandboxes, well formed areas, whole image pages,
 -- a store of so many frames whose marks are those of its entries, and kept frames that are zero, each of one run and of no entry
@@ -64,15 +58,10 @@ pub record Asked (image : List ℕ) (frames images : ℕ) (q : Request) (w : Wor
   pub room : q .code ≡ Write → ownFront q (w .store) ≡ 0 → holdsIn (w .store) (q .sandbox) (sandboxAt w (q .sandbox)) < sandboxAt w (q .sandbox) .share
       → (f : ℕ) × Unheld frames w f
 
--- a frame of the longest run of these
-pub record OfLongest (runs : Runs) (given : ℕ) : Type 0 where
-  pub low : given < 128
-  pub kept : held (row runs (longestRun (lengthsOf runs))) given ≡ 1
-
 -- where a frame is given up, it is one of the longest run, which loses it; the marks of the kept frames lose it too
 pub record GaveUp (gives : Bool) (runs : Runs) (kept : Held) (r : Given) : Type 0 where
   pub given : ℕ
-  pub gave : gives ≡ true → OfLongest runs given
+  pub gave : gives ≡ true → InLongest runs given
   pub left : r .runs ≡ (withRunAt (longestRun (lengthsOf runs)) (mark (row runs (longestRun (lengthsOf runs))) given 0) runs when gives else runs)
   pub marks : r .kept ≡ (mark kept given 0 when gives else kept)
 
@@ -86,7 +75,7 @@ Takes frames q w frame given =
 pub record StoreStepped (image : List ℕ) (frames : ℕ) (q : Request) (w : World) (after : Store) (left : Runs) : Type 0 where
   pub frame : ℕ
   pub given : ℕ
-  pub gave : givesAt q (sandboxAt w (q .sandbox)) (w .store) ≡ true → OfLongest (sandboxAt w (q .sandbox) .runs) given
+  pub gave : givesAt q (sandboxAt w (q .sandbox)) (w .store) ≡ true → InLongest (sandboxAt w (q .sandbox) .runs) given
   pub takes : (q is Write && eqb (ownFront q (w .store)) 0) ≡ true → Takes frames q w frame given
   pub equals : after ≡ storeAfter image frame q (sandboxAt w (q .sandbox)) (w .store)
   pub runs : left ≡ runsAfter given q (sandboxAt w (q .sandbox)) (w .store)
@@ -95,7 +84,7 @@ pub record StoreStepped (image : List ℕ) (frames : ℕ) (q : Request) (w : Wor
 pub record TouchStepped (image : List ℕ) (frames : ℕ) (q : Request) (w : World) (after : Store) (left : Runs) : Type 0 where
   pub frame : ℕ
   pub given : ℕ
-  pub gave : givesAt q (sandboxAt w (q .sandbox)) (w .store) ≡ true → OfLongest (sandboxAt w (q .sandbox) .runs) given
+  pub gave : givesAt q (sandboxAt w (q .sandbox)) (w .store) ≡ true → InLongest (sandboxAt w (q .sandbox) .runs) given
   pub takes : eqb (ownFront q (w .store)) 0 ≡ true → Takes frames q w frame given
   pub equals : after ≡ touched image frame (sandboxAt w (q .sandbox)) (q .sandbox) (pageOf q) (w .store)
   pub runs : left ≡ runsAfter given q (sandboxAt w (q .sandbox)) (w .store)

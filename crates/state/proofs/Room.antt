@@ -128,10 +128,13 @@ module _ (image : List ℕ) (w : World) (S : Tested image w) (s i : ℕ) (l : s 
   pub frame-there : holds w s < sandboxAt w s .share → (f : ℕ) × ((f < framesOf w) × ((held (w .store .marks) f ≡ 0) × (keptAt (rowsOf w) f ≡ 0)))
   frame-there h = frame-kept 256 (framesOf w) (w .store) (rowsOf w) (S .filed) (S .spare) (room h)
 
-  -- and where it holds as many as its share, it keeps a frame to give up: fronts and backs leave room for the page's front
+  -- fronts and backs leave room within the share for the page's front
+  pub room-left : usedBelow (from (s * 128) (w .store .table)) 128 < sandboxAt w s .share
+  room-left =
+      let images : ℕ = pagesIn (length image) in
+      passed-less images (w .store) s (sandboxAt w s) (sound-passed images (w .store) s (sandboxAt w s) (S .each s l)) i k m e
+
+  -- so where it holds as many as its share, it keeps a frame to give up
   pub kept-there : sandboxAt w s .share ≤ holds w s → 1 ≤ lengths (rowsOf w s) (longestRun (lengths (rowsOf w s)))
   unfolding keptBy
-  kept-there h =
-      let images : ℕ = pagesIn (length image) in
-      longest-some (lengths (rowsOf w s))
-      (omega (arith, h, passed-less images (w .store) s (sandboxAt w s) (sound-passed images (w .store) s (sandboxAt w s) (S .each s l)) i k m e))
+  kept-there h = longest-some (lengths (rowsOf w s)) (omega (arith, h, room-left))

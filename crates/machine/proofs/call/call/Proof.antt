@@ -13,17 +13,17 @@ use Rattle.interface.specs.Requests.{isCall}
 use Rattle.interface.specs.Refusals.{View, refusal}
 use Rattle.state.specs.declared.sandbox.Sandbox.{Sandbox}
 use Rattle.state.specs.World.{World, worldOf, sandboxAt, sharesOf, viewAt, closedSandbox}
-use Rattle.state.specs.Sound.{Sound}
+use Rattle.state.proofs.TestLaws.{Tested, tested}
 use Rattle.state.specs.Test.{soundb}
 use Rattle.state.proofs.SharesLaws.{zeroSandbox}
-use Rattle.state.proofs.SettledLaws.{settled}
+use Rattle.state.proofs.SettledLaws.{settled-at}
 use Rattle.decision.specs.declared.Verdict.the-variants.{Accepted}
 use Rattle.decision.specs.declared.Decision.{Decision}
 use Rattle.rules.specs.After.{presentAfter}
 use Rattle.rules.specs.Ready.{viewFrom}
 use Rattle.decision.specs.Decision.{verdictNumber, Decided}
 use Rattle.machine.specs.Step.{numberAt}
-use Rattle.machine.proofs.CallLaws.{stepped-refused, number-two, number-three, number-four, number-rest, stepped, ready, asked, sound-of-test}
+use Rattle.machine.proofs.CallLaws.{stepped-refused, number-two, number-three, number-four, number-rest, stepped, ready, asked}
 use borrow.Author.Needs.{needs}
 use Rattle.machine.proofs.call.call.Statement.{statement}
 use Rattle.machine.proofs.call.call.Tie as tie
@@ -70,8 +70,8 @@ fails c = sym (c .before .sound .ensures) ∙ not-true (c .before .sound .result
 passes : (c : tie.Else2) → soundb (imageIn (behindState c)) (worldIn (behindState c)) ≡ true
 passes c = sym (c .before .sound .ensures) ∙ not-false (c .before .sound .result) (c .if2 .left)
 
-is-sound : (c : tie.Else2) → Sound (imageIn (behindState c)) (worldIn (behindState c))
-is-sound c = sound-of-test (imageIn (behindState c)) (worldIn (behindState c)) (four (behindState c)) (passes c)
+is-sound : (c : tie.Else2) → Tested (imageIn (behindState c)) (worldIn (behindState c))
+is-sound c = tested (imageIn (behindState c)) (worldIn (behindState c)) (passes c)
 
 abbrev behindRow : tie.Else3 → tie.Start
 behindRow c = behindState (c .before .before)
@@ -182,7 +182,7 @@ decide-requires c κs =
         inside .if3 .left,
         (
           rw e (ready (imageIn start) (worldIn start) (start .args .q) s row),
-          (rw (c .shares .ensures .0, e) (settled (imageIn start) (worldIn start) s (start .args .q .sandbox) row), c .shares .ensures .1),
+          (rw (c .shares .ensures .0, e) (settled-at (imageIn start) (worldIn start) (start .args .q .sandbox) (s .each (start .args .q .sandbox) row)), c .shares .ensures .1),
         ),
       ),
     )

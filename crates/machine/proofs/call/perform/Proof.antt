@@ -8,10 +8,9 @@ use Rattle.table.specs.Store.{Store, kept}
 use Rattle.table.proofs.FiledLaws.{filed-ranged}
 use Rattle.areas.specs.declared.area.Areas.{Areas}
 use Rattle.state.specs.declared.sandbox.Sandbox.{Sandbox}
-use Rattle.state.specs.World.{World, worldOf, sandboxAt, closedSandbox}
+use Rattle.state.specs.World.{World, worldOf, sandboxAt, closedSandbox, withRuns}
 use Rattle.state.proofs.SharesLaws.{zeroSandbox}
 use Rattle.rules.specs.After.{sandboxWith, sandboxAfter}
-use Rattle.memory.specs.Parts.{Asked}
 use Rattle.machine.proofs.CallLaws.{performed}
 use borrow.Author.Needs.{needs}
 use Rattle.machine.proofs.call.perform.Statement.{statement}
@@ -36,9 +35,6 @@ four c = search length-mapped
 same-sandbox : (c : tie.Start) → sandboxIn c ≡ getD (c .args .machine .sandboxes) (c .args .q .sandbox) closedSandbox
 same-sandbox c = let l = four c in getD-any (c .args .machine .sandboxes) (c .args .q .sandbox) zeroSandbox closedSandbox (omega (arith, c .pre .0 .row))
 
-asked-here : (c : tie.Start) → Asked (c .args .image .now) (c .args .frames) (c .args .images) (c .args .q) (sandboxIn c) (storeIn c)
-asked-here c = rw (same-sandbox c) (c .pre .0)
-
 -- so with the areas that were decided it is the one that the request leaves
 own-after : (c : tie.Start) → let b = sandboxAt (worldIn c) (c .args .q .sandbox) in
     sandboxWith (c .args .q) (c .args .present) (sandboxIn c) ≡ sandboxAfter (c .args .q) b
@@ -52,10 +48,10 @@ abbrev startOf : tie.After-value-of → tie.Start
 startOf c = c .before .before .before .before .before .before .before .before
 
 abbrev valuedOf : tie.After-store-after → tie.After-value-of
-valuedOf c = c .before .before .before .before
+valuedOf c = c .before .before .before
 
 abbrev storedOf : tie.After-sandbox-after → tie.After-store-after
-storedOf c = c .before .before .before .before .before
+storedOf c = c .before .before .before .before .before .before .before
 
 -- ---- the needs
 
@@ -71,23 +67,26 @@ element-copy-out-b c = search needs
 value-of-requires : tie.Need-value-of-requires
 value-of-requires c κs =
     let start = c .before .before .before .before .before .before .before in
-    let a = asked-here start in
+    let a = start .pre .0 in
     let ranged = filed-ranged 256 (start .args .frames) (storeIn start) (a .filed) in
-    (a .row, (a .fit, (a .ready, (a .whole, (ranged, (a .filed .few, start .pre .1 .0))))))
+    (a .row, (a .fit, (rw (same-sandbox start) (a .ready), (a .whole, (ranged, (a .filed .few, start .pre .1 .0))))))
 
 store-after-requires : tie.Need-store-after-requires
-store-after-requires c κs = asked-here (startOf (c .before .before .before))
+store-after-requires c κs = startOf (c .before .before) .pre .0
 
 sandbox-after-requires : tie.Need-sandbox-after-requires
-sandbox-after-requires c κs = asked-here (startOf (valuedOf (c .before .before .before .before))) .fit
+sandbox-after-requires c κs = startOf (valuedOf (c .before .before .before .before .before .before)) .pre .0 .fit
 
-mul-after : tie.Need-mul-after
-mul-after c = search needs
+with-runs-requires : tie.Need-with-runs-requires
+with-runs-requires c κs = search needs
 
-element-set-from-after : tie.Need-element-set-from-after
-element-set-from-after c =
-    let start = startOf (valuedOf (storedOf c)) in
-    let a = asked-here start in
+mul-t17 : tie.Need-mul-t17
+mul-t17 c = let row = startOf (valuedOf (storedOf (c .before))) .pre .0 .row in search needs
+
+element-set-from-m : tie.Need-element-set-from-m
+element-set-from-m c =
+    let start = startOf (valuedOf (storedOf (c .before))) in
+    let row = start .pre .0 .row in
     let l = four start in
     search needs
 
@@ -99,15 +98,16 @@ same-length-2 c = search needs
 
 returns : tie.Need-returns
 returns c =
-    let stored = storedOf c in
+    let stored = storedOf (c .before) in
     let valued = valuedOf stored in
     let start = startOf valued in
     let q = start .args .q in
-    let e = same-sandbox start in
-    performed (start .args .image .now) (worldIn start) q (start .args .frames) (valued .value-of .result) _ _ (start .pre .1 .0)
-    (rw (← e) (stored .store-after .ensures))
-    (rw (← e) (valued .value-of .ensures (start .args .machine .held)))
-    (ap (set (start .args .machine .sandboxes) (q .sandbox)) (c .sandbox-after .ensures ∙ own-after start))
+    let left = stored .store-after in
+    performed (start .args .image .now) (worldIn start) q (start .args .frames) (valued .value-of .result) _ _ (left .result .runs) (start .pre .1 .0)
+    (left .ensures)
+    (rw (← same-sandbox start) (valued .value-of .ensures (start .args .machine .held)))
+    (ap (set (start .args .machine .sandboxes) (q .sandbox))
+    (c .with-runs .ensures ∙ ap (withRuns (left .result .runs)) (c .before .sandbox-after .ensures ∙ own-after start)))
 
 pub perform-spec : {M : Type 1} → statement M
 perform-spec =
@@ -119,8 +119,9 @@ perform-spec =
     value-of-requires
     store-after-requires
     sandbox-after-requires
-    mul-after
-    element-set-from-after
+    with-runs-requires
+    mul-t17
+    element-set-from-m
     same-length
     same-length-2
     returns)
