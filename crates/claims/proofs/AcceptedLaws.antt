@@ -7,24 +7,16 @@ use Prim.Native.Nat.{ℕ, _<_}
 use native.Mathlib.Omega.{arith}
 use lib.Dec.{eqb}
 use lib.ListN.{length}
-use Rattle.basics.specs.Ranges.{every}
-use Rattle.basics.proofs.TestLaws.{and-both}
 use Rattle.interface.specs.declared.request.Request.{Request}
 use Rattle.interface.specs.Requests.{_is_, Write, pageOf}
 use Rattle.interface.specs.Accepted.{Accepted}
 use Rattle.interface.proofs.KindLaws.{kind}
-use Rattle.marks.specs.Marks.{marksb}
-use Rattle.marks.proofs.MarkLaws.{words, marksb-named}
 use Rattle.frames.specs.Frames.{held}
-use Rattle.table.specs.Store.{entry, frontOf, Filed, Tidy}
-use Rattle.kept.specs.Spare.{Spare, Words}
-use Rattle.kept.specs.Test.{spareb}
-use Rattle.kept.proofs.TestLaws.{spare-true}
+use Rattle.table.specs.Store.{entry, frontOf, Tidy}
 use Rattle.state.specs.declared.sandbox.Sandbox.{Sandbox}
-use Rattle.state.specs.World.{World, sandboxAt, framesOf, pagesIn, sharesOf, viewAt, lengthsOk, rowsOf}
-use Rattle.state.specs.Sound.{SoundAt, Sound}
-use Rattle.state.specs.Test.{sandboxesOk, runsOkAt, keptOk, soundb}
-use Rattle.state.proofs.TestLaws.{lengths-true, sandboxes-true, sound-true}
+use Rattle.state.specs.World.{World, sandboxAt, framesOf, pagesIn, sharesOf, viewAt, rowsOf}
+use Rattle.state.specs.Sound.{SoundAt}
+use Rattle.state.proofs.TestLaws.{Tested, tested}
 use Rattle.memory.specs.Memory.{givesAt, storeAfter}
 use Rattle.machine.specs.Step.{worldAfter, numberAt, Free, Outcome, Stepped}
 use Rattle.plain.specs.Machine.{Given, Kept, keptAfter, viewOf}
@@ -37,42 +29,8 @@ use Rattle.claims.proofs.AnySound.{keptFor, kept-keeps, kept-reads, kep
 
 -- ---- what the test says
 
-pub record Tested (image : List ℕ) (w : World) : Type 0 where
-  pub lent : Lent (record { image = image; frames = framesOf w })
-  pub filed : Filed 256 (framesOf w) (w .store)
-  pub spare : Spare 256 (framesOf w) (w .store) (rowsOf w)
-  pub each : (s : ℕ) → s < 4 → SoundAt (pagesIn (length image)) (w .store) s (sandboxAt w s)
-
-pub tested : (image : List ℕ) (w : World) → soundb image w ≡ true → Tested image w
-unfolding soundb keptOk
-tested image w h =
-    let lengths = and-both (lengthsOk (length (w .store .pool)) (length (w .store .table)) (length image)) _ h in
-    let marks = and-both (marksb (framesOf w) (w .store .marks) (w .store .table)) _ (lengths .1) in
-    let sandboxes = and-both (sandboxesOk (pagesIn (length image)) w) _ (marks .1) in
-    let both = and-both (keptOk w) _ (sandboxes .1) in
-    let runs = and-both (every (runsOkAt w) 0 4) (spareb (framesOf w) (w .store) (rowsOf w)) (both .0) in
-    let L = lengths-true (length (w .store .pool)) (length (w .store .table)) (length image) (lengths .0) in
-    let two = words (framesOf w) (w .store .marks) (w .store .table) (L .few) (marks .0) in
-    let F : Filed 256 (framesOf w) (w .store) = record {
-      few = L .few;
-      pages = L .pages;
-      entries = L .entries;
-      names = marksb-named (framesOf w) (w .store .marks) (w .store .table) (L .few) (L .entries) (marks .0);
-      low = two .0;
-      high = two .1;
-    } in
-    record {
-      lent = record { frames = L .some; few = L .few; image = L .whole; images = L .images };
-      filed = F;
-      spare = spare-true (framesOf w) (w .store) (rowsOf w) F (runs .1);
-      each = sandboxes-true (pagesIn (length image)) w (runs .0) (sandboxes .0);
-    }
-
--- a state whose test passes is sound, given what its types say
-pub sound-of-test : (image : List ℕ) (w : World) → length (w .sandboxes) ≡ 4 → ((s : ℕ) → s < 4 → Words (rowsOf w s)) → soundb image w ≡ true → Sound image w
-sound-of-test image w four words e =
-    let F = tested image w e .filed in
-    sound-true image w (record { row = four; low = F .low; high = F .high; words = words }) e
+pub lent-of : (image : List ℕ) (w : World) → Tested image w → Lent (record { image = image; frames = framesOf w })
+lent-of image w t = record { frames = t .frames; few = t .filed .few; image = t .whole; images = t .images }
 
 -- ---- an accepted call
 
@@ -113,6 +71,6 @@ module _ (image : List ℕ) (w : World) (q : Request) (o : Outcome) (s : Stepped
       let A = kept-agrees given (w .store) (T .filed) (q .sandbox) b own in
       let tidy : Tidy (λ f. ⊥) 256 (framesOf w) (w .store) = record { filed = T .filed; clean = λ f c. absurd c } in
       let a : Accepted (viewOf given (sharesOf w) (k .core)) q = rw (view-at given w (sharesOf w) (q .sandbox) k refl refl A) at met in
-      stored-after given (T .lent) q (w .store) tidy b k (met .inRow)
+      stored-after given (lent-of image w T) q (w .store) tidy b k (met .inRow)
       (kept-keeps given (w .store) (T .filed) (q .sandbox) b own) (kept-reads given (w .store) (T .filed) (q .sandbox) b own) A
       (sharesOf w) a (s .frame) (kind q) (rowsOf w) (T .spare) refl (λ e z. let x = free e z in (x .0, x .1 .0))

@@ -30,6 +30,7 @@ use Rattle.areas.specs.Areas.{slots}
 use Rattle.state.specs.declared.sandbox.Sandbox.{Sandbox}
 use Rattle.state.specs.World.{World, sandboxAt, framesOf, pagesIn, lengthsOk, rowsOf}
 use Rattle.state.specs.Test.{pagesOk, runsOk, sandboxOk, sandboxesOk, runsOkAt, keptOk, soundb}
+use Rattle.state.proofs.TestLaws.{Tested, tested}
 use Rattle.content.specs.Content.{pageUnder, pageRead, copyRead, differing}
 use Rattle.content.proofs.CompareLaws.{passed-over}
 use Rattle.memory.specs.Memory.{valueAt}
@@ -37,7 +38,6 @@ use Rattle.memory.proofs.ValueLaws.{compare-value}
 use Rattle.machine.specs.Step.{numberAt, step}
 use Rattle.claims.specs.StillClean.{PassedOver, AlikeButBacks, BacksCannotAlter}
 use Rattle.claims.proofs.StepLaws.{was-sound, was-accepted}
-use Rattle.claims.proofs.AcceptedLaws.{Tested, tested}
 
 -- ---- the refusal
 

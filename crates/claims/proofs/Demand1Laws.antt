@@ -16,13 +16,13 @@ use Rattle.kept.specs.Spare.{Words}
 use Rattle.state.specs.World.{World, sandboxAt, closedSandbox, viewAt, rowsOf}
 use Rattle.state.specs.Sound.{Sound}
 use Rattle.state.specs.Test.{soundb}
-use Rattle.state.proofs.TestLaws.{sound-of}
+use Rattle.state.proofs.TestLaws.{sound-true, sound-of}
 use Rattle.machine.specs.Step.{sandboxThen, numberAt, Outcome, Stepped}
 use Rattle.machine.proofs.CallLaws.{number-two, number-three, number-rest}
 use Rattle.claims.specs.Demands.{Coded, Demand1}
 use Rattle.claims.proofs.StepLaws.{number-is, refused-leaves}
 use Rattle.claims.proofs.AnySound.{stays-sound}
-use Rattle.claims.proofs.AcceptedLaws.{sound-of-test, left, stored}
+use Rattle.claims.proofs.AcceptedLaws.{left, stored}
 use Rattle.claims.proofs.TouchesLaws.{entries-other, touches}
 
 module _ (image : List ℕ) (w : World) (q : Request) (o : Outcome) (s : Stepped image w q o) where
@@ -51,7 +51,7 @@ module _ (image : List ℕ) (w : World) (q : Request) (o : Outcome) (s : Stepped
   unsound : Coded q → length (w .sandboxes) ≡ 4 → ((t : ℕ) → t < 4 → Words (rowsOf w t)) → (Sound image w → ⊥) → o .answer .number ≡ 3
   unsound c four words n =
       number-is image w q o s
-      ∙ by-cases (soundb image w) (λ e. absurd (n (sound-of-test image w four words e))) (λ e. sym (number-three image w q (is-call c) e))
+      ∙ by-cases (soundb image w) (λ e. absurd (n (sound-true image w (record { row = four; words = words }) e))) (λ e. sym (number-three image w q (is-call c) e))
 
   table : Coded q → Sound image w → o .answer .number ≡ refusal (viewAt image w (q .sandbox)) q
   table c S = number-is image w q o s ∙ sym (number-rest image w q (is-call c) (sound-of image w S))

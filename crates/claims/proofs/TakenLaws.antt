@@ -20,6 +20,7 @@ use Rattle.table.specs.Store.{entry, frontOf}
 use Rattle.areas.specs.Areas.{slots}
 use Rattle.state.specs.World.{World, sandboxAt, viewAt, rowsOf}
 use Rattle.state.specs.Sound.{Sound}
+use Rattle.state.proofs.TestLaws.{Tested, tested, sound-of}
 use Rattle.state.proofs.Room.{holds, frame-there, kept-there}
 use Rattle.memory.specs.Memory.{givesAt, longestOf}
 use Rattle.machine.specs.Step.{takes, gives, Free, OfLongest, Chosen}
@@ -30,6 +31,9 @@ eqb-of : {a b : ℕ} → a ≡ b → eqb a b ≡ true
 eqb-of e = eq-eqb _ _ e
 
 module _ (image : List ℕ) (w : World) (S : Sound image w) (q : Request) where
+  shown : Tested image w
+  shown = tested image w (sound-of image w S)
+
   module _ (t : takes image w q ≡ true) where
     this : Taking image w q
     this = taking image w q t
@@ -56,7 +60,7 @@ module _ (image : List ℕ) (w : World) (S : Sound image w) (q : Request) where
     free-found g =
         let y : ltb (sandboxAt w (q .sandbox) .share) (holds w (q .sandbox) + 1) ≡ false = rw (this .number, eqb-of (this .writes), this .bare) at g in
         let r : holds w (q .sandbox) + 1 ≤ sandboxAt w (q .sandbox) .share = ltb-false _ _ y in
-        let f = frame-there image w S (q .sandbox) (pageOf q) row low there bare (omega arith) in
+        let f = frame-there image w shown (q .sandbox) (pageOf q) row low there bare (omega arith) in
         (f .0, record { ofPool = f .1 .0; unnamed = f .1 .1 .0; unkept = f .1 .1 .1 })
 
     -- one that must has one to give up
@@ -66,7 +70,7 @@ module _ (image : List ℕ) (w : World) (S : Sound image w) (q : Request) where
         let y : ltb (sandboxAt w (q .sandbox) .share) (holds w (q .sandbox) + 1) ≡ true = rw (this .number, eqb-of (this .writes), this .bare) at g in
         let r : sandboxAt w (q .sandbox) .share < holds w (q .sandbox) + 1 = ltb-true _ _ y in
         let run : Held = rowsOf w (q .sandbox) (longestOf (sandboxAt w (q .sandbox))) in
-        let f = least-found run (kept-there image w S (q .sandbox) (pageOf q) row low there bare (omega arith)) in
+        let f = least-found run (kept-there image w shown (q .sandbox) (pageOf q) row low there bare (omega arith)) in
         (leastHeld run, record { low = f .0; kept = f .1 })
 
   -- whatever is called, there is a choice; any number serves where no frame is taken

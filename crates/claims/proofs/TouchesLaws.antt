@@ -68,7 +68,7 @@ module _ (image : List ℕ) (w : World) (q : Request) (o : Outcome) (s : Stepped
   meets : Meets image (s .frame) q b (framesOf w) (w .store)
   meets = record {
     filed = filed;
-    whole = sound-parts image w q o s n .lent .image;
+    whole = sound-parts image w q o s n .whole;
     present = own image w q o s n .present;
     snapshot = own image w q o s n .snapshot;
     row = met image w q o s n .inRow;

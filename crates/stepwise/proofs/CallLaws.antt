@@ -73,7 +73,7 @@ module _ (image : List ℕ) (h : Handed) (q : Request) where
 
     -- what the types of that world say
     typed : Typed (worldIn h)
-    typed = record { row = shaped .row; low = shaped .low; high = shaped .high; words = λ s l. shaped .each s l .words }
+    typed = record { row = shaped .row; words = λ s l. shaped .each s l .words }
 
     -- a step leaves a state that its bytes give again: a refused one the state itself, an accepted one a sound state
     next-shaped : (o : Outcome) → Stepped image (worldIn h) q o → Shaped (machineOf (o .world))
