@@ -2,21 +2,24 @@
 use mathlib.Core.Path.{_≡_, refl, sym, ap, _∙_}
 use mathlib.Core.Bool.{true}
 use mathlib.Core.List.{List, []}
-use Prim.Native.Nat.{ℕ, _*_, _≤_, _<_}
+use Prim.Native.Nat.{ℕ, _+_, _*_, _≤_, _<_}
 use native.Mathlib.Omega.{arith}
 use lib.ListN.{length}
+use Rattle.basics.specs.Ranges.{sum}
 use Rattle.interface.specs.declared.request.Request.{Request}
 use Rattle.interface.specs.Answers.{Answered}
 use Rattle.lines.specs.Lines.{linesOf}
 use Rattle.pages.specs.Parts.{zeros}
+use Rattle.marks.specs.Named.{usedBelow}
+use Rattle.marks.specs.Marks.{from}
 use Rattle.table.specs.Store.{frontOf, backOf}
-use Rattle.state.specs.World.{World, worldOf, freshMachine, lengthsOk}
+use Rattle.state.specs.World.{World, worldOf, freshMachine, sandboxAt, lengthsOk}
 use Rattle.state.specs.Start.{startedBy}
-use Rattle.plain.specs.Machine.{Given, copyBytes}
+use Rattle.plain.specs.Machine.{Given, held, copyBytes}
 use Rattle.plain.specs.Lists.{upTo}
 use Rattle.claims.specs.Demands.{Run, none, more, RunFrom, Lent}
 use Rattle.claims.proofs.Runs.{list-agrees}
-use Rattle.claims.proofs.Simulate.{used-one, held-counts, held-same}
+use Rattle.claims.proofs.HeldSteps.{used-one, entries-same}
 use Rattle.claims.proofs.Claims.{claim-start, claim-3}
 use Rattle.roll.specs.Play.{linesIn, requests, replies, printed}
 use Rattle.roll.specs.Replies.{lent}
@@ -27,18 +30,21 @@ use Rattle.gazhuppin.specs.Promised.{Room}
 
 module _ (g : Given) (L : Lent g) (qs : List Request) (as′ : List Answered) (v : World) (r : RunFrom g qs as′ v) where
   left-at : (s : ℕ) → s < 4 → LeftAt (v .store .pool) (v .store .table) s (upTo g qs s)
+  unfolding held
   left-at s l =
       let A = list-agrees g L qs as′ v r in
       let a = A .each s l in
       let k = upTo g qs s in
       let D = claim-3 g L in
+      let counts : usedBelow (from (s * 128) (v .store .table)) 128 + sum (k .traces .runs) 8 ≡ held (k .traces) =
+      omega (arith, entries-same g (v .store) s (sandboxAt v s) k a) in
       record {
         frontMarks = λ i d. used-one (v .store) (frontOf s i) (k .traces .front i) (k .core .pages .bytes i) (a .fronts i d);
         backMarks = λ i d. used-one (v .store) (backOf s i) (k .traces .back i) (copyBytes (k .core .copy) i) (a .backs i d);
         fronts = λ i f d. D .frames qs as′ v r .fronts s i f l d;
         backs = λ i f d. D .frames qs as′ v r .backs s i f l d;
-        counted = sym (held-counts g v (upTo g qs) A s) ∙ held-same g v (upTo g qs) A s l;
-        share = rw (← a .share) (D .promise qs as′ v r .share s l);
+        counted = counts;
+        share = omega (arith, counts, A .holds .each s .inShare);
         covered = rw (← a .share, ← a .present) (D .promise qs as′ v r .covered s l);
       }
 

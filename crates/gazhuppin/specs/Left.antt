@@ -4,7 +4,7 @@ use mathlib.Core.Bool.{true}
 use mathlib.Core.List.{List}
 use Prim.Native.Nat.{ℕ, suc, _+_, _*_, _≤_, _<_}
 use lib.ListN.{length, getD}
-use Rattle.basics.specs.Ranges.{one}
+use Rattle.basics.specs.Ranges.{one, sum}
 use Rattle.interface.specs.declared.request.Request.{Request}
 use Rattle.interface.specs.Slots.{isMapped, mappedPages, copied}
 use Rattle.pages.specs.Parts.{frame, zeros, listed}
@@ -34,10 +34,10 @@ pub record LeftAt (pool table : List ℕ) (s : ℕ) (k : Kept) : Type 0 where
   -- "a front holds the 256 bytes that its page has in the plain machine, a back those that it has in the copy"
   pub fronts : (i f : ℕ) → i < 64 → Names table (frontOf s i) f → Holds pool f (k .core .pages .bytes i)
   pub backs : (i f : ℕ) → i < 64 → Names table (backOf s i) f → Holds pool f (copyBytes (k .core .copy) i)
-  -- "A sandbox holds the frames that its front and back entries name; call 9 counts them": a report would say so many
-  pub counted : usedBelow (from (s * 128) table) 128 ≡ held (k .traces)
-  -- "no sandbox holds more than its share"; "a sandbox's mapped pages and backs together are at most its share"
-  pub share : usedBelow (from (s * 128) table) 128 ≤ k .core .share
+  -- "A sandbox holds the frames that its front and back entries name; call 9 counts them", and the frames that its runs keep (A3): a report would say so many
+  pub counted : usedBelow (from (s * 128) table) 128 + sum (k .traces .runs) 8 ≡ held (k .traces)
+  -- "no sandbox holds more than its share", kept frames among them; "a sandbox's mapped pages and backs together are at most its share"
+  pub share : usedBelow (from (s * 128) table) 128 + sum (k .traces .runs) 8 ≤ k .core .share
   pub covered : mappedPages (k .core .pages .slots) + usedBelow (from (s * 128 + 64) table) 64 ≤ k .core .share
 
 -- after these requests

@@ -9,6 +9,7 @@ use lib.Dec.{eqb}
 use borrow.Author.Tests.{eqb-true}
 use Rattle.basics.proofs.TestLaws.{when-cases, passed}
 use Rattle.basics.proofs.LoopLaws.{lowest-range}
+use Rattle.basics.specs.Ranges.{sum}
 use Rattle.interface.specs.declared.request.Request.{Request}
 use Rattle.interface.specs.declared.answer.Refusal.{Refusal}
 use Rattle.interface.specs.declared.answer.Refusal.the-variants.{Malformed, NoSuchCall, Unsound, NotOpen, AlreadyOpen, OutsideLimits, SnapshotTaken}
@@ -33,6 +34,8 @@ use Rattle.pages.specs.Parts.{frame}
 use Rattle.pages.proofs.PartLaws.{frame-at, getD-zeros}
 use Rattle.marks.specs.Marks.{marksTo, from}
 use Rattle.table.specs.Store.{Store, entry, frontOf, backOf, contents, pageIn, pageFrom}
+use Rattle.runs.specs.Row.{row}
+use Rattle.kept.specs.Spare.{keptBy}
 use Rattle.areas.specs.Areas.{slots}
 use Rattle.state.specs.declared.sandbox.Sandbox.{Sandbox}
 use Rattle.state.specs.World.{World, sandboxAt, viewAt}
@@ -90,6 +93,22 @@ held-low : (st : Store) (s : ℕ) → heldBy st s ≤ 128
 unfolding heldBy
 held-low st s = count-low (marksTo (length (st .pool) / 256) (from (s * 128) (st .table)) 128 .held)
 
+-- and eight runs
+kept-low : (row : ℕ → Held) → keptBy row ≤ 1024
+unfolding keptBy sum
+kept-low row =
+    omega (
+      arith,
+      count-low (row 0),
+      count-low (row 1),
+      count-low (row 2),
+      count-low (row 3),
+      count-low (row 4),
+      count-low (row 5),
+      count-low (row 6),
+      count-low (row 7),
+    )
+
 -- "and 64 if they nowhere differ"
 differing-low : (image : List ℕ) (st : Store) (b : Sandbox) (s : ℕ) → differing image st b s ≤ 64
 unfolding differing lowestDifference
@@ -104,7 +123,7 @@ module _ (image : List ℕ) (w : World) (q : Request) (t : Bytes image) (u : Byt
       (λ _. when-cases (λ x. x ≤ 65535) (q is Read)
       (λ e. let r = read-byte (offsetOf q) (omega arith) image (w .store) b (q .sandbox) (pageOf q) t u in omega (arith, r))
       (λ _. when-cases (λ x. x ≤ 65535) (q is Snapshot) (λ e. let r = mapped-small (slots (b .present)) in omega (arith, r))
-      (λ _. when-cases (λ x. x ≤ 65535) (q is Report) (λ e. let r = held-low (w .store) (q .sandbox) in omega (arith, r))
+      (λ _. when-cases (λ x. x ≤ 65535) (q is Report) (λ e. omega (arith, held-low (w .store) (q .sandbox), kept-low (row (b .runs))))
       (λ _. when-cases (λ x. x ≤ 65535) (q is Compare) (λ e. let r = differing-low image (w .store) b (q .sandbox) in omega (arith, r)) (λ _. omega arith)))))
 
   pub value-small : (o : Outcome) → Stepped image w q o → o .answer .value ≤ 65535
