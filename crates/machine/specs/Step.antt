@@ -15,7 +15,8 @@ use Rattle.state.specs.declared.sandbox.Sandbox.{Sandbox}
 use Rattle.state.specs.World.{World, sandboxAt, withSandbox, withRuns, framesOf, viewAt}
 use Rattle.state.specs.Test.{soundb}
 use Rattle.rules.specs.After.{sandboxAfter}
-use Rattle.memory.specs.Memory.{Unheld, InLongest, givesAt, runsAfter, storeAfter, valueAt}
+use Rattle.reuse.specs.Reuse.{InLongest}
+use Rattle.memory.specs.Memory.{Unheld, givesAt, runsAfter, storeAfter, valueAt}
 
 -- ---- the step
 

@@ -28,9 +28,10 @@ use Rattle.areas.specs.Areas.{slots}
 use Rattle.state.specs.declared.sandbox.Sandbox.{Sandbox}
 use Rattle.state.specs.World.{World, sandboxAt, rowsOf}
 use Rattle.content.specs.Content.{sourceOf, pageUnder, copyPage}
-use Rattle.memory.specs.declared.spare.Given.{Given}
+use Rattle.reuse.specs.declared.Given.{Given}
+use Rattle.reuse.specs.Reuse.{mapRuns, mapAdopts, GaveUp}
 use Rattle.memory.specs.Memory.{givesAt, runsAfter, touched, keepsFront, storeAfter}
-use Rattle.memory.specs.Parts.{ownFront, mapRuns, mapAdopts, Asked, GaveUp, StoreStepped, TouchStepped}
+use Rattle.memory.specs.Parts.{ownFront, Asked, StoreStepped, TouchStepped}
 use Rattle.memory.proofs.SpareLaws.{gives, gives-is, takes-of, takes-free, adopts}
 
 -- what is rewound does not depend on the bytes of pages that give up their fronts

@@ -31,11 +31,6 @@ pub record Unheld (frames : ℕ) (w : World) (f : ℕ) : Type 0 where
   pub unnamed : held (w .store .marks) f ≡ 0
   pub unkept : keptAt (rowsOf w) f ≡ 0
 
--- a frame of the longest of these runs
-pub record InLongest (runs : Runs) (given : ℕ) : Type 0 where
-  pub low : given < 128
-  pub kept : held (row runs (longestRun (lengthsOf runs))) given ≡ 1
-
 -- ---- runs of kept frames
 
 -- how many frames sandbox s holds: fronts, backs and kept frames

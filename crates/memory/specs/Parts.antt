@@ -1,43 +1,30 @@
 -- What the functions over lent memory ask and ensure.
 use mathlib.Core.Path.{_≡_}
 use mathlib.Core.Logic.{_⊎_}
-use mathlib.Core.Bool.{Bool, true, _&&_}
+use mathlib.Core.Bool.{true, _&&_}
 use mathlib.Core.List.{List}
 use Prim.Native.Nat.{ℕ, _+_, _*_, _≤_, _<_}
 use lib.Dec.{eqb}
 use lib.ListN.{length}
-use Rattle.basics.specs.Choice.{_when_else_}
 use Rattle.interface.specs.declared.request.Request.{Request}
 use Rattle.interface.specs.Requests.{_is_, Map, Write, pageOf}
 use Rattle.interface.specs.Outcome.{firstOf}
-use Rattle.interface.specs.Runs.{takesRun, longestRun}
-use Rattle.frames.specs.declared.Held.{Held}
-use Rattle.frames.specs.Frames.{held, mark}
+use Rattle.frames.specs.Frames.{held}
 use Rattle.marks.specs.Named.{usedBelow}
 use Rattle.marks.specs.Marks.{from}
 use Rattle.table.specs.Store.{Store, entry, frontOf, Filed}
 use Rattle.runs.specs.declared.Runs.{Runs}
-use Rattle.runs.specs.Row.{row, lengthsOf, withRunAt}
-use Rattle.kept.specs.Spare.{keptAt, Spare, leftOf, adoptTo}
+use Rattle.kept.specs.Spare.{keptAt, Spare}
 use Rattle.kept.specs.Test.{keptTo}
 use Rattle.areas.specs.Areas.{slots}
-use Rattle.state.specs.declared.sandbox.Sandbox.{Sandbox}
 use Rattle.state.specs.World.{World, sandboxAt, rowsOf}
 use Rattle.rules.specs.Ready.{Fit, Ready}
-use Rattle.memory.specs.declared.spare.Given.{Given}
-use Rattle.memory.specs.Memory.{Unheld, InLongest, holdsIn, givesAt, placeFor, framesFor, runsAfter, touched, storeAfter}
+use Rattle.reuse.specs.Reuse.{InLongest}
+use Rattle.memory.specs.Memory.{Unheld, holdsIn, givesAt, runsAfter, touched, storeAfter}
 
 -- the front entry of the page that a write names
 abbrev pub ownFront : Request → Store → ℕ
 ownFront q st = entry st (frontOf (q .sandbox) (pageOf q))
-
--- what a map makes of the runs, and of the store: the frames that it takes are zero already, so that entries and marks change and no byte does
-unfoldable pub mapRuns : Request → Sandbox → Runs
-mapRuns q b = withRunAt (placeFor q b) (leftOf (row (b .runs) (placeFor q b)) (framesFor q b)) (b .runs) when takesRun q else b .runs
-
-unfoldable pub mapAdopts : Request → Sandbox → Store → Store
-mapAdopts q b st =
-    adoptTo (frontOf (q .sandbox) (firstOf (slots (b .present)) q)) (row (b .runs) (placeFor q b)) st (framesFor q b) when takesRun q else st
 
 -- what a part of an accepted call asks: a request within its limits for one of the four sandboxes, well formed areas, whole image pages,
 -- a store of so many frames whose marks are those of its entries, and kept frames that are zero, each of one run and of no entry
@@ -57,13 +44,6 @@ pub record Asked (image : List ℕ) (frames images : ℕ) (q : Request) (w : Wor
   -- and where kept frames leave room too, a frame is not held
   pub room : q .code ≡ Write → ownFront q (w .store) ≡ 0 → holdsIn (w .store) (q .sandbox) (sandboxAt w (q .sandbox)) < sandboxAt w (q .sandbox) .share
       → (f : ℕ) × Unheld frames w f
-
--- where a frame is given up, it is one of the longest run, which loses it; the marks of the kept frames lose it too
-pub record GaveUp (gives : Bool) (runs : Runs) (kept : Held) (r : Given) : Type 0 where
-  pub given : ℕ
-  pub gave : gives ≡ true → InLongest runs given
-  pub left : r .runs ≡ (withRunAt (longestRun (lengthsOf runs)) (mark (row runs (longestRun (lengthsOf runs))) given 0) runs when gives else runs)
-  pub marks : r .kept ≡ (mark kept given 0 when gives else kept)
 
 -- the frame that a write takes "was unheld, or was given up by this very call"
 abbrev pub Takes : ℕ → Request → World → ℕ → ℕ → Type 0

@@ -1,5 +1,5 @@
 -- Each call leaves what it says of the store and the runs; the others leave both.
-use mathlib.Core.Path.{_≡_, _∙_}
+use mathlib.Core.Path.{_≡_}
 use native.Mathlib.Omega.{arith}
 use lib.ListN.{length, getD}
 use Rattle.basics.proofs.TestLaws.{length-mapped}

@@ -1,6 +1,6 @@
 -- A page without a front: a frame is given up where it must be, one that is then not held is there, and the page takes it.
 use mathlib.Core.Path.{_≡_, sym, ap, subst, _∙_}
-use Prim.Native.Nat.{ℕ, _*_, _/_, _≤_, _<_}
+use Prim.Native.Nat.{_*_, _/_, _≤_, _<_}
 use native.Mathlib.Omega.{arith}
 use lib.ListN.{length, getD}
 use Rattle.basics.proofs.TestLaws.{length-mapped}
@@ -20,7 +20,8 @@ use Rattle.state.proofs.SharesLaws.{zeroSandbox}
 use Rattle.rules.proofs.FitLaws.{page-small}
 use Rattle.content.specs.Content.{sourceOf, pageUnder}
 use Rattle.content.proofs.ReadingLaws.{source-there}
-use Rattle.memory.specs.Parts.{ownFront, Asked, GaveUp}
+use Rattle.reuse.specs.Reuse.{GaveUp}
+use Rattle.memory.specs.Parts.{ownFront, Asked}
 use Rattle.memory.proofs.SpareLaws.{gives, frame-there}
 use Rattle.memory.proofs.MemoryLaws.{touch-kept, touch-made}
 use borrow.Author.Needs.{needs}

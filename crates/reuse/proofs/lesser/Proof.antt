@@ -1,6 +1,6 @@
 use borrow.Author.Tests.{le-leb, lt-leb}
-use Rattle.memory.proofs.spare.lesser.Statement.{statement}
-use Rattle.memory.proofs.spare.lesser.Tie as tie
+use Rattle.reuse.proofs.lesser.Statement.{statement}
+use Rattle.reuse.proofs.lesser.Tie as tie
 
 returns : tie.Need-returns
 returns c = rw (le-leb (c .before .args .a) (c .before .args .b) (c .if1 .taken))

@@ -1,16 +1,12 @@
 -- Where the share would be exceeded, a frame is kept, so the longest run has one, and its smallest goes.
-use mathlib.Core.Path.{_≡_, sym, ap, _∙_}
-use Prim.Native.Nat.{_+_, _≤_}
+use Prim.Native.Nat.{_≤_}
 use native.Mathlib.Omega.{arith}
 use borrow.Author.Needs.{needs}
-use Rattle.frames.specs.declared.Held.{Held}
 use Rattle.frames.specs.Frames.{countHeld}
 use Rattle.frames.proofs.PairLaws.{least-found}
-use Rattle.memory.specs.declared.spare.Given.{Given}
-use Rattle.memory.specs.Parts.{GaveUp}
-use Rattle.memory.proofs.SpareLaws.{gave-none, gave-one, longest-has, nothing-kept, within-share, above-share}
-use Rattle.memory.proofs.spare.give_up.Statement.{statement}
-use Rattle.memory.proofs.spare.give_up.Tie as tie
+use Rattle.reuse.proofs.ReuseLaws.{gave-none, gave-one, longest-has, nothing-kept, within-share, above-share}
+use Rattle.reuse.proofs.give_up.Statement.{statement}
+use Rattle.reuse.proofs.give_up.Tie as tie
 
 -- the longest run has a frame
 some : (c : tie.After-at) → 1 ≤ countHeld (c .at .result)

@@ -9,11 +9,11 @@ use Rattle.frames.specs.declared.Held.{Held}
 use Rattle.frames.specs.Frames.{countHeld}
 use Rattle.runs.specs.Row.{row, lengthsOf, withRunAt}
 use Rattle.areas.proofs.FormedLaws.{near}
-use Rattle.memory.specs.Memory.{placeFor, framesFor}
-use Rattle.memory.proofs.SpareLaws.{named-none, image-none, untaken-store, untaken-runs, run-there, frames-there, taken-store, taken-runs}
+use Rattle.interface.specs.Runs.{runFor, granted}
+use Rattle.reuse.proofs.ReuseLaws.{named-none, image-none, untaken-store, untaken-runs, frames-there, taken-store, taken-runs}
 use borrow.Author.Needs.{needs}
-use Rattle.memory.proofs.spare.map.Statement.{statement}
-use Rattle.memory.proofs.spare.map.Tie as tie
+use Rattle.reuse.proofs.map.Statement.{statement}
+use Rattle.reuse.proofs.map.Tie as tie
 
 -- ---- what is known once it is counted how many frames the pages get
 
@@ -26,7 +26,7 @@ chosen c = sought c .before .before
 abbrev behind : tie.After-lesser → tie.Start
 behind c = chosen c .before .before .before .before .before .before .before .before .before
 
-abbrev place-is : (c : tie.After-lesser) → chosen c .before .fitting .result ≡ placeFor (behind c .args .q) (behind c .args .b)
+abbrev place-is : (c : tie.After-lesser) → chosen c .before .fitting .result ≡ runFor (behind c .args .q .p2) (lengthsOf (behind c .args .b .runs))
 place-is c = chosen c .before .fitting .ensures .0
 
 counted : (c : tie.After-lesser) → let run = chosen c .at .result in let pages = behind c .args .q .p2 in
@@ -35,10 +35,10 @@ counted c =
     let pages = behind c .args .q .p2 in
     c .lesser .ensures ∙ ap (λ (n : ℕ). pages when leb pages n else n) (c .before .count .ensures)
 
-run-here : (c : tie.After-lesser) → chosen c .at .result ≡ row (behind c .args .b .runs) (placeFor (behind c .args .q) (behind c .args .b))
+run-here : (c : tie.After-lesser) → chosen c .at .result ≡ row (behind c .args .b .runs) (runFor (behind c .args .q .p2) (lengthsOf (behind c .args .b .runs)))
 run-here c = chosen c .at .ensures ∙ ap (row (behind c .args .b .runs)) (place-is c)
 
-frames-here : (c : tie.After-lesser) → c .lesser .result ≡ framesFor (behind c .args .q) (behind c .args .b)
+frames-here : (c : tie.After-lesser) → c .lesser .result ≡ granted (behind c .args .q .p2) (lengthsOf (behind c .args .b .runs))
 frames-here c =
     let s = behind c in
     frames-there (s .args .q) (s .args .b) (s .pre .0) (chosen c .before .before .before .before .before .if1 .left) (chosen c .before .before .before .if2 .left)

@@ -3,11 +3,11 @@ use mathlib.Core.Path.{sym, ap, _∙_}
 use native.Mathlib.Omega.{arith}
 use borrow.Author.Needs.{needs}
 use Rattle.frames.specs.declared.Held.{Held}
-use Rattle.frames.specs.Frames.{held, greatest}
+use Rattle.frames.specs.Frames.{held}
 use Rattle.frames.proofs.GreatestLaws.{greatest-found, greatest-all}
-use Rattle.memory.proofs.SpareLaws.{both-free, free-both}
-use Rattle.memory.proofs.spare.unheld_frame.Statement.{statement}
-use Rattle.memory.proofs.spare.unheld_frame.Tie as tie
+use Rattle.reuse.proofs.ReuseLaws.{both-free, free-both}
+use Rattle.reuse.proofs.unheld_frame.Statement.{statement}
+use Rattle.reuse.proofs.unheld_frame.Tie as tie
 
 both-requires : tie.Need-both-requires
 both-requires c κs = search needs

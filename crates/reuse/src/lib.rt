@@ -1,4 +1,7 @@
-// The runs of kept frames: what a map takes of them, and what a write gives up.
+// Kept frames used again (A3): what a map takes of a sandbox's runs, what a write gives up of them, and a frame that is not held.
+// It promises: a map that takes a run gives its smallest frames to the first new pages without a byte of the pool, and no other map takes any; a write gives up a
+// frame of the longest run exactly where the share would be exceeded; the frame found is one that no entry names and no run keeps.
+// It stands on `kept` and `runs` for the runs, on `marks` for the entries that name a frame, and on `rules` for a map's first page.
 ghost use mathlib.Core.Path.{_≡_};
 ghost use mathlib.Core.List.{List};
 ghost use Prim.Native.Nat.{ℕ, _+_, _*_, _≤_, _<_};
@@ -15,7 +18,7 @@ ghost use Rattle.runs.specs.Row.{row};
 ghost use Rattle.kept.specs.Spare.{keptBy};
 ghost use Rattle.areas.specs.Areas.{slots};
 ghost use Rattle.rules.specs.Ready.{Fit, Ready};
-ghost use Rattle.memory.specs.Parts.{mapAdopts, mapRuns, GaveUp};
+ghost use Rattle.reuse.specs.Reuse.{mapAdopts, mapRuns, GaveUp};
 use frames::FrameNo;
 use frames::Free;
 use frames::Held;
@@ -34,7 +37,7 @@ pub struct Left {
 
 // "An anonymous map at 64 takes the shortest run at least as long as its pages; if none is that long, the longest. The first new pages get these frames as
 // fronts, smallest frame number first; a surplus stays kept with its age." Kept frames are zero: no byte of the pool is touched, and no pool is lent.
-pub(crate) fn map(held: Held, table: &mut [u16], b: Sandbox, q: Request, images: u8) -> Left
+pub fn map(held: Held, table: &mut [u16], b: Sandbox, q: Request, images: u8) -> Left
     requires { ⌜ q .code ≡ Map ⌝ }
     requires { ⌜ q .sandbox < 4 ⌝ }
     requires { ⌜ Fit q ⌝ }
@@ -91,7 +94,7 @@ pub struct Given {
 
 // "When a write would bring fronts, backs and kept frames above the share, one frame of the longest run is given up first": the smallest. Without the runs there
 // is room for one more, so where nothing is kept nothing is counted.
-pub(crate) fn give_up(table: &[u16], runs: Runs, kept: Held, share: u8, sandbox: u8) -> Given
+pub fn give_up(table: &[u16], runs: Runs, kept: Held, share: u8, sandbox: u8) -> Given
     requires { ⌜ sandbox < 4 ⌝ }
     requires { ⌜ length (now table) ≡ 512 ⌝ }
     requires { ⌜ usedBelow (from (sandbox * 128) (now table)) 128 < share ⌝ }
@@ -120,7 +123,7 @@ pub(crate) fn give_up(table: &[u16], runs: Runs, kept: Held, share: u8, sandbox:
 }
 
 // The greatest frame that no entry names and no run keeps; there is one.
-pub(crate) fn unheld_frame(named: Held, kept: Held, frames: u8) -> FrameNo
+pub fn unheld_frame(named: Held, kept: Held, frames: u8) -> FrameNo
     requires { ⌜ frames ≤ 128 ⌝ }
     requires { ⌜ ((f : ℕ) × ((f < frames) × ((held named f ≡ 0) × (held kept f ≡ 0)))) ⌝ }
     ensures { λ r. ⌜ r .0 < frames ⌝ }
