@@ -104,9 +104,12 @@ unfolding pushed
 push-moves r run c n m q place size old h d = rw (← place, ← size, ← old, lt-leb n m h) d
 
 -- a run of none changes nothing
-pub pushed-none : (r : Runs) → pushed r noneHeld ≡ r
+pub pushed-empty : (r : Runs) (run : Held) → countHeld run ≡ 0 → pushed r run ≡ r
 unfolding pushed
-pushed-none r = rw (none-count noneHeld (λ f d. held-zero f), le-leb 0 (lengthsOf r (best noLonger (lengthsOf r) 8)) (omega arith))
+pushed-empty r run e = rw (e, le-leb 0 (lengthsOf r (best noLonger (lengthsOf r) 8)) (omega arith))
+
+pub pushed-none : (r : Runs) → pushed r noneHeld ≡ r
+pushed-none r = pushed-empty r noneHeld (none-count noneHeld (λ f d. held-zero f))
 
 -- ---- it is `push` of the row
 

@@ -92,12 +92,17 @@ impl Runs {
         run.same(none)
     }
 
-    // A new run, the newest: it takes the place of the shortest, of equals the newest, unless it is no longer than that.
+    // A new run, the newest: it takes the place of the shortest, of equals the newest, unless it is no longer than that. A run of no frame changes nothing, and
+    // no place is looked for.
     pub fn push(self, run: Held) -> Runs
         ensures { λ r. ⌜ r ≡ pushed self run ⌝ }
     {
+        let frames = run.count();
+        if frames == 0 {
+            return self;
+        }
         let c = self.shortest();
-        if run.count() <= self.length(c) {
+        if frames <= self.length(c) {
             return self;
         }
         self.moved_up(c, run)

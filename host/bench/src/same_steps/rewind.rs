@@ -3,7 +3,7 @@
 
 use super::held::Held;
 use super::memory::Memory;
-use super::page::{Attributes, PageNo, PAGES};
+use super::page::{PageNo, PAGES};
 use super::sandbox::Sandbox;
 
 /// Each front keeps its frame with the snapshot's bytes, or is freed and cleared.
@@ -26,28 +26,23 @@ pub fn rewind<const KEEPS_FRONTS: bool>(
     }
 }
 
-/// "the frames of each uncommitted anonymous area, if any, are .. kept as one run": one pass over
-/// all pages, with the run at hand and what stands at the page before. A run is pushed where the
-/// next area starts.
+/// "the frames of each uncommitted anonymous area, if any, are .. kept as one run": of each of the
+/// 8 places in turn, whether it holds an area or none. The entries are those before the rewind,
+/// which then clears the frames.
 pub fn gather(sandbox: &mut Sandbox, memory: &Memory, s: usize) {
-    let (mut runs, mut run, mut before) = (sandbox.runs, Held::NONE, None);
-    for page in (0..PAGES as u8).map(PageNo) {
-        let slot = sandbox.present.slot(page);
-        if starts_area(before, slot) {
-            runs.push(run);
-            run = Held::NONE;
+    let mut runs = sandbox.runs;
+    for area in sandbox.present.list {
+        if area.attributes.is_spared() {
+            let mut run = Held::NONE;
+            for page in (area.first.0..area.end() as u8).map(PageNo) {
+                if let Some(frame) = memory.front(s, page) {
+                    run.insert(frame);
+                }
+            }
+            if run != Held::NONE {
+                runs.push(run);
+            }
         }
-        let front = memory.front(s, page);
-        if let Some(frame) = front.filter(|_| slot.is_some_and(|slot| slot.is_spared())) {
-            run.insert(frame);
-        }
-        before = slot;
     }
-    runs.push(run);
     sandbox.runs = runs;
-}
-
-/// Whether a page is mapped and not of the area of the page before it.
-fn starts_area(before: Option<Attributes>, slot: Option<Attributes>) -> bool {
-    slot.is_some() && before.map(|before| before.advanced(1)) != slot
 }
