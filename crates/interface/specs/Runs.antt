@@ -1,4 +1,4 @@
--- runPlaces of kept frames (A3): which frames a rewind keeps, which run a map takes and how much of it, and which run a write gives a frame up from.
+-- Runs of kept frames (A3): which frames a rewind keeps, which run a map takes and how much of it, and which run a write gives a frame up from.
 -- Both machines use these words: they go by the lengths of the runs in the order of their ages.
 use Prim.Native.Nat.{ℕ, _+_, _-_}
 use mathlib.Core.Bool.{Bool, true, false, not, _&&_}

@@ -15,7 +15,7 @@ use Rattle.state.specs.declared.sandbox.Sandbox.{Sandbox}
 use Rattle.state.specs.World.{World, sandboxAt, withSandbox, withRuns, framesOf, viewAt}
 use Rattle.state.specs.Test.{soundb}
 use Rattle.rules.specs.After.{sandboxAfter}
-use Rattle.reuse.specs.Reuse.{InLongest}
+use Rattle.runs.specs.Row.{InLongest}
 use Rattle.memory.specs.Memory.{Unheld, givesAt, runsAfter, storeAfter, valueAt}
 
 -- ---- the step

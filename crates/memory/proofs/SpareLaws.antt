@@ -19,7 +19,7 @@ use Rattle.marks.specs.Named.{usedBelow}
 use Rattle.marks.specs.Marks.{from}
 use Rattle.marks.proofs.NamedLaws.{same-or}
 use Rattle.table.specs.Store.{frontOf}
-use Rattle.runs.specs.Row.{row, lengthsOf}
+use Rattle.runs.specs.Row.{row, lengthsOf, InLongest}
 use Rattle.kept.specs.Spare.{keptAt, keptBy, adoptTo, grantTo}
 use Rattle.kept.specs.Test.{keptTo}
 use Rattle.kept.proofs.SpareLaws.{run-kept}
@@ -28,7 +28,7 @@ use Rattle.areas.specs.Areas.{slots}
 use Rattle.state.specs.declared.sandbox.Sandbox.{Sandbox}
 use Rattle.state.specs.World.{World, sandboxAt, rowsOf}
 use Rattle.reuse.specs.declared.Given.{Given}
-use Rattle.reuse.specs.Reuse.{InLongest, GaveUp}
+use Rattle.reuse.specs.Reuse.{GaveUp}
 use Rattle.memory.specs.Memory.{Unheld, givesAt, placeFor, framesFor, longestOf}
 use Rattle.memory.specs.Parts.{ownFront, Asked, Takes}
 

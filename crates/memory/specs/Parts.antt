@@ -19,7 +19,7 @@ use Rattle.kept.specs.Test.{keptTo}
 use Rattle.areas.specs.Areas.{slots}
 use Rattle.state.specs.World.{World, sandboxAt, rowsOf}
 use Rattle.rules.specs.Ready.{Fit, Ready}
-use Rattle.reuse.specs.Reuse.{InLongest}
+use Rattle.runs.specs.Row.{InLongest}
 use Rattle.memory.specs.Memory.{Unheld, holdsIn, givesAt, runsAfter, touched, storeAfter}
 
 -- the front entry of the page that a write names

@@ -1,25 +1,20 @@
 -- What a map makes of the runs and of the store, and what a write gives up.
 use mathlib.Core.Path.{_≡_}
 use mathlib.Core.Bool.{Bool, true}
-use Prim.Native.Nat.{ℕ, _<_}
+use Prim.Native.Nat.{ℕ}
 use Rattle.basics.specs.Choice.{_when_else_}
 use Rattle.interface.specs.declared.request.Request.{Request}
 use Rattle.interface.specs.Outcome.{firstOf}
 use Rattle.interface.specs.Runs.{takesRun, runFor, granted, longestRun}
 use Rattle.frames.specs.declared.Held.{Held}
-use Rattle.frames.specs.Frames.{held, mark}
+use Rattle.frames.specs.Frames.{mark}
 use Rattle.table.specs.Store.{Store, frontOf}
 use Rattle.runs.specs.declared.Runs.{Runs}
-use Rattle.runs.specs.Row.{row, lengthsOf, withRunAt}
+use Rattle.runs.specs.Row.{row, lengthsOf, withRunAt, InLongest}
 use Rattle.kept.specs.Spare.{leftOf, adoptTo}
 use Rattle.areas.specs.Areas.{slots}
 use Rattle.state.specs.declared.sandbox.Sandbox.{Sandbox}
 use Rattle.reuse.specs.declared.Given.{Given}
-
--- a frame of the longest of these runs
-pub record InLongest (runs : Runs) (given : ℕ) : Type 0 where
-  pub low : given < 128
-  pub kept : held (row runs (longestRun (lengthsOf runs))) given ≡ 1
 
 -- what a map makes of the runs, and of the store: the frames that it takes are zero already, so that entries and marks change and no byte does
 unfoldable pub mapRuns : Request → Sandbox → Runs

@@ -1,13 +1,15 @@
 -- The runs of a sandbox by their places.
-use Prim.Native.Nat.{ℕ, zero, suc, _+_, _-_}
+use Prim.Native.Nat.{ℕ, zero, suc, _+_, _-_, _<_}
+use mathlib.Core.Path.{_≡_}
 use mathlib.Core.Bool.{Bool}
 use lib.Dec.{leb}
 use mathlib.Core.List.{List, [], _∷_}
 use lib.ListN.{getD, set, replicate}
 use Rattle.basics.specs.Choice.{_when_else_}
 use Rattle.basics.specs.Rows.{best, noLonger}
+use Rattle.interface.specs.Runs.{longestRun}
 use Rattle.frames.specs.declared.Held.{Held}
-use Rattle.frames.specs.Frames.{noneHeld, countHeld}
+use Rattle.frames.specs.Frames.{held, noneHeld, countHeld}
 use Rattle.runs.specs.declared.Runs.{Runs}
 
 -- the run in each place; none past the end
@@ -51,3 +53,8 @@ unfoldable pub pushed : Runs → Held → Runs
 pushed r run =
     let c = best noLonger (lengthsOf r) 8 in
     r when leb (countHeld run) (lengthsOf r c) else movedRuns c run r
+
+-- a frame of the longest of these runs
+pub record InLongest (runs : Runs) (given : ℕ) : Type 0 where
+  pub low : given < 128
+  pub kept : held (row runs (longestRun (lengthsOf runs))) given ≡ 1
