@@ -1,27 +1,22 @@
-// The state in bytes, so that a host can keep it between calls: one layout of 932 bytes, each part of it a table (specs/Layout).
-// It promises (specs/Claims): the bytes of a state give that state again, only canonical bytes pass the test, so that a state has one form and equal bytes
-// are equal states, and every sound state can be written so. A fresh state is 932 zero bytes.
-// It stands on `state`, with `areas`, `runs` and `frames`, for what is laid out, and knows nothing of calls.
+// The state in bytes, so that a host can keep it between calls: a sandbox and the whole state written, read and tested.
+// It promises: `encode` writes the bytes of a state, `decode` gives the state of bytes, `is_state` tells which bytes are a state's, each as the layout has it.
+// It stands on `layout` for the definitions, what they promise and the code of the parts, and on `state` for what is written.
 ghost use mathlib.Core.Path.{_≡_};
 ghost use lib.ListN.{length};
-ghost use Rattle.encoding.specs.Layout.{heldAt, stateSize, sandboxBytes, stateBytes, stateFrom, areSandboxes, isState};
-ghost use Rattle.encoding.specs.Rows.{rowBytes};
+ghost use Rattle.layout.specs.Layout.{heldAt, stateSize, sandboxBytes, stateBytes, stateFrom, areSandboxes, isState};
+ghost use Rattle.layout.specs.Rows.{rowBytes};
 ghost use Rattle.state.specs.World.{closedSandbox};
-use crate::run::decode_marks;
-use crate::run::encode_marks;
 use crate::sandbox::decode_sandbox;
 use crate::sandbox::encode_sandbox;
 use crate::sandbox::is_sandbox;
-use crate::size::At;
-use crate::size::Size;
+use layout::run::decode_marks;
+use layout::run::encode_marks;
+use layout::size::At;
+use layout::size::Size;
 use state::sandbox::Machine;
 use state::sandbox::Sandbox;
 
-pub mod area;
-pub mod run;
 pub mod sandbox;
-pub mod size;
-pub mod word;
 
 // Writes a state.
 pub fn encode(machine: Machine, out: &mut [u8])

@@ -1,15 +1,15 @@
 // A sandbox in bytes.
 ghost use mathlib.Core.Path.{_≡_};
 ghost use lib.ListN.{length};
-ghost use Rattle.encoding.specs.Layout.{sandboxSize, sandboxBytes, sandboxFrom, isSandbox};
-use crate::area::decode_areas;
-use crate::area::encode_areas;
-use crate::area::is_areas;
-use crate::run::decode_runs;
-use crate::run::encode_runs;
-use crate::size::At;
-use crate::size::Size;
-use crate::word::flag;
+ghost use Rattle.layout.specs.Layout.{sandboxSize, sandboxBytes, sandboxFrom, isSandbox};
+use layout::area::decode_areas;
+use layout::area::encode_areas;
+use layout::area::is_areas;
+use layout::run::decode_runs;
+use layout::run::encode_runs;
+use layout::size::At;
+use layout::size::Size;
+use layout::word::flag;
 use state::sandbox::Sandbox;
 
 pub fn encode_sandbox(sandbox: Sandbox, out: &mut [u8])

@@ -4,7 +4,7 @@
 // not fit (`FromStart`). From this follows all that the C header says (specs/Promised): the replies are the plain machine's, what is left in pool and table
 // is what demand 3 says, and where a lent length is wrong pool and table stay and every line is refused. Of calls one at a time: the demands (specs/HostClaims
 // of `stepwise`).
-// It stands on `playing` for the play, on `soundness` for its start, and on `stepwise` and `encoding` for a call. Nothing that holds an enum crosses to C.
+// It stands on `playing` for the play, on `soundness` for its start, and on `stepwise` and `layout` for a call. Nothing that holds an enum crosses to C.
 ghost use mathlib.Core.Path.{_≡_};
 ghost use Rattle.lines.specs.Lines.{linesOf};
 ghost use Rattle.gazhuppin.specs.FromStart.{FromStart};

@@ -18,10 +18,10 @@ use Rattle.state.specs.Start.{startAnswer, startedBy}
 use Rattle.state.specs.Test.{Typed}
 use Rattle.state.specs.declared.sandbox.Machine.{Machine}
 use Rattle.state.proofs.TestLaws.{sound-true}
-use Rattle.encoding.specs.Rows.{Bytes}
-use Rattle.encoding.specs.Layout.{stateSize, stateBytes, stateFrom, isState, Shaped}
-use Rattle.encoding.specs.Claims.{machineOf}
-use Rattle.encoding.proofs.Claims.{decodes-back, passes, only-canonical, gives-shaped, sound-is-shaped}
+use Rattle.layout.specs.Rows.{Bytes}
+use Rattle.layout.specs.Layout.{stateSize, stateBytes, stateFrom, isState, Shaped}
+use Rattle.layout.specs.Claims.{machineOf}
+use Rattle.layout.proofs.Claims.{decodes-back, passes, only-canonical, gives-shaped, sound-is-shaped}
 use Rattle.machine.specs.declared.call.Reply.{Reply}
 use Rattle.machine.specs.Step.{numberAt, Outcome, Stepped}
 use Rattle.machine.specs.Parts.{outcomeOf}

@@ -14,9 +14,9 @@ use Rattle.pages.specs.Parts.{zeros}
 use Rattle.state.specs.World.{World, lengthsOk, started}
 use Rattle.state.specs.Start.{startAnswer, startedBy}
 use Rattle.state.specs.Sound.{Sound}
-use Rattle.encoding.specs.Layout.{stateSize, isState, Shaped}
-use Rattle.encoding.specs.Claims.{machineOf}
-use Rattle.encoding.proofs.Claims.{decodes-back, passes, sound-is-shaped, fresh-is-zero}
+use Rattle.layout.specs.Layout.{stateSize, isState, Shaped}
+use Rattle.layout.specs.Claims.{machineOf}
+use Rattle.layout.proofs.Claims.{decodes-back, passes, sound-is-shaped, fresh-is-zero}
 use Rattle.machine.specs.Step.{Stepped}
 use Rattle.plain.specs.Machine.{fresh}
 use Rattle.claims.specs.Demands.{Run, RunFrom, Lent}

@@ -12,8 +12,8 @@ use Rattle.interface.specs.Answers.{Answered, numberOf, valueOf}
 use Rattle.interface.specs.Requests.{isCall}
 use Rattle.state.specs.World.{World, worldOf}
 use Rattle.state.specs.Start.{startAnswer, startedBy}
-use Rattle.encoding.specs.Layout.{stateSize, stateBytes, stateFrom, isState}
-use Rattle.encoding.specs.Claims.{machineOf}
+use Rattle.layout.specs.Layout.{stateSize, stateBytes, stateFrom, isState}
+use Rattle.layout.specs.Claims.{machineOf}
 use Rattle.machine.specs.Step.{Outcome, Stepped}
 use Rattle.stepwise.specs.declared.Told.{Told}
 

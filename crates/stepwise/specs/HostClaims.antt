@@ -12,8 +12,8 @@ use Rattle.interface.specs.Gaps.{Unmaps}
 use Rattle.pages.specs.Parts.{zeros}
 use Rattle.state.specs.World.{pagesIn, lengthsOk, viewAt}
 use Rattle.state.specs.Sound.{Sound}
-use Rattle.encoding.specs.Rows.{Bytes}
-use Rattle.encoding.specs.Layout.{stateSize, isState}
+use Rattle.layout.specs.Rows.{Bytes}
+use Rattle.layout.specs.Layout.{stateSize, isState}
 use Rattle.plain.specs.Machine.{Given, fresh, answers}
 use Rattle.plain.specs.Lists.{naming, toldLater, Rewound}
 use Rattle.claims.specs.Demands.{Run, RunFrom, Demand1, AsSnapshot, Frames, Promise, Took}

@@ -1,10 +1,10 @@
 use Prim.Native.Nat.{_-_, _*_}
 use mathlib.Core.Path.{ap, _∙_}
 use native.Mathlib.Omega.{arith}
-use Rattle.encoding.specs.Rows.{partIn}
-use Rattle.encoding.specs.Layout.{sandboxSize, isSandbox, areSandboxes}
-use Rattle.encoding.proofs.RowLoops.{Tested, tested-none, tested-next, tested-all}
-use Rattle.encoding.proofs.PartsLaws.{part-lent}
+use Rattle.layout.specs.Rows.{partIn}
+use Rattle.layout.specs.Layout.{sandboxSize, isSandbox, areSandboxes}
+use Rattle.layout.proofs.RowLoops.{Tested, tested-none, tested-next, tested-all}
+use Rattle.layout.proofs.PartsLaws.{part-lent}
 use borrow.Author.Needs.{needs}
 use Rattle.encoding.proofs.are_sandboxes.Statement.{statement}
 use Rattle.encoding.proofs.are_sandboxes.Tie as tie

@@ -6,10 +6,10 @@ use lib.ListN.{replicate}
 use Rattle.pages.specs.Parts.{partAt}
 use Rattle.state.specs.declared.sandbox.Sandbox.{Sandbox}
 use Rattle.state.specs.World.{closedSandbox}
-use Rattle.encoding.specs.Rows.{partIn}
-use Rattle.encoding.specs.Layout.{sandboxSize, sandboxFrom, stateFrom}
-use Rattle.encoding.proofs.RowLoops.{Filled, filled-none, filled-next, filled-all}
-use Rattle.encoding.proofs.PartsLaws.{part-lent}
+use Rattle.layout.specs.Rows.{partIn}
+use Rattle.layout.specs.Layout.{sandboxSize, sandboxFrom, stateFrom}
+use Rattle.layout.proofs.RowLoops.{Filled, filled-none, filled-next, filled-all}
+use Rattle.layout.proofs.PartsLaws.{part-lent}
 use borrow.Author.Needs.{needs}
 use Rattle.encoding.proofs.decode.Statement.{statement}
 use Rattle.encoding.proofs.decode.Tie as tie

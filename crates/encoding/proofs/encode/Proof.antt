@@ -1,7 +1,7 @@
 use mathlib.Core.List.{[]}
-use Rattle.encoding.specs.Layout.{stateParts, stateBytes}
-use Rattle.encoding.proofs.LengthLaws.{sized-state}
-use Rattle.encoding.proofs.PartsLaws.{laid-out}
+use Rattle.layout.specs.Layout.{stateParts, stateBytes}
+use Rattle.layout.proofs.LengthLaws.{sized-state}
+use Rattle.layout.proofs.PartsLaws.{laid-out}
 use borrow.Author.Needs.{needs}
 use Rattle.encoding.proofs.encode.Statement.{statement}
 use Rattle.encoding.proofs.encode.Tie as tie

@@ -8,9 +8,9 @@ use Rattle.basics.proofs.TestLaws.{length-mapped}
 use Rattle.state.specs.declared.sandbox.Sandbox.{Sandbox}
 use Rattle.state.specs.World.{closedSandbox}
 use Rattle.state.proofs.SharesLaws.{zeroSandbox}
-use Rattle.encoding.specs.Layout.{sandboxSize, sandboxBytes}
-use Rattle.encoding.proofs.RowLoops.{Written, written-none, written-next, written-all}
-use Rattle.encoding.proofs.LengthLaws.{length-sandbox}
+use Rattle.layout.specs.Layout.{sandboxSize, sandboxBytes}
+use Rattle.layout.proofs.RowLoops.{Written, written-none, written-next, written-all}
+use Rattle.layout.proofs.LengthLaws.{length-sandbox}
 use borrow.Author.Needs.{needs}
 use Rattle.encoding.proofs.encode_sandboxes.Statement.{statement}
 use Rattle.encoding.proofs.encode_sandboxes.Tie as tie

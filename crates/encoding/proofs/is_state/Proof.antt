@@ -1,4 +1,4 @@
-use Rattle.encoding.specs.Layout.{isState, stateSize}
+use Rattle.layout.specs.Layout.{isState, stateSize}
 use lib.ListN.{length}
 use borrow.Author.Tests.{eq-eqb, ne-eqb}
 use borrow.Author.Needs.{needs}

@@ -3,8 +3,8 @@ use mathlib.Core.Path.{_≡_, sym, _∙_}
 use mathlib.Core.Bool.{true, false}
 use native.Mathlib.Omega.{arith}
 use borrow.Author.Tests.{not-true, not-false}
-use Rattle.encoding.specs.Layout.{isState}
-use Rattle.encoding.proofs.LayoutLaws.{state-long}
+use Rattle.layout.specs.Layout.{isState}
+use Rattle.layout.proofs.LayoutLaws.{state-long}
 use Rattle.stepwise.specs.Calls.{Handed, handed}
 use Rattle.stepwise.proofs.CallLaws.{call-two, call-three, call-stepped}
 use borrow.Author.Needs.{needs}

@@ -1,4 +1,4 @@
-use Rattle.encoding.specs.Layout.{sandboxFrom}
+use Rattle.layout.specs.Layout.{sandboxFrom}
 use Rattle.pages.specs.Parts.{partAt}
 use borrow.Author.Needs.{needs}
 use Rattle.encoding.proofs.sandbox.decode_sandbox.Statement.{statement}

@@ -3,10 +3,10 @@ use mathlib.Core.List.{List, [], _∷_}
 use native.Mathlib.Omega.{arith}
 use lib.ListN.{length-set}
 use Rattle.basics.specs.Ranges.{one}
-use Rattle.encoding.specs.Rows.{Part, part}
-use Rattle.encoding.specs.Layout.{areasSize, runsSize, areasBytes, runsBytes, sandboxBytes}
-use Rattle.encoding.proofs.LengthLaws.{sized-sandbox}
-use Rattle.encoding.proofs.PartsLaws.{laid-out}
+use Rattle.layout.specs.Rows.{Part, part}
+use Rattle.layout.specs.Layout.{areasSize, runsSize, areasBytes, runsBytes, sandboxBytes}
+use Rattle.layout.proofs.LengthLaws.{sized-sandbox}
+use Rattle.layout.proofs.PartsLaws.{laid-out}
 use borrow.Author.Needs.{needs}
 use Rattle.encoding.proofs.sandbox.encode_sandbox.Statement.{statement}
 use Rattle.encoding.proofs.sandbox.encode_sandbox.Tie as tie

@@ -1,4 +1,4 @@
-use Rattle.encoding.specs.Layout.{isSandbox}
+use Rattle.layout.specs.Layout.{isSandbox}
 use Rattle.pages.specs.Parts.{partAt}
 use borrow.Author.Needs.{needs}
 use Rattle.encoding.proofs.sandbox.is_sandbox.Statement.{statement}

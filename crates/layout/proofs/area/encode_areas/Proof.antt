@@ -1,0 +1,47 @@
+use mathlib.Core.List.{[], _∷_}
+use Rattle.areas.specs.Areas.{none}
+use Rattle.layout.specs.Rows.{part, rowBytes}
+use Rattle.layout.specs.Layout.{placesSize, areaBytes, areasBytes}
+use Rattle.layout.proofs.LengthLaws.{length-places}
+use Rattle.layout.proofs.PartsLaws.{laid-out}
+use borrow.Author.Needs.{needs}
+use Rattle.layout.proofs.area.encode_areas.Statement.{statement}
+use Rattle.layout.proofs.area.encode_areas.Tie as tie
+
+sub-encode-places : tie.Need-sub-encode-places
+sub-encode-places c = search needs
+
+part-encode-places-start : tie.Need-part-encode-places-start
+part-encode-places-start c = search needs
+
+part-encode-places-end : tie.Need-part-encode-places-end
+part-encode-places-end c = search needs
+
+encode-places-requires : tie.Need-encode-places-requires
+encode-places-requires c κs = search needs
+
+slice-write-out : tie.Need-slice-write-out
+slice-write-out c = search needs
+
+same-length : tie.Need-same-length
+same-length c = search needs
+
+returns : tie.Need-returns
+unfolding areasBytes
+returns c =
+    let k = c .before .before .before .before .before in
+    let s = k .args .areas in
+    rw (c .before .before .encode-places .ensures)
+    (laid-out (s .count ∷ []) (part placesSize (rowBytes areaBytes none 8 (s .list)) ∷ []) (k .args .out .now) (k .pre) (length-places (s .list), tt))
+
+pub encode-areas-spec : {M : Type 1} → statement M
+encode-areas-spec =
+    tie.close
+    (tie.spec
+    sub-encode-places
+    part-encode-places-start
+    part-encode-places-end
+    encode-places-requires
+    slice-write-out
+    same-length
+    returns)
