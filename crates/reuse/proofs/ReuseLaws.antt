@@ -107,4 +107,3 @@ both-free named kept f l e = let m = held-both named kept f l in (omega (arith, 
 
 pub free-both : (named kept : Held) (f : ℕ) → f < 128 → held named f ≡ 0 → held kept f ≡ 0 → held (bothHeld named kept) f ≡ 0
 free-both named kept f l a b = held-both named kept f l ∙ rw (a, b)
-

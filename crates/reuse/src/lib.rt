@@ -79,11 +79,7 @@ pub fn map(held: Held, table: &mut [u16], b: Sandbox, q: Request, images: u8) ->
 fn lesser(a: u8, b: u8) -> u8
     ensures { λ r. ⌜ r ≡ (a when leb a b else b) ⌝ }
 {
-    if a <= b {
-        a
-    } else {
-        b
-    }
+    if a <= b { a } else { b }
 }
 
 // The runs, and the marks of all kept frames, once a frame was given up where it must be.

@@ -149,10 +149,11 @@ give-up-requires c κs =
 unheld-frame-requires : tie.Need-unheld-frame-requires
 unheld-frame-requires c κs =
     let g = c .before .before in
-    let s = bare (spared g) in
-    (asked s .filed .few,
-    frame-there (s .args .image .now) (s .args .frames) (s .args .images) (s .args .q) (worldIn s) (asked s) (s .pre .0) (no-front (spared g))
-    (g .give-up .result) (gave g))
+    let s = bare (spared g) in (
+      asked s .filed .few,
+      frame-there (s .args .image .now) (s .args .frames) (s .args .images) (s .args .q) (worldIn s) (asked s) (s .pre .0) (no-front (spared g))
+          (g .give-up .result) (gave g),
+    )
 
 slot-requires : tie.Need-slot-requires
 slot-requires c κs =

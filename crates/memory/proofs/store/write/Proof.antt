@@ -38,11 +38,15 @@ store-byte-requires c κs =
     let touching = c .before .before .before .before .before .before .before .before .before .before in
     let s = behind touching in
     let asked = s .pre .1 in
-    let own = sandboxAt (worldIn s) (s .args .q .sandbox) in
-    (asked .row, (small s,
-    touch-ranged (s .args .image .now) (s .args .frames) (s .args .images) (s .args .q) (worldIn s) asked (s .pre .0) _ _ (small s)
-    (source-there (s .args .image .now) (s .args .images) (own .present) (asked .ready .present) (asked .whole) (s .args .q .p1 / 256))
-    (touching .touch .ensures)))
+    let own = sandboxAt (worldIn s) (s .args .q .sandbox) in (
+      asked .row,
+      (
+        small s,
+        touch-ranged (s .args .image .now) (s .args .frames) (s .args .images) (s .args .q) (worldIn s) asked (s .pre .0) _ _ (small s)
+            (source-there (s .args .image .now) (s .args .images) (own .present) (asked .ready .present) (asked .whole) (s .args .q .p1 / 256))
+            (touching .touch .ensures),
+      ),
+    )
 
 same-length : tie.Need-same-length
 same-length c = search needs
