@@ -1,12 +1,8 @@
 pub mod SlotLaws
-pub mod PushLaws
-pub mod PackLaws
 pub mod FormedLaws
+pub mod OrderLaws
 pub mod WalkLaws
 pub mod CountedLaws
-pub mod KeptLaws
 pub mod FewAreas
 pub mod ToldLaws
 pub mod StartLaws
-pub mod ChangeLaws
-pub mod Examples

@@ -7,15 +7,17 @@ use native.Mathlib.Omega.{arith}
 use native.Mathlib.Numerals.{add-one}
 use native.Mathlib.Nat.{add-zero}
 use native.Mathlib.Decide.{ℕ-discrete}
+use lib.Dec.{eqb}
 use lib.ListN.{length, getD, set, drop, replicate, drop-of-length-le}
 use lib.Seq.{drop-cons, getD-set-same, getD-set-other}
+use borrow.Author.Tests.{eqb-true}
 use Rattle.basics.specs.Choice.{_when_else_}
 use Rattle.basics.proofs.TestLaws.{by-cases}
 use Rattle.basics.proofs.RangeLaws.{inside-past}
 use Rattle.interface.specs.declared.page.Backing.{Backing}
 use Rattle.interface.specs.declared.page.Backing.the-variants.{Anonymous, Image}
 use Rattle.interface.specs.declared.page.Slot.the-variants.{Unmapped}
-use Rattle.interface.specs.Slots.{isMapped, advance}
+use Rattle.interface.specs.Slots.{isMapped, advance, follows}
 use Rattle.areas.specs.declared.area.Area.{Area}
 use Rattle.areas.specs.Areas.{none, covers, slotOf, slotIn}
 
@@ -112,3 +114,18 @@ set-case P l j k a h y n = go (ℕ-discrete k j)
 pub advance-zero : (b : Backing) → advance b 0 ≡ b
 advance-zero Anonymous = refl
 advance-zero (Image first) = ap (λ (n : ℕ). Image (record { 0 = n })) (add-zero (first .0))
+
+-- the backing that follows another, so many pages on
+pub follows-true : (first second : Backing) (pages : ℕ) → follows first pages second ≡ true → advance first pages ≡ second
+unfolding follows
+follows-true Anonymous Anonymous pages h = refl
+follows-true Anonymous (Image q) pages h = cc
+follows-true (Image p) Anonymous pages h = cc
+follows-true (Image p) (Image q) pages h = ap (λ (n : ℕ). Image (record { 0 = n })) (eqb-true (p .0 + pages) (q .0) h)
+
+pub follows-more : (first second : Backing) (pages : ℕ) → follows first (pages + 1) second ≡ follows (advance first pages) 1 second
+unfolding follows
+follows-more Anonymous Anonymous pages = refl
+follows-more Anonymous (Image q) pages = refl
+follows-more (Image p) Anonymous pages = refl
+follows-more (Image p) (Image q) pages = ap (λ (n : ℕ). eqb n (q .0)) (omega arith)

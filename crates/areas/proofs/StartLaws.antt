@@ -15,9 +15,8 @@ use Rattle.interface.specs.Slots.{isMapped, joins, startsArea}
 use Rattle.areas.specs.declared.area.Area.{Area}
 use Rattle.areas.specs.declared.area.Areas.{Areas}
 use Rattle.areas.specs.Areas.{none, attributesOf, slotOf, slots}
-use Rattle.areas.specs.Pack.{goesOn}
-use Rattle.areas.specs.Formed.{WellFormed}
-use Rattle.areas.proofs.PushLaws.{follows-more}
+use Rattle.areas.specs.Formed.{goesOn, WellFormed}
+use Rattle.areas.proofs.SlotLaws.{follows-more}
 use Rattle.areas.proofs.WalkLaws.{endOf}
 use Rattle.areas.proofs.FewAreas.{order, area-of, area-slot, joins-next}
 use Rattle.areas.proofs.ToldLaws.{first-slot}

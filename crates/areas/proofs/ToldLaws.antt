@@ -18,13 +18,10 @@ use Rattle.interface.specs.Outcome.{pageOn}
 use Rattle.areas.specs.declared.area.Area.{Area}
 use Rattle.areas.specs.declared.area.Areas.{Areas}
 use Rattle.areas.specs.Areas.{none, attributesOf, slotOf, slots}
-use Rattle.areas.specs.Pack.{goesOn, pack}
-use Rattle.areas.specs.Formed.{WellFormed}
+use Rattle.areas.specs.Formed.{goesOn, WellFormed}
 use Rattle.areas.proofs.SlotLaws.{advance-zero}
-use Rattle.areas.proofs.PackLaws.{slots-pack, areas-fit}
 use Rattle.areas.proofs.WalkLaws.{endOf}
-use Rattle.areas.proofs.KeptLaws.{pack-formed, slots-order, slots-bounded}
-use Rattle.areas.proofs.FewAreas.{order, area-of, area-slot, few-areas}
+use Rattle.areas.proofs.FewAreas.{order, area-of, area-slot}
 
 -- the area of a place
 abbrev at : Areas → ℕ → Area
@@ -163,17 +160,10 @@ module _ (images : ℕ) (s r : Areas) (w : WellFormed images s) (v : WellFormed 
       go (no d) = omega arith
       go (yes d) = absurd (omega (arith, starts images s r w v told (r .count) (same-before (r .count)) d .0))
 
--- ---- the laws
+-- ---- the law
 
 -- "Areas are the longest runs of neighbouring pages that agree": what stands at each page leaves no choice of them
 pub slots-tell : (images : ℕ) (s r : Areas) → WellFormed images s → WellFormed images r → slots s ≡ slots r → s ≡ r
 slots-tell images s r w v told =
     let same-count : s .count ≡ r .count = omega (arith, most images s r w v told, most images r s v w (sym told)) in
     λ i. record { count = same-count i; list = same-list images s r w v told i }
-
--- so packing what they say gives them again
-pub pack-slots : (images : ℕ) (s : Areas) → WellFormed images s → pack (slots s) .areas ≡ s
-pack-slots images s w =
-    let fits : pack (slots s) .fits ≡ true = areas-fit (slots s) (few-areas images s w) in
-    slots-tell images (pack (slots s) .areas) s (pack-formed images (slots s) (slots-order images s w) fits) w
-    (slots-pack (slots s) (slots-bounded images s w) fits)

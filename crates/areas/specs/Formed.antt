@@ -4,16 +4,23 @@ use mathlib.Core.Path.{_≡_}
 use mathlib.Core.Bool.{Bool, true, false, not, _&&_}
 use lib.Dec.{leb, ltb, eqb}
 use lib.ListN.{length, getD}
-use Rattle.basics.specs.Choice.{_when_else_, implies}
+use Rattle.basics.specs.Choice.{_when_else_, implies, same}
 use Rattle.basics.specs.Ranges.{every}
 use Rattle.interface.specs.declared.page.Backing.{Backing}
 use Rattle.interface.specs.declared.page.Backing.the-variants.{Anonymous, Image}
+use Rattle.interface.specs.declared.page.Attributes.{Attributes}
+use Rattle.interface.specs.Slots.{follows}
 use Rattle.interface.specs.Limits.{rightsOk}
 use Rattle.interface.specs.Runs.{isAnonymous}
 use Rattle.areas.specs.declared.area.Area.{Area}
 use Rattle.areas.specs.declared.area.Areas.{Areas}
 use Rattle.areas.specs.Areas.{none, attributesOf}
-use Rattle.areas.specs.Pack.{goesOn}
+
+-- whether a page goes on where the area ends: "neighbouring pages that agree in rights, mark and backing (image pages running on)"
+unfoldable pub goesOn : Area → ℕ → Attributes → Bool
+goesOn a page t =
+    eqb (a .first .0 + a .pages) page
+    && (eqb (a .rights) (t .rights) && (same (a .committed) (t .committed) && follows (a .backing) (a .pages) (t .backing)))
 
 -- "image pages exist": those of n pages with this backing
 abbrev pub ImagesExist : ℕ → Backing → ℕ → Type 0

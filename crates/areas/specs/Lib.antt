@@ -1,6 +1,5 @@
 -- In reading order.
 pub mod Areas
-pub mod Pack
 pub mod Formed
 pub mod Order
 pub mod Walk

@@ -1,4 +1,4 @@
--- Slots in order: what well formed areas say of each page, and what a sensible change keeps.
+-- Slots in order: what well formed areas say of each page, and what those are packed from.
 use Prim.Native.Nat.{ℕ}
 use mathlib.Core.Path.{_≡_}
 use mathlib.Core.Bool.{true}
@@ -7,8 +7,6 @@ use Rattle.interface.specs.declared.page.Slot.{Slot}
 use Rattle.interface.specs.declared.page.Slot.the-variants.{Unmapped, Mapped}
 use Rattle.interface.specs.Slots.{Slots}
 use Rattle.interface.specs.Limits.{rightsOk}
-use Rattle.areas.specs.declared.pack.Change.{Change}
-use Rattle.areas.specs.declared.pack.Change.the-variants.{Map, Unmap, Protect, Commit}
 use Rattle.areas.specs.Formed.{ImagesExist}
 
 -- "rights 1 or 3", "image pages exist": of n pages from one with these attributes on
@@ -24,10 +22,3 @@ InOrder images (Mapped t) = Sensible images 1 t
 -- every page is in order
 unfoldable pub AllInOrder : ℕ → Slots → Type 0
 AllInOrder images f = (page : ℕ) → InOrder images (f page)
-
--- a change of n pages after which each of them is in order
-abbrev pub SensibleChange : ℕ → ℕ → Change → Type 0
-SensibleChange images n (Map t) = Sensible images n t
-SensibleChange images n Unmap = Unit {0}
-SensibleChange images n (Protect r) = rightsOk r ≡ true
-SensibleChange images n Commit = Unit {0}

@@ -2,7 +2,10 @@
 ghost use mathlib.Core.Path.{_≡_};
 ghost use Prim.Native.Nat.{_≤_, _<_};
 ghost use Rattle.areas.specs.Areas.{none, empty, attributesOf, covers, slotOf, slots, startOf, Near};
+ghost use Rattle.areas.specs.Formed.{goesOn};
 use crate::basic::is_inside;
+use crate::basic::is_same;
+use crate::slot::follows;
 use crate::slot::page_on;
 use interface::page::Attributes;
 use interface::page::Backing;
@@ -26,7 +29,7 @@ pub struct Areas {
 
 impl Areas {
     // "Each has 64 pages"
-    pub(crate) const PAGES: u8 = PageNo::COUNT as u8;
+    pub const PAGES: u8 = PageNo::COUNT as u8;
 
     // No areas: nothing is mapped.
     pub fn empty() -> Self
@@ -73,7 +76,7 @@ impl Area {
     }
 
     // What stands at the area's first page.
-    pub(crate) fn attributes(self) -> Attributes
+    pub fn attributes(self) -> Attributes
         ensures { λ r. ⌜ r ≡ attributesOf self ⌝ }
     {
         let backing = self.backing;
@@ -90,6 +93,18 @@ impl Area {
     {
         let first = self.first;
         is_inside(first, self.pages, page)
+    }
+
+    // Whether a page goes on where the area ends.
+    pub fn goes_on(self, page: PageNo, t: Attributes) -> bool
+        ensures { λ r. ⌜ r ≡ goesOn self (page .0) t ⌝ }
+    {
+        let mine = self.backing;
+        let other = t.backing;
+        let behind = self.first.0 as usize + self.pages as usize == page.0 as usize;
+        let agrees = (self.rights == t.rights)
+            & (is_same(self.committed, t.committed) & follows(mine, self.pages, other));
+        behind & agrees
     }
 
     // What stands at a page of the area.

@@ -12,7 +12,7 @@ pub(crate) fn is_same(a: bool, b: bool) -> bool
 }
 
 // Whether the page is one of the n pages from first on.
-pub(crate) fn is_inside(first: PageNo, n: u8, page: PageNo) -> bool
+pub fn is_inside(first: PageNo, n: u8, page: PageNo) -> bool
     ensures { λ r. ⌜ r ≡ inside (first .0) n (page .0) ⌝ }
 {
     let end = first.0 as usize + n as usize;

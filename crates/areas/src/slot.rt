@@ -74,7 +74,7 @@ pub fn is_anonymous(backing: Backing) -> bool
 }
 
 // The slot with other rights, if it is mapped.
-pub(crate) fn with_rights(slot: Slot, rights: u8) -> Slot
+pub fn with_rights(slot: Slot, rights: u8) -> Slot
     ensures { λ r. ⌜ r ≡ withRights rights slot ⌝ }
 {
     match slot {
@@ -91,7 +91,7 @@ pub(crate) fn with_rights(slot: Slot, rights: u8) -> Slot
 }
 
 // The slot committed, if it is mapped.
-pub(crate) fn with_committed(slot: Slot) -> Slot
+pub fn with_committed(slot: Slot) -> Slot
     ensures { λ r. ⌜ r ≡ withCommitted slot ⌝ }
 {
     match slot {
@@ -108,7 +108,7 @@ pub(crate) fn with_committed(slot: Slot) -> Slot
 }
 
 // A page of an area, so many pages after its first.
-pub(crate) fn page_on(first: Attributes, pages: u8) -> Slot
+pub fn page_on(first: Attributes, pages: u8) -> Slot
     requires { ⌜ startOf (first .backing) + pages < 256 ⌝ }
     ensures { λ r. ⌜ r ≡ pageOn first pages ⌝ }
 {

@@ -31,7 +31,7 @@ use Rattle.table.specs.Store.{Store, entry, frontOf, backOf, contents, Filed}
 use Rattle.table.proofs.StoreLaws.{contents-none, contents-some}
 use Rattle.areas.specs.Areas.{slots}
 use Rattle.areas.proofs.FewAreas.{few-areas}
-use Rattle.areas.proofs.ChangeLaws.{none-slots, empty-formed}
+use Rattle.areas.proofs.OrderLaws.{none-slots, empty-formed}
 use Rattle.state.specs.declared.sandbox.Sandbox.{Sandbox}
 use Rattle.state.specs.World.{World, sandboxAt, framesOf, pagesIn, copyOf}
 use Rattle.state.specs.Sound.{SoundAt, Sound}

@@ -18,15 +18,16 @@ use Rattle.interface.proofs.SlotLaws.{beyond}
 use Rattle.interface.proofs.KindLaws.{Kind, isMap, isUnmap, isProtect, isWrite, isSnapshot, isRewind, isOther}
 use Rattle.table.specs.Store.{Store}
 use Rattle.areas.specs.declared.area.Areas.{Areas}
-use Rattle.areas.specs.declared.pack.Packed.{Packed}
-use Rattle.areas.specs.declared.pack.Change.the-variants.{Map as MapPages, Unmap as UnmapPages, Protect as ProtectPages, Commit}
 use Rattle.areas.specs.Areas.{slots, empty, Bounded}
-use Rattle.areas.specs.Pack.{pack}
 use Rattle.areas.specs.Formed.{ImagesExist, WellFormed}
 use Rattle.areas.specs.Order.{Sensible, AllInOrder}
-use Rattle.areas.proofs.PackLaws.{areas-fit, slots-pack}
-use Rattle.areas.proofs.KeptLaws.{pack-formed, slots-order, slots-bounded, order-image, changed-order}
-use Rattle.areas.proofs.ChangeLaws.{map-slots, unmap-slots, protect-slots, snapshot-slots}
+use Rattle.areas.proofs.OrderLaws.{slots-order, slots-bounded, order-image}
+use Rattle.packing.specs.declared.pack.Packed.{Packed}
+use Rattle.packing.specs.declared.pack.Change.the-variants.{Map as MapPages, Unmap as UnmapPages, Protect as ProtectPages, Commit}
+use Rattle.packing.specs.Pack.{pack}
+use Rattle.packing.proofs.PackLaws.{areas-fit, slots-pack}
+use Rattle.packing.proofs.KeptLaws.{pack-formed, changed-order}
+use Rattle.packing.proofs.ChangeLaws.{map-slots, unmap-slots, protect-slots, snapshot-slots}
 use Rattle.state.specs.declared.sandbox.Sandbox.{Sandbox}
 use Rattle.state.specs.World.{pagesIn, copyOf}
 use Rattle.rules.specs.After.{changes, packedAfter, presentAfter, takenAfter, snapshotAfter}

@@ -24,13 +24,12 @@ use Rattle.interface.proofs.AcceptedLaws.{accepted}
 use Rattle.interface.proofs.AloneLaws.{Unmapping, alone}
 use Rattle.table.specs.Store.{entry, frontOf, freeTo}
 use Rattle.table.proofs.FreeLaws.{freeTo-join, freeTo-none}
-use Rattle.areas.specs.declared.pack.Change.the-variants.{Unmap}
 use Rattle.areas.specs.Areas.{slots}
-use Rattle.areas.specs.Pack.{pack}
-use Rattle.areas.proofs.PackLaws.{areas-fit}
-use Rattle.areas.proofs.KeptLaws.{repack-slots}
 use Rattle.areas.proofs.FewAreas.{few-areas}
-use Rattle.areas.proofs.ToldLaws.{pack-slots}
+use Rattle.packing.specs.declared.pack.Change.the-variants.{Unmap}
+use Rattle.packing.specs.Pack.{pack}
+use Rattle.packing.proofs.PackLaws.{areas-fit}
+use Rattle.packing.proofs.KeptLaws.{repack-slots, pack-slots}
 use Rattle.state.specs.declared.sandbox.Sandbox.{Sandbox}
 use Rattle.state.specs.World.{World, sandboxAt, withPresent, closedSandbox, pagesIn, viewAt}
 use Rattle.state.specs.Sound.{SoundAt, Sound}

@@ -25,8 +25,8 @@ use Rattle.pages.specs.Parts.{partAt, setPart, zeros, frame, setFrame}
 use Rattle.marks.specs.Marks.{addEntry, marksTo, marksb}
 use Rattle.table.specs.Store.{contents, put, free, take, fill, storeByte, move, rewindPage, freeTo, moveTo, rewindTo, fresh}
 use Rattle.areas.specs.Areas.{slotIn}
-use Rattle.areas.specs.Pack.{goesOn, continues, push, packTo}
-use Rattle.areas.specs.Formed.{proper, isApart, isNone, placeOk, wellFormed}
+use Rattle.areas.specs.Formed.{goesOn, proper, isApart, isNone, placeOk, wellFormed}
+use Rattle.packing.specs.Pack.{continues, push, packTo}
 use Rattle.state.specs.World.{World, framesOf, started, rowsOf}
 use Rattle.state.specs.Test.{pageOk, pagesOk, noneKept, runsOk, keptOk, recordOk, sandboxOk, sandboxesOk, soundb}
 use Rattle.rules.specs.After.{packedAfter, takenAfter, snapshotAfter}

@@ -12,7 +12,7 @@ use Rattle.kept.proofs.StoreRuns.{none-kept}
 use Rattle.table.specs.Store.{Store, frontOf, backOf, fresh as freshStore}
 use Rattle.table.proofs.StoreLaws.{none-entry}
 use Rattle.table.proofs.StartLaws.{fresh-tidy, fresh-none}
-use Rattle.areas.proofs.ChangeLaws.{none-slots, empty-formed}
+use Rattle.areas.proofs.OrderLaws.{none-slots, empty-formed}
 use Rattle.state.specs.declared.sandbox.Sandbox.{Sandbox}
 use Rattle.state.specs.World.{World, sandboxAt, sharesOf, framesOf, pagesIn, closedSandbox, started, rowsOf}
 use Rattle.state.specs.Sound.{SoundAt, Sound}

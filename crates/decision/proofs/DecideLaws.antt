@@ -19,9 +19,9 @@ use Rattle.interface.specs.Settled.{Settled}
 use Rattle.interface.proofs.KindLaws.{kind}
 use Rattle.interface.proofs.AcceptedLaws.{gap-some, gap-found, gap-fits}
 use Rattle.interface.proofs.RowLaws.{row-14}
-use Rattle.areas.specs.declared.pack.Packed.{Packed}
 use Rattle.areas.specs.Areas.{slots}
-use Rattle.areas.proofs.PackLaws.{pack-fits}
+use Rattle.packing.specs.declared.pack.Packed.{Packed}
+use Rattle.packing.proofs.PackLaws.{pack-fits}
 use Rattle.state.specs.declared.sandbox.Sandbox.{Sandbox}
 use Rattle.state.specs.World.{copyOf}
 use Rattle.decision.specs.declared.Verdict.the-variants.{Accepted, Refused}

@@ -7,13 +7,13 @@ use Rattle.interface.specs.declared.page.Attributes.{Attributes}
 use Rattle.interface.specs.declared.request.Request.{Request}
 use Rattle.interface.specs.Requests.{_is_, Map, Unmap, Protect, Snapshot, Rewind}
 use Rattle.interface.specs.Outcome.{firstOf, newPage, slotsAfter}
-use Rattle.areas.specs.declared.pack.Packed.{Packed}
-use Rattle.areas.specs.declared.pack.Change.{Change}
 use Rattle.areas.specs.Areas.{slots}
-use Rattle.areas.specs.Pack.{pack, changed}
 use Rattle.areas.specs.Formed.{WellFormed}
-use Rattle.areas.proofs.ChangeLaws.{commit-slots}
-use Rattle.areas.proofs.KeptLaws.{slots-bounded}
+use Rattle.areas.proofs.OrderLaws.{slots-bounded}
+use Rattle.packing.specs.declared.pack.Packed.{Packed}
+use Rattle.packing.specs.declared.pack.Change.{Change}
+use Rattle.packing.specs.Pack.{pack, changed}
+use Rattle.packing.proofs.ChangeLaws.{commit-slots}
 use Rattle.state.specs.declared.sandbox.Sandbox.{Sandbox}
 use Rattle.rules.specs.After.{packedAfter}
 

@@ -5,9 +5,9 @@ use Rattle.interface.specs.declared.request.Request.{Request}
 use Rattle.interface.specs.Requests.{_is_, Map, Unmap, Protect, Snapshot, Rewind}
 use Rattle.interface.specs.Outcome.{slotsAfter, shareAfter}
 use Rattle.areas.specs.declared.area.Areas.{Areas}
-use Rattle.areas.specs.declared.pack.Packed.{Packed}
 use Rattle.areas.specs.Areas.{slots}
-use Rattle.areas.specs.Pack.{pack}
+use Rattle.packing.specs.declared.pack.Packed.{Packed}
+use Rattle.packing.specs.Pack.{pack}
 use Rattle.state.specs.declared.sandbox.Sandbox.{Sandbox}
 use Rattle.state.specs.World.{withOpened, withShare, withPresent, withTaken, withSnapshot, copyOf}
 

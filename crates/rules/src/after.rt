@@ -6,13 +6,14 @@ ghost use Rattle.areas.specs.Areas.{slots, Near};
 ghost use Rattle.rules.specs.After.{packedAfter, takenAfter, snapshotAfter, sandboxWith};
 ghost use Rattle.rules.specs.Ready.{Fit, Ready};
 use areas::area::Areas;
-use areas::pack::Change;
-use areas::pack::Packed;
 use interface::page::Attributes;
 use interface::page::Backing;
 use interface::page::ImagePageNo;
 use interface::page::PageNo;
 use interface::request::Request;
+use packing::pack::Change;
+use packing::pack::Packed;
+use packing::pack::repack;
 use state::sandbox::Sandbox;
 
 // The areas that result, and whether they fit.
@@ -25,16 +26,21 @@ pub fn packed_after(b: Sandbox, images: u8, q: Request) -> Packed
     let present = b.present;
     if code == 2 {
         let first = first_of(present, q);
-        return present.repack(PageNo(first), q.p2 as u8, Change::Map(new_page(q)));
+        return repack(present, PageNo(first), q.p2 as u8, Change::Map(new_page(q)));
     }
     if code == 3 {
-        return present.repack(PageNo(q.p1 as u8), q.p2 as u8, Change::Unmap);
+        return repack(present, PageNo(q.p1 as u8), q.p2 as u8, Change::Unmap);
     }
     if code == 4 {
-        return present.repack(PageNo(q.p1 as u8), q.p2 as u8, Change::Protect(q.p3 as u8));
+        return repack(
+            present,
+            PageNo(q.p1 as u8),
+            q.p2 as u8,
+            Change::Protect(q.p3 as u8),
+        );
     }
     if code == 7 {
-        return present.repack(PageNo(0), 64, Change::Commit);
+        return repack(present, PageNo(0), 64, Change::Commit);
     }
     if code == 8 {
         let snapshot = b.snapshot;

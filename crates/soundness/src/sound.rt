@@ -19,6 +19,7 @@ use areas::slot::is_committed;
 use areas::slot::is_mapped;
 use interface::page::PageNo;
 use interface::page::Slot;
+use packing::formed::well_formed;
 use state::sandbox::Machine;
 use state::sandbox::Sandbox;
 use state::sandbox::shares;
@@ -90,11 +91,11 @@ fn sandbox_ok(b: Sandbox, table: &[u16], s: u8, images: u8) -> bool
     ensures { λ r. ⌜ ((h : Words) (pool : List ℕ) → r ≡ sandboxOk images (kept h pool (now (table .entry))) s b) ⌝ }
 {
     let present = b.present;
-    if !present.well_formed(images) {
+    if !well_formed(present, images) {
         return false;
     }
     let snapshot = b.snapshot;
-    if !snapshot.well_formed(images) {
+    if !well_formed(snapshot, images) {
         return false;
     }
     if !pages_ok(present, snapshot, table, s) {

@@ -14,7 +14,7 @@ use Rattle.areas.specs.Areas.{slots, Near}
 use Rattle.areas.specs.Formed.{ImagesExist, WellFormed}
 use Rattle.areas.specs.Order.{AllInOrder}
 use Rattle.areas.proofs.FormedLaws.{near}
-use Rattle.areas.proofs.KeptLaws.{slots-order, order-image}
+use Rattle.areas.proofs.OrderLaws.{slots-order, order-image}
 use Rattle.state.specs.World.{World, sandboxAt, framesOf, pagesIn}
 use Rattle.state.specs.Sound.{Sound}
 

@@ -12,8 +12,7 @@ use Rattle.interface.specs.declared.page.Backing.the-variants.{Anonymous, Image
 use Rattle.interface.specs.declared.page.Slot.{Slot}
 use Rattle.interface.specs.Slots.{isMapped, isCommitted, backingAt, follows}
 use Rattle.interface.specs.Limits.{between}
-use Rattle.areas.proofs.SlotLaws.{advance-zero}
-use Rattle.areas.proofs.PushLaws.{follows-true}
+use Rattle.areas.proofs.SlotLaws.{advance-zero, follows-true}
 use Rattle.state.specs.Test.{pageOk, recordOk}
 
 pub not-of : (a : Bool) → a ≡ false → not a ≡ true

@@ -9,7 +9,7 @@ use Rattle.interface.specs.Slots.{copied}
 use Rattle.interface.specs.Settled.{Settled}
 use Rattle.table.specs.Store.{Store}
 use Rattle.areas.specs.Areas.{slots, empty}
-use Rattle.areas.proofs.ChangeLaws.{none-slots}
+use Rattle.areas.proofs.OrderLaws.{none-slots}
 use Rattle.areas.proofs.FewAreas.{few-areas}
 use Rattle.state.specs.declared.sandbox.Sandbox.{Sandbox}
 use Rattle.state.specs.World.{World, sandboxAt, copyOf, pagesIn, viewAt}

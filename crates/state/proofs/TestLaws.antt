@@ -29,8 +29,7 @@ use Rattle.areas.specs.declared.area.Areas.{Areas}
 use Rattle.areas.specs.Areas.{slots, empty, Bounded}
 use Rattle.areas.specs.Formed.{WellFormed, wellFormed}
 use Rattle.areas.proofs.FormedLaws.{formed, formed-of}
-use Rattle.areas.proofs.KeptLaws.{slots-bounded}
-use Rattle.areas.proofs.ChangeLaws.{formed-empty}
+use Rattle.areas.proofs.OrderLaws.{slots-bounded, formed-empty}
 use Rattle.state.specs.declared.sandbox.Sandbox.{Sandbox}
 use Rattle.state.specs.World.{World, sandboxAt, sharesOf, copyOf, framesOf, pagesIn, wholePages, lengthsOk, rowsOf}
 use Rattle.state.specs.Sound.{SoundAt, Sound}

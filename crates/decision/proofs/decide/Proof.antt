@@ -11,9 +11,9 @@ use Rattle.interface.specs.declared.request.Request.{Request}
 use Rattle.interface.specs.Slots.{areas}
 use Rattle.interface.specs.Refusals.{View, slotsThen, refusal}
 use Rattle.interface.specs.Settled.{Settled}
-use Rattle.areas.specs.declared.pack.Packed.{Packed}
 use Rattle.areas.specs.Areas.{Near}
 use Rattle.areas.proofs.FormedLaws.{near}
+use Rattle.packing.specs.declared.pack.Packed.{Packed}
 use Rattle.rules.specs.After.{packedAfter}
 use Rattle.rules.specs.Ready.{Ready, Fit, Passed, viewFrom}
 use Rattle.decision.proofs.DecideLaws.{PastOpen, PastClosed, PastLimits, PastUntaken, PastTaken, PastMapped, PastFree, PastGap, PastRight, PastShare}

@@ -1,5 +1,5 @@
 use native.Mathlib.Omega.{arith}
-use Rattle.areas.specs.Pack.{goesOn}
+use Rattle.areas.specs.Formed.{goesOn}
 use Rattle.areas.proofs.area.Area.goes_on.Statement.{statement}
 use Rattle.areas.proofs.area.Area.goes_on.Tie as tie
 

@@ -1,0 +1,5 @@
+pub mod PushLaws
+pub mod PackLaws
+pub mod KeptLaws
+pub mod ChangeLaws
+pub mod Examples

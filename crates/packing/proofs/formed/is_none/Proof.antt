@@ -1,0 +1,13 @@
+use Rattle.areas.specs.Formed.{isNone}
+use Rattle.packing.proofs.formed.is_none.Statement.{statement}
+use Rattle.packing.proofs.formed.is_none.Tie as tie
+
+is-anonymous-requires : tie.Need-is-anonymous-requires
+is-anonymous-requires c κs = tt
+
+returns : tie.Need-returns
+unfolding isNone
+returns c = rw (c .before .before .is-anonymous .ensures)
+
+pub is-none-spec : {M : Type 1} → statement M
+is-none-spec = tie.close (tie.spec is-anonymous-requires returns)

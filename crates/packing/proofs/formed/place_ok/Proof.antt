@@ -1,0 +1,77 @@
+use mathlib.Core.Path.{sym, _∙_}
+use native.Mathlib.Omega.{arith}
+use borrow.Author.Tests.{lt-ltb, le-ltb, not-true, not-false}
+use Rattle.areas.specs.Formed.{placeOk}
+use Rattle.packing.proofs.formed.place_ok.Statement.{statement}
+use Rattle.packing.proofs.formed.place_ok.Tie as tie
+
+mul-area : tie.Need-mul-area
+mul-area c = omega arith
+
+element-copy-out-area : tie.Need-element-copy-out-area
+element-copy-out-area c = omega arith
+
+cast-if1 : tie.Need-cast-if1
+cast-if1 c = omega arith
+
+is-none-requires : tie.Need-is-none-requires
+is-none-requires c κs = tt
+
+returns : tie.Need-returns
+unfolding placeOk
+returns c = rw (c .is-none .ensures, le-ltb _ _ (c .before .if1 .taken))
+
+is-proper-requires : tie.Need-is-proper-requires
+is-proper-requires c κs = tt
+
+returns-2 : tie.Need-returns-2
+unfolding placeOk
+returns-2 c = simp (lt-ltb _ _ (c .before .before .if1 .left), sym (c .before .is-proper .ensures) ∙ not-true _ (c .if2 .taken))
+
+returns-3 : tie.Need-returns-3
+unfolding placeOk
+returns-3 c =
+    simp (
+      lt-ltb _ _ (c .before .before .before .if1 .left),
+      sym (c .before .before .is-proper .ensures) ∙ not-false _ (c .before .if2 .left),
+      le-ltb 0 (c .before .before .before .before .before .args .k) (omega arith),
+    )
+
+sub-previous : tie.Need-sub-previous
+sub-previous c = omega arith
+
+mul-previous : tie.Need-mul-previous
+mul-previous c = omega arith
+
+element-copy-out-previous : tie.Need-element-copy-out-previous
+element-copy-out-previous c = omega arith
+
+is-apart-requires : tie.Need-is-apart-requires
+is-apart-requires c κs = tt
+
+returns-4 : tie.Need-returns-4
+unfolding placeOk
+returns-4 c =
+    simp (
+      lt-ltb _ _ (c .before .before .before .before .before .if1 .left),
+      sym (c .before .before .before .before .is-proper .ensures) ∙ not-false _ (c .before .before .before .if2 .left),
+      lt-ltb 0 (c .before .before .before .before .before .before .before .args .k) (omega arith),
+    ) (c .is-apart .ensures)
+
+pub place-ok-spec : {M : Type 1} → statement M
+place-ok-spec =
+    tie.close
+    (tie.spec
+    mul-area
+    element-copy-out-area
+    cast-if1
+    is-none-requires
+    returns
+    is-proper-requires
+    returns-2
+    returns-3
+    sub-previous
+    mul-previous
+    element-copy-out-previous
+    is-apart-requires
+    returns-4)

@@ -1,0 +1,34 @@
+use Prim.Native.Nat.{_<_}
+use native.Mathlib.Omega.{arith}
+use borrow.Author.Tests.{lt-ltb}
+use Rattle.packing.specs.Pack.{continues}
+use Rattle.packing.proofs.pack.continues.Statement.{statement}
+use Rattle.packing.proofs.pack.continues.Tie as tie
+
+returns : tie.Need-returns
+unfolding continues
+returns c = rw (c .if1 .taken)
+
+cast-k : tie.Need-cast-k
+cast-k c = omega arith
+
+sub-k : tie.Need-sub-k
+sub-k c = omega arith
+
+mul-last : tie.Need-mul-last
+mul-last c = omega arith
+
+element-copy-out-last : tie.Need-element-copy-out-last
+element-copy-out-last c = omega arith
+
+goes-on-requires : tie.Need-goes-on-requires
+goes-on-requires c κs = tt
+
+returns-2 : tie.Need-returns-2
+unfolding continues
+returns-2 c = let some : 0 < c .before .before .before .args .t1 .count = omega arith in rw (c .goes-on .ensures, lt-ltb 0 _ some)
+
+pub continues-spec : {M : Type 1} → statement M
+continues-spec =
+    tie.close
+    (tie.spec returns cast-k sub-k mul-last element-copy-out-last goes-on-requires returns-2)

@@ -1,0 +1,123 @@
+use Prim.Native.Nat.{_+_, _-_, _≤_, _<_}
+use mathlib.Core.Path.{_≡_, sym, _∙_, ap}
+use mathlib.Core.Logic.{inl, inr, ⊎-elim}
+use native.Mathlib.Omega.{arith}
+use borrow.Author.Needs.{needs}
+use Rattle.packing.specs.Pack.{packTo, changed}
+use Rattle.areas.specs.Areas.{slots}
+use Rattle.packing.proofs.ChangeLaws.{repack-step}
+use Rattle.packing.proofs.PushLaws.{count-pack, push-none}
+use Rattle.areas.proofs.WalkLaws.{Standing, stand-start, stand-slot, stand-near, stand-more, stand-next}
+use Rattle.packing.proofs.pack.repack.Statement.{statement}
+use Rattle.packing.proofs.pack.repack.Tie as tie
+
+abbrev Inv-loop : tie.InvT-loop
+Inv-loop first n change areas packed₀ place₀ area₀ i₀ packed place area i =
+    (i ≤ 64) × (packed ≡ packTo (changed (slots areas) (first .0) n change) i) × Standing areas i place area
+
+abbrev μ-loop : tie.MeasureT-loop
+μ-loop first n change areas packed₀ place₀ area₀ i₀ packed place area i = 64 - i
+
+-- where the area is left there is a next one, and the walk stands at the next page
+more : (c : tie.Then1 Inv-loop μ-loop) → c .before .before .before .before .before .loop .place + 1 < 8
+more c =
+    let s = c .before .before .before .before .before .before .before .before in
+    let l = c .before .before .before .before .before .loop in
+    stand-more (s .args .t1) (s .pre .0) (l .i) (l .place) (l .area) (l .inv .2) (c .before .is-left .result) (c .before .is-left .ensures) (c .if1 .taken)
+
+walked : (c : tie.Joined1 Inv-loop μ-loop) → Standing (c .before .before .before .before .before .before .before .before .args .t1) (c .before .before .before .before .before .loop .i + 1) (c .if1 .place) (c .if1 .area)
+walked c =
+    let s = c .before .before .before .before .before .before .before .before in
+    let l = c .before .before .before .before .before .loop in
+    stand-next (s .args .t1) (s .pre .0) (l .i) (l .place) (l .area) (l .inv .2) (c .before .is-left .result) (c .if1 .place) (c .if1 .area) (c .before .is-left .ensures)
+    (⊎-elim (λ w. inl (w .0 .taken, w .2, w .3)) (λ w. inr (w .0 .left, w .1, w .2)) (c .if1 .came))
+
+start-requires : tie.Need-start-requires Inv-loop μ-loop
+start-requires c κs = tt
+
+element-copy-out-area : tie.Need-element-copy-out-area Inv-loop μ-loop
+element-copy-out-area c = search needs
+
+loop-holds : tie.Need-loop-holds Inv-loop μ-loop
+unfolding packTo
+loop-holds c = (omega arith, c .before .start .ensures, stand-start (c .before .before .args .t1) (c .before .before .pre .0))
+
+slot-here-requires : tie.Need-slot-here-requires Inv-loop μ-loop
+slot-here-requires c κs =
+    let s = c .before .before .before .before in
+    let l = c .before .loop in
+    (stand-near (s .args .t1) (s .pre .0) (l .i) (l .place) (l .area) (l .inv .2), c .loop-test .taken)
+
+slot-requires : tie.Need-slot-requires Inv-loop μ-loop
+slot-requires c κs = (c .before .before .before .before .before .pre .1, c .before .loop-test .taken)
+
+add-t19 : tie.Need-add-t19 Inv-loop μ-loop
+add-t19 c = omega (arith, c .before .before .loop-test .taken)
+
+is-left-requires : tie.Need-is-left-requires Inv-loop μ-loop
+is-left-requires c κs = c .before .before .before .loop .inv .2 .reached .small
+
+add-place : tie.Need-add-place Inv-loop μ-loop
+add-place c = omega (arith, more c)
+
+cast-area : tie.Need-cast-area Inv-loop μ-loop
+cast-area c = search needs
+
+mul-area : tie.Need-mul-area Inv-loop μ-loop
+mul-area c = omega (arith, more c)
+
+element-copy-out-area-2 : tie.Need-element-copy-out-area-2 Inv-loop μ-loop
+element-copy-out-area-2 c = omega (arith, more c)
+
+is-mapped-requires : tie.Need-is-mapped-requires Inv-loop μ-loop
+is-mapped-requires c κs = tt
+
+push-requires : tie.Need-push-requires Inv-loop μ-loop
+push-requires c κs = (rw (c .before .before .before .before .before .before .before .loop .inv .1) (count-pack _ _), c .before .before .before .before .before .before .loop-test .taken)
+
+add-i : tie.Need-add-i Inv-loop μ-loop
+add-i c = omega arith
+
+loop-less : tie.Need-loop-less Inv-loop μ-loop
+loop-less c = omega arith
+
+loop-again : tie.Need-loop-again Inv-loop μ-loop
+loop-again c =
+    let s = c .before .before .before .before .before .before .before .before .before .before in
+    let l = c .before .before .before .before .before .before .before .loop in
+    let slot = c .before .before .before .before .slot in
+    let pushed =
+    repack-step (slots (s .args .t1)) _ _ (s .args .change) _ _ _ _ (l .inv .1)
+    (c .before .before .before .before .before .slot-here .ensures ∙ sym (stand-slot (s .args .t1) (s .pre .0) (l .i) (l .place) (l .area) (l .inv .2))) (slot .ensures) in (
+      omega arith,
+      ⊎-elim (λ w. w .2 ∙ w .1 .ensures ∙ pushed)
+          (λ w. w .1 ∙ sym (push-none (l .packed) (l .i) (slot .result) (sym (c .before .is-mapped .ensures) ∙ w .0 .left)) ∙ pushed) (c .if2 .came),
+      walked (c .before .before),
+    )
+
+returns : tie.Need-returns Inv-loop μ-loop
+returns c = c .before .loop .inv .1 ∙ ap (packTo _) (omega arith)
+
+pub repack-spec : {M : Type 1} → statement M
+repack-spec =
+    tie.close
+    (tie.spec
+    Inv-loop
+    μ-loop
+    start-requires
+    element-copy-out-area
+    loop-holds
+    slot-here-requires
+    slot-requires
+    add-t19
+    is-left-requires
+    add-place
+    cast-area
+    mul-area
+    element-copy-out-area-2
+    is-mapped-requires
+    push-requires
+    add-i
+    loop-less
+    loop-again
+    returns)

@@ -1,0 +1,91 @@
+// Well formed areas: "at most 8, with rights 1 or 3, lie in 0 to 63, ordered, apart and longest; image pages exist".
+ghost use mathlib.Core.Path.{_≡_};
+ghost use Prim.Native.Nat.{_<_};
+ghost use lib.ListN.{length};
+ghost use Rattle.interface.specs.Limits.{rightsOk};
+ghost use Rattle.areas.specs.Formed.{imagesExist, proper, isApart, isNone, placeOk, wellFormed};
+use areas::area::Area;
+use areas::area::Areas;
+use areas::slot::is_anonymous;
+use interface::page::Backing;
+use interface::page::PageNo;
+
+// Whether the areas are well formed, over an image of so many pages.
+pub fn well_formed(areas: Areas, images: u8) -> bool
+    ensures { λ r. ⌜ r ≡ wellFormed images areas ⌝ }
+    ensures eight { λ r. ⌜ length (areas .list) ≡ 8 ⌝ }
+{
+    if areas.count as usize > Area::MOST {
+        return false;
+    }
+    for k in 0..Area::MOST {
+        if !place_ok(areas, images, k) {
+            return false;
+        }
+    }
+    true
+}
+
+// Whether the place holds what it should: an area apart from the one before it, or none behind the last.
+fn place_ok(areas: Areas, images: u8, k: usize) -> bool
+    requires { ⌜ k < 8 ⌝ }
+    ensures { λ r. ⌜ r ≡ placeOk images areas k ⌝ }
+{
+    let area = areas.list[k];
+    if k >= areas.count as usize {
+        return is_none(area);
+    }
+    if !is_proper(area, images) {
+        return false;
+    }
+    if k == 0 {
+        return true;
+    }
+    let previous = areas.list[k - 1];
+    is_apart(previous, area)
+}
+
+// Whether no area stands in the place.
+fn is_none(area: Area) -> bool
+    ensures { λ r. ⌜ r ≡ isNone area ⌝ }
+{
+    let backing = area.backing;
+    let plain = (area.rights == 0) & (!area.committed & is_anonymous(backing));
+    (area.first.0 == 0) & ((area.pages == 0) & plain)
+}
+
+// Whether the area has a page, lies in 0 to 63, has rights 1 or 3, and its image pages exist.
+fn is_proper(area: Area, images: u8) -> bool
+    ensures { λ r. ⌜ r ≡ proper images area ⌝ }
+{
+    let backing = area.backing;
+    let allowed = rights_ok(area.rights) & images_exist(images, backing, area.pages);
+    let inside = area.first.0 as usize + area.pages as usize <= PageNo::COUNT;
+    (area.pages != 0) & (inside & allowed)
+}
+
+// Whether the other area stands behind this one and does not go on where it ends.
+fn is_apart(area: Area, other: Area) -> bool
+    ensures { λ r. ⌜ r ≡ isApart area other ⌝ }
+{
+    let first = other.first;
+    let behind = area.first.0 as usize + area.pages as usize <= first.0 as usize;
+    behind & !area.goes_on(first, other.attributes())
+}
+
+// Whether the rights are 1 for read or 3 for read and write.
+fn rights_ok(rights: u8) -> bool
+    ensures { λ r. ⌜ r ≡ rightsOk rights ⌝ }
+{
+    (rights == 1) | (rights == 3)
+}
+
+// Whether the image pages of so many pages exist.
+fn images_exist(images: u8, backing: Backing, pages: u8) -> bool
+    ensures { λ r. ⌜ r ≡ imagesExist images backing pages ⌝ }
+{
+    match backing {
+        Backing::Anonymous => true,
+        Backing::Image(first) => first.0 as usize + pages as usize <= images as usize,
+    }
+}
