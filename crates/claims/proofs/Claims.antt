@@ -1,31 +1,15 @@
--- THE THEOREMS: the statements of specs/Demands, specs/TurnedBack, specs/StillClean, specs/OverGaps and specs/KeepsNothing, of every image and pool that a
--- start accepts and of every list of requests.
+-- THE THEOREMS: the statements of specs/Demands, of every image and pool that a start accepts and of every list of requests.
 use mathlib.Core.List.{List}
 use Prim.Native.Nat.{ℕ}
 use Rattle.interface.specs.declared.request.Request.{Request}
 use Rattle.state.specs.World.{World}
-use Rattle.state.specs.Lengths.{lendings}
 use Rattle.machine.specs.Step.{Outcome, Stepped}
 use Rattle.plain.specs.Machine.{Given}
-use Rattle.plain.specs.Cases.{casesOver, noImage, cases}
-use Rattle.plain.specs.TurnedBack.{turnedBackCases}
-use Rattle.plain.specs.StillClean.{stillClean}
-use Rattle.plain.specs.OverGaps.{overGaps}
-use Rattle.plain.specs.KeptRuns.{keptRuns}
-use Rattle.claims.specs.Demands.{StartsLists, Lent, EveryListRuns, Demand1, Demand2, Demand3}
-use Rattle.claims.specs.TurnedBack.{AllGet, WrongLength, AllGetLent, StrayEntry}
-use Rattle.claims.specs.StillClean.{BacksCannotAlter, StillClean}
-use Rattle.claims.specs.OverGaps.{PassesOverGaps}
-use Rattle.claims.specs.KeepsNothing.{KeepsNothing}
+use Rattle.simulation.specs.Lent.{Lent}
+use Rattle.claims.specs.Demands.{StartsLists, EveryListRuns, Demand1, Demand2, Demand3}
 use Rattle.claims.proofs.Demand1Laws.{demand-1}
 use Rattle.claims.proofs.Runs.{starts-lists, every-list-runs, demand-2}
 use Rattle.claims.proofs.Demand3Laws.{demand-3}
-use Rattle.claims.proofs.TurnedBackLaws.{cases-get, turned-back-get, still-clean-get, over-gaps-get, kept-runs-get}
-use Rattle.claims.proofs.TurnedBackLaws.{wrong-length, lendings-get, stray-entry}
-use Rattle.claims.proofs.BacksLaws.{backs-cannot-alter}
-use Rattle.claims.proofs.StillCleanLaws.{still-clean}
-use Rattle.claims.proofs.OverGapsLaws.{over-gaps}
-use Rattle.claims.proofs.KeepsNothingLaws.{keeps-nothing}
 
 -- a start that is not refused leaves the world from which lists start
 pub claim-start : StartsLists
@@ -46,50 +30,3 @@ claim-2 = demand-2
 -- rewound sandboxes, frames, the promise, and two lists
 pub claim-3 : (g : Given) → Lent g → Demand3 g
 claim-3 = demand-3
-
--- every run over the starred cases has their answers
-pub claim-cases : AllGet (casesOver noImage cases)
-claim-cases = cases-get
-
--- every run over the table of "Turned back", its Examples and both sides of each limit, has the table's answers
-pub claim-turned-back : AllGet turnedBackCases
-claim-turned-back = turned-back-get
-
--- where a lent length is wrong every call is refused 2 or 3 and changes nothing; and each length on both sides of its limits
-pub claim-wrong-length : WrongLength
-claim-wrong-length = wrong-length
-
-pub claim-lent-lengths : AllGetLent lendings
-claim-lent-lengths = lendings-get
-
--- a state that is unsound
-pub claim-stray-entry : StrayEntry
-claim-stray-entry = stray-entry
-
--- no byte of the back frame of a page that call 10 passes over can alter its answer: of any world
-pub claim-backs-cannot-alter : (image : List ℕ) → BacksCannotAlter image
-claim-backs-cannot-alter = backs-cannot-alter
-
--- call 10 answers 64 right after a snapshot and while a sandbox is rewound, and where it does every read answers what the copy has
-pub claim-still-clean : (g : Given) → Lent g → StillClean g
-claim-still-clean = still-clean
-
--- every run over the table of "Still clean?" has the table's answers
-pub claim-still-clean-cases : AllGet stillClean
-claim-still-clean-cases = still-clean-get
-
--- an unmap passes over unmapped pages: of nothing it changes nothing, and else it does what unmaps of its mapped pages alone do: of any sound state
-pub claim-over-gaps : (image : List ℕ) → PassesOverGaps image
-claim-over-gaps = over-gaps
-
--- every run over the table of "Unmapping over gaps" has the table's answers
-pub claim-over-gaps-cases : AllGet overGaps
-claim-over-gaps-cases = over-gaps-get
-
--- places, bytes and refusals are those of a machine that keeps nothing
-pub claim-keeps-nothing : (g : Given) → Lent g → KeepsNothing g
-claim-keeps-nothing = keeps-nothing
-
--- every run over the table of "Keep the frames of a finished request" has the table's answers
-pub claim-kept-runs-cases : AllGet keptRuns
-claim-kept-runs-cases = kept-runs-get

@@ -19,10 +19,10 @@ use Rattle.state.specs.Test.{soundb}
 use Rattle.state.proofs.TestLaws.{sound-true, sound-of}
 use Rattle.machine.specs.Step.{sandboxThen, numberAt, Outcome, Stepped}
 use Rattle.machine.proofs.CallLaws.{number-two, number-three, number-rest}
+use Rattle.simulation.proofs.StepLaws.{number-is, refused-leaves}
+use Rattle.simulation.proofs.AnySound.{stays-sound}
+use Rattle.simulation.proofs.AcceptedLaws.{left, stored}
 use Rattle.claims.specs.Demands.{Coded, Demand1}
-use Rattle.claims.proofs.StepLaws.{number-is, refused-leaves}
-use Rattle.claims.proofs.AnySound.{stays-sound}
-use Rattle.claims.proofs.AcceptedLaws.{left, stored}
 use Rattle.claims.proofs.TouchesLaws.{entries-other, touches}
 
 module _ (image : List ℕ) (w : World) (q : Request) (o : Outcome) (s : Stepped image w q o) where

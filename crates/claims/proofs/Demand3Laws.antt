@@ -26,13 +26,14 @@ use Rattle.plain.specs.Lists.{upTo, Then, Rewound}
 use Rattle.plain.proofs.KeptLaws.{frames-suffice, next-write}
 use Rattle.plain.proofs.TwoListsLaws.{answers-append, length-answers}
 use Rattle.plain.proofs.Claims.{claim-two-lists, claim-rewound}
-use Rattle.claims.specs.Demands.{Lent, AsSnapshot, Frames, Promise, Took, Demand3}
-use Rattle.claims.specs.Agrees.{Agrees}
-use Rattle.claims.proofs.ReadSteps.{page-read, frame-is, some-entry}
-use Rattle.claims.proofs.SoundLaws.{shares-same, agrees-sound}
-use Rattle.claims.proofs.StoreSteps.{write-page}
-use Rattle.claims.proofs.Simulate.{held-counts, backs-count, step-answer, step-agrees}
-use Rattle.claims.proofs.TakenLaws.{some-frame}
+use Rattle.simulation.specs.Lent.{Lent}
+use Rattle.simulation.specs.Agrees.{Agrees}
+use Rattle.simulation.proofs.ReadSteps.{page-read, frame-is, some-entry}
+use Rattle.simulation.proofs.SoundLaws.{shares-same, agrees-sound}
+use Rattle.simulation.proofs.StoreSteps.{write-page}
+use Rattle.simulation.proofs.Simulate.{held-counts, backs-count, step-answer, step-agrees}
+use Rattle.simulation.proofs.TakenLaws.{some-frame}
+use Rattle.claims.specs.Demands.{AsSnapshot, Frames, Promise, Took, Demand3}
 use Rattle.claims.proofs.Runs.{list-agrees, demand-2}
 
 answer-number : (g : Given) (p : Plain) (q : Request) → answer g p q .number ≡ numberAt g p q

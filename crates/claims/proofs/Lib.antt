@@ -1,27 +1,8 @@
 -- In reading order: the theorems last.
-pub mod StepLaws
-pub mod AreaSteps
-pub mod ReadSteps
-pub mod HeldSteps
-pub mod SoundLaws
-pub mod MapSteps
-pub mod StoreSteps
-pub mod GrantSteps
 pub mod TouchSteps
-pub mod RunSteps
-pub mod Simulate
-pub mod AnySound
-pub mod AcceptedLaws
 pub mod TouchRuns
 pub mod TouchesLaws
 pub mod Demand1Laws
-pub mod TakenLaws
 pub mod Runs
 pub mod Demand3Laws
-pub mod Roll
-pub mod TurnedBackLaws
-pub mod BacksLaws
-pub mod StillCleanLaws
-pub mod OverGapsLaws
-pub mod KeepsNothingLaws
 pub mod Claims

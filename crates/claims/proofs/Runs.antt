@@ -12,12 +12,13 @@ use Rattle.state.proofs.StartLaws.{start-world}
 use Rattle.machine.specs.Step.{step, Outcome, Stepped}
 use Rattle.plain.specs.Machine.{Given, Plain, fresh, after, answers, afterAll}
 use Rattle.plain.specs.Lists.{upTo}
-use Rattle.claims.specs.Demands.{Run, none, more, RunFrom, Lent, StartsLists, EveryListRuns, Demand2}
-use Rattle.claims.specs.Agrees.{Agrees}
-use Rattle.claims.proofs.SoundLaws.{agrees-sound, started-agrees}
-use Rattle.claims.proofs.Simulate.{step-answer, step-agrees}
-use Rattle.claims.proofs.AnySound.{stays-sound}
-use Rattle.claims.proofs.TakenLaws.{some-frame}
+use Rattle.simulation.specs.Lent.{Lent}
+use Rattle.simulation.specs.Agrees.{Agrees}
+use Rattle.simulation.proofs.SoundLaws.{agrees-sound, started-agrees}
+use Rattle.simulation.proofs.Simulate.{step-answer, step-agrees}
+use Rattle.simulation.proofs.AnySound.{stays-sound}
+use Rattle.simulation.proofs.TakenLaws.{some-frame}
+use Rattle.claims.specs.Demands.{Run, none, more, RunFrom, StartsLists, EveryListRuns, Demand2}
 
 -- ---- a start that is not refused
 

@@ -38,12 +38,12 @@ use Rattle.state.specs.World.{World, sandboxAt, withRuns, closedSandbox, frames
 use Rattle.rules.specs.After.{changes, packedAfter, takenAfter, snapshotAfter, sandboxAfter}
 use Rattle.memory.specs.Memory.{givesAt, placeFor, framesFor, longestOf, runsAfter, storeAfter}
 use Rattle.machine.specs.Step.{sandboxThen, takes, gives, OfLongest, Outcome, Stepped}
+use Rattle.simulation.proofs.StepLaws.{taking, gives-takes}
+use Rattle.simulation.proofs.MapSteps.{map-free}
+use Rattle.simulation.proofs.GrantSteps.{grant-front}
+use Rattle.simulation.proofs.AcceptedLaws.{number, left, met, sound-parts, own, free}
 use Rattle.claims.specs.Touches.{runTaken, firstPage, Grants}
-use Rattle.claims.proofs.StepLaws.{taking, gives-takes}
-use Rattle.claims.proofs.MapSteps.{map-free}
-use Rattle.claims.proofs.GrantSteps.{grant-front}
 use Rattle.claims.proofs.TouchSteps.{run-after, Meets, run-pool}
-use Rattle.claims.proofs.AcceptedLaws.{number, left, met, sound-parts, own, free}
 
 -- ---- lists and counts
 

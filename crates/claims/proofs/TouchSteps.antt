@@ -36,11 +36,11 @@ use Rattle.state.specs.declared.sandbox.Sandbox.{Sandbox}
 use Rattle.state.specs.World.{pagesIn}
 use Rattle.content.specs.Content.{backingPage, pageUnder, pageRead, copyPage}
 use Rattle.memory.specs.Memory.{framesFor, touched, keepsFront, storeAfter}
+use Rattle.simulation.proofs.AreaSteps.{image-at}
+use Rattle.simulation.proofs.ReadSteps.{backing-whole}
+use Rattle.simulation.proofs.StoreSteps.{write-page}
+use Rattle.simulation.proofs.GrantSteps.{grant-marked}
 use Rattle.claims.specs.Touches.{runTaken, firstPage, frameGot, namesFront, namesBack, namesNone}
-use Rattle.claims.proofs.AreaSteps.{image-at}
-use Rattle.claims.proofs.ReadSteps.{backing-whole}
-use Rattle.claims.proofs.StoreSteps.{write-page}
-use Rattle.claims.proofs.GrantSteps.{grant-marked}
 
 -- ---- the entries that a request names
 

@@ -31,11 +31,11 @@ use Rattle.rules.specs.After.{changes, sandboxAfter}
 use Rattle.content.specs.Content.{pageRead}
 use Rattle.memory.specs.Memory.{placeFor, framesFor, storeAfter}
 use Rattle.machine.specs.Step.{takes, gives, Outcome, Stepped}
+use Rattle.simulation.proofs.StepLaws.{taking}
+use Rattle.simulation.proofs.StoreSteps.{write-page}
+use Rattle.simulation.proofs.AcceptedLaws.{number, left, met, sound-parts, own, free, stored}
 use Rattle.claims.specs.Touches.{firstPage, namesFront, namesBack, leavesSandboxes, Untouched, Touches}
-use Rattle.claims.proofs.StepLaws.{taking}
-use Rattle.claims.proofs.StoreSteps.{write-page}
 use Rattle.claims.proofs.TouchSteps.{no-back, back-low, front-low, none-after, pool-after, entries-after, Meets, one-byte, filled, left-after}
-use Rattle.claims.proofs.AcceptedLaws.{number, left, met, sound-parts, own, free, stored}
 use Rattle.claims.proofs.TouchRuns.{sandbox-same, sandboxes-are, runs-same, runs-stay, grants, gave, unkept, gathered}
 
 module _ (image : List ℕ) (w : World) (q : Request) (o : Outcome) (s : Stepped image w q o) (n : o .answer .number ≡ 0) where

@@ -26,6 +26,7 @@ use Rattle.memory.specs.Memory.{heldBy}
 use Rattle.machine.specs.Step.{Chosen, Outcome, Stepped}
 use Rattle.plain.specs.Machine.{Given, fresh, copySlots, copyBytes, answers}
 use Rattle.plain.specs.Lists.{upTo, naming, toldLater, Rewound}
+use Rattle.simulation.specs.Lent.{Lent}
 use Rattle.claims.specs.Touches.{Touches}
 
 -- ---- lists of calls
@@ -40,13 +41,6 @@ pub data Run (image : List ℕ) : World → List Request → List Answered → W
 -- "A list starts from the state, pool and table that a start not refused leaves"
 abbrev pub RunFrom : Given → List Request → List Answered → World → Type 0
 RunFrom g qs as′ v = Run (g .image) (started (g .frames)) qs as′ v
-
--- what a start that is not refused is given: a pool of 1 to 128 frames, an image of 0 to 64 whole pages
-pub record Lent (g : Given) : Type 0 where
-  pub frames : 1 ≤ g .frames
-  pub few : g .frames ≤ 128
-  pub image : length (g .image) ≡ pagesIn (length (g .image)) * 256
-  pub images : pagesIn (length (g .image)) ≤ 64
 
 -- a start that is not refused is given such an image and pool, and leaves the world from which lists start, whatever pool and table held before
 abbrev pub StartsLists : Type 0

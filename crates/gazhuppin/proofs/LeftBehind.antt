@@ -17,9 +17,10 @@ use Rattle.state.specs.World.{World, worldOf, freshMachine, sandboxAt, lengthsO
 use Rattle.state.specs.Start.{startedBy}
 use Rattle.plain.specs.Machine.{Given, held, copyBytes}
 use Rattle.plain.specs.Lists.{upTo}
-use Rattle.claims.specs.Demands.{Run, none, more, RunFrom, Lent}
+use Rattle.simulation.specs.Lent.{Lent}
+use Rattle.simulation.proofs.HeldSteps.{used-one, entries-same}
+use Rattle.claims.specs.Demands.{Run, none, more, RunFrom}
 use Rattle.claims.proofs.Runs.{list-agrees}
-use Rattle.claims.proofs.HeldSteps.{used-one, entries-same}
 use Rattle.claims.proofs.Claims.{claim-start, claim-3}
 use Rattle.roll.specs.Play.{linesIn, requests, replies, printed}
 use Rattle.roll.specs.Replies.{lent}

@@ -15,7 +15,8 @@ use Rattle.lines.specs.Lines.{linesOf}
 use Rattle.state.specs.World.{World, worldOf, freshMachine, lengthsOk}
 use Rattle.state.specs.Start.{startedBy}
 use Rattle.claims.specs.Demands.{Run, none, more, RunFrom}
-use Rattle.claims.proofs.Claims.{claim-start, claim-2, claim-wrong-length}
+use Rattle.claims.proofs.Claims.{claim-start, claim-2}
+use Rattle.consequences.proofs.Claims.{claim-wrong-length}
 use Rattle.roll.specs.Play.{malformed, linesIn, requests, replies, printed, Played}
 use Rattle.roll.specs.Replies.{lent, plainReplies, refusedReply, refusedReplies, RepliesArePlain, RepliesAreRefusals}
 

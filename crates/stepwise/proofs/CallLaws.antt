@@ -25,7 +25,7 @@ use Rattle.layout.proofs.Claims.{decodes-back, passes, only-canonical, gives-sh
 use Rattle.machine.specs.declared.call.Reply.{Reply}
 use Rattle.machine.specs.Step.{numberAt, Outcome, Stepped}
 use Rattle.machine.specs.Parts.{outcomeOf}
-use Rattle.claims.proofs.StepLaws.{was-sound, refused-leaves}
+use Rattle.simulation.proofs.StepLaws.{was-sound, refused-leaves}
 use Rattle.claims.proofs.Claims.{claim-1}
 use Rattle.stepwise.specs.declared.Told.{Told}
 use Rattle.stepwise.specs.Calls.{Handed, handed, handsOf, worldIn, toldBy, answerTold, outcomeIn, startNumber, startHands, Called}

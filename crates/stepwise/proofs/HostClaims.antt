@@ -19,10 +19,12 @@ use Rattle.layout.specs.Claims.{machineOf}
 use Rattle.layout.proofs.Claims.{decodes-back, passes, sound-is-shaped, fresh-is-zero}
 use Rattle.machine.specs.Step.{Stepped}
 use Rattle.plain.specs.Machine.{fresh}
-use Rattle.claims.specs.Demands.{Run, RunFrom, Lent}
+use Rattle.simulation.specs.Lent.{Lent}
+use Rattle.simulation.proofs.SoundLaws.{agrees-sound, started-agrees}
+use Rattle.claims.specs.Demands.{Run, RunFrom}
 use Rattle.claims.specs.Demands.Run.{none, more}
-use Rattle.claims.proofs.Claims.{claim-start, claim-runs, claim-1, claim-2, claim-3, claim-over-gaps}
-use Rattle.claims.proofs.SoundLaws.{agrees-sound, started-agrees}
+use Rattle.claims.proofs.Claims.{claim-start, claim-runs, claim-1, claim-2, claim-3}
+use Rattle.consequences.proofs.Claims.{claim-over-gaps}
 use Rattle.stepwise.specs.declared.Told.{Told}
 use Rattle.stepwise.specs.Calls.{Handed, handed, handsOf, worldIn, startNumber, startHands, Calls}
 use Rattle.stepwise.specs.HostClaims.{givenBy, HostDemand1, HostOverGaps, CallsAreRuns, HostClaims, HostStarts}

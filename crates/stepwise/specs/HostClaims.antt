@@ -17,7 +17,7 @@ use Rattle.layout.specs.Layout.{stateSize, isState}
 use Rattle.plain.specs.Machine.{Given, fresh, answers}
 use Rattle.plain.specs.Lists.{naming, toldLater, Rewound}
 use Rattle.claims.specs.Demands.{Run, RunFrom, Demand1, AsSnapshot, Frames, Promise, Took}
-use Rattle.claims.specs.OverGaps.{pagesOf, OverGaps}
+use Rattle.consequences.specs.OverGaps.{pagesOf, OverGaps}
 use Rattle.stepwise.specs.declared.Told.{Told}
 use Rattle.stepwise.specs.Calls.{Handed, handed, handsOf, worldIn, outcomeIn, startNumber, startHands, Called, Calls}
 

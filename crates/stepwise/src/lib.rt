@@ -1,7 +1,8 @@
 // A start, and then a call at a time, over a state that the caller keeps as bytes beside its pool and table.
 // It asks nothing of what is lent: a wrong length and bytes that are no state's are refusal 3 (2 where the code is no call), and nothing changes. It promises
 // (specs/HostClaims) that calls in turn are a run of the machine, so that each demand is true of them, in bytes.
-// It stands on `machine` for the call, on `soundness` for the start, on `layout` and `encoding` for the bytes and on `claims` for what is promised.
+// It stands on `machine` for the call, on `soundness` for the start, on `layout` and `encoding` for the bytes and on `claims` and `consequences` for what is
+// promised.
 ghost use mathlib.Core.Path.{_≡_};
 ghost use Rattle.stepwise.specs.Calls.{handed, toldBy, startNumber, startHands, Called};
 use encoding::decode;

@@ -34,7 +34,7 @@ use Rattle.rules.specs.After.{changes, packedAfter, presentAfter, takenAfter, s
 use Rattle.plain.specs.Machine.{Given, Pages, Core, Kept, copySlots, keptAfter, viewOf}
 use Rattle.plain.specs.Claims.{Keeps}
 use Rattle.plain.proofs.KeptLaws.{keeps-accepted}
-use Rattle.claims.specs.Agrees.{AgreesAt}
+use Rattle.simulation.specs.Agrees.{AgreesAt}
 
 -- the image page behind a page of well formed areas exists
 pub image-at : (images : ℕ) (s : Areas) → WellFormed images s → (i : ℕ) → ImagesExist images (backingAt (slots s i)) 1

@@ -12,10 +12,10 @@ use Rattle.plain.specs.Claims.{compareOf}
 use Rattle.plain.proofs.TwoListsLaws.{after-append}
 use Rattle.plain.proofs.Claims.{claim-clean-after-snapshot, claim-clean-while-rewound, claim-clean-reads-copy}
 use Rattle.plain.proofs.Corollaries.{reads-change-nothing}
-use Rattle.claims.specs.Demands.{Lent}
-use Rattle.claims.specs.StillClean.{told, StillClean}
+use Rattle.simulation.specs.Lent.{Lent}
 use Rattle.claims.proofs.Runs.{demand-2}
 use Rattle.claims.proofs.Demand3Laws.{answer-at, took-then}
+use Rattle.consequences.specs.StillClean.{told, StillClean}
 
 -- call 10 leaves the plain machine as it was
 compare-leaves : (g : Given) (qs : List Request) (s : ℕ) → upTo g (qs ++ compareOf s ∷ []) ≡ upTo g qs

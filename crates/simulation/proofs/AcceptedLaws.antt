@@ -20,12 +20,12 @@ use Rattle.state.proofs.TestLaws.{Tested, tested}
 use Rattle.memory.specs.Memory.{givesAt, storeAfter}
 use Rattle.machine.specs.Step.{worldAfter, numberAt, Free, Outcome, Stepped}
 use Rattle.plain.specs.Machine.{Given, Kept, keptAfter, viewOf}
-use Rattle.claims.specs.Demands.{Lent}
-use Rattle.claims.proofs.StepLaws.{was-sound, was-accepted, number-is, accepted-leaves, frame-free}
-use Rattle.claims.proofs.MapSteps.{Stored}
-use Rattle.claims.proofs.StoreSteps.{stored-after}
-use Rattle.claims.proofs.Simulate.{view-at}
-use Rattle.claims.proofs.AnySound.{keptFor, kept-keeps, kept-reads, kept-agrees}
+use Rattle.simulation.specs.Lent.{Lent}
+use Rattle.simulation.proofs.StepLaws.{was-sound, was-accepted, number-is, accepted-leaves, frame-free}
+use Rattle.simulation.proofs.MapSteps.{Stored}
+use Rattle.simulation.proofs.StoreSteps.{stored-after}
+use Rattle.simulation.proofs.Simulate.{view-at}
+use Rattle.simulation.proofs.AnySound.{keptFor, kept-keeps, kept-reads, kept-agrees}
 
 -- ---- what the test says
 

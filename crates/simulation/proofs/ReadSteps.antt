@@ -25,9 +25,9 @@ use Rattle.state.specs.World.{pagesIn}
 use Rattle.content.specs.Content.{backingPage, pageUnder, pageRead, copyPage, copyRead}
 use Rattle.plain.specs.Machine.{Given, Kept, copySlots, copyBytes, backingByte}
 use Rattle.plain.specs.Claims.{Keeps, Reads}
-use Rattle.claims.specs.Demands.{Lent}
-use Rattle.claims.specs.Agrees.{pageIf, AgreesAt}
-use Rattle.claims.proofs.AreaSteps.{image-at}
+use Rattle.simulation.specs.Lent.{Lent}
+use Rattle.simulation.specs.Agrees.{pageIf, AgreesAt}
+use Rattle.simulation.proofs.AreaSteps.{image-at}
 
 -- ---- a page that was never written
 

@@ -24,8 +24,8 @@ use Rattle.state.proofs.TestLaws.{Tested, tested, sound-of}
 use Rattle.state.proofs.Room.{holds, frame-there, kept-there}
 use Rattle.memory.specs.Memory.{givesAt, longestOf}
 use Rattle.machine.specs.Step.{takes, gives, Free, OfLongest, Chosen}
-use Rattle.claims.proofs.StepLaws.{was-accepted, Taking, taking, gives-takes}
-use Rattle.claims.proofs.StoreSteps.{write-page}
+use Rattle.simulation.proofs.StepLaws.{was-accepted, Taking, taking, gives-takes}
+use Rattle.simulation.proofs.StoreSteps.{write-page}
 
 eqb-of : {a b : ℕ} → a ≡ b → eqb a b ≡ true
 eqb-of e = eq-eqb _ _ e

@@ -37,10 +37,10 @@ use Rattle.content.specs.Content.{copyPage}
 use Rattle.memory.specs.Memory.{touched, keepsFront, storeAfter}
 use Rattle.plain.specs.Machine.{Given, Kept, copySlots, copyBytes, stored, bytesAfter, frontAfter, backAfter, keptAfter, viewOf}
 use Rattle.plain.specs.Claims.{Keeps, Reads}
-use Rattle.claims.specs.Demands.{Lent}
-use Rattle.claims.specs.Agrees.{pageIf, AgreesAt}
-use Rattle.claims.proofs.MapSteps.{Stored, inside-out, stored-map}
-use Rattle.claims.proofs.ReadSteps.{at, copy-whole, copy-page, under, mark-none, frame-is}
+use Rattle.simulation.specs.Lent.{Lent}
+use Rattle.simulation.specs.Agrees.{pageIf, AgreesAt}
+use Rattle.simulation.proofs.MapSteps.{Stored, inside-out, stored-map}
+use Rattle.simulation.proofs.ReadSteps.{at, copy-whole, copy-page, under, mark-none, frame-is}
 
 -- a write names one of 64 pages
 pub write-page : (images : ℕ) (q : Request) → q .code ≡ Write → within images q ≡ true → pageOf q < 64

@@ -33,9 +33,9 @@ use Rattle.kept.proofs.GrantLaws.{Granted, grant}
 use Rattle.memory.specs.Memory.{placeFor, framesFor, storeAfter}
 use Rattle.plain.specs.Machine.{Given, Kept, copyBytes, newBytes, backingByte, bytesAfter, frontAfter, backAfter, keptAfter, viewOf}
 use Rattle.plain.specs.Claims.{Keeps, Reads}
-use Rattle.claims.specs.Demands.{Lent}
-use Rattle.claims.specs.Agrees.{pageIf, AgreesAt}
-use Rattle.claims.proofs.ReadSteps.{at, no-front}
+use Rattle.simulation.specs.Lent.{Lent}
+use Rattle.simulation.specs.Agrees.{pageIf, AgreesAt}
+use Rattle.simulation.proofs.ReadSteps.{at, no-front}
 
 -- st is the store before, r the store after, k what the plain machine keeps for s after
 pub record Stored (C : ℕ → Type 0) (g : Given) (st r : Store) (s : ℕ) (k : Kept) : Type 0 where

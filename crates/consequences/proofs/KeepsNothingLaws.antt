@@ -6,10 +6,10 @@ use Rattle.state.specs.World.{sandboxAt}
 use Rattle.plain.specs.Machine.{Given, Core}
 use Rattle.plain.specs.Lists.{upTo, toldTo}
 use Rattle.plain.proofs.KeepsNothingLaws.{alike-after-all, told-alike}
-use Rattle.claims.specs.Demands.{Lent}
-use Rattle.claims.specs.KeepsNothing.{KeepsNothing}
-use Rattle.claims.proofs.ReadSteps.{page-read}
+use Rattle.simulation.specs.Lent.{Lent}
+use Rattle.simulation.proofs.ReadSteps.{page-read}
 use Rattle.claims.proofs.Runs.{list-agrees, demand-2}
+use Rattle.consequences.specs.KeepsNothing.{KeepsNothing}
 
 pub keeps-nothing : (g : Given) → Lent g → KeepsNothing g
 keeps-nothing g L qs as′ v r =

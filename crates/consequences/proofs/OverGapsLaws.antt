@@ -38,12 +38,12 @@ use Rattle.state.proofs.SettledLaws.{settled}
 use Rattle.rules.specs.After.{packedAfter, takenAfter, snapshotAfter}
 use Rattle.memory.specs.Memory.{givesAt, runsAfter, storeAfter, valueAt}
 use Rattle.machine.specs.Step.{numberAt, step, takes, Outcome, Stepped}
+use Rattle.simulation.proofs.StepLaws.{number-is, accepted-leaves, gives-takes}
+use Rattle.simulation.proofs.AnySound.{stays-sound}
 use Rattle.claims.specs.Demands.{Run, none, more}
-use Rattle.claims.specs.OverGaps.{pagesOf, PassesOverGaps}
-use Rattle.claims.proofs.StepLaws.{number-is, accepted-leaves, gives-takes}
-use Rattle.claims.proofs.AnySound.{stays-sound}
 use Rattle.claims.proofs.Demand1Laws.{demand-1}
 use Rattle.claims.proofs.Runs.{sound-runs}
+use Rattle.consequences.specs.OverGaps.{pagesOf, PassesOverGaps}
 
 -- ---- runs taken apart
 

@@ -42,11 +42,11 @@ use Rattle.plain.specs.Machine.{Given, Pages, Kept, Plain, closed, held, copySl
 use Rattle.plain.specs.Claims.{Keeps, Reads}
 use Rattle.plain.proofs.KeptLaws.{keeps-closed, areas-none, mapped-none}
 use Rattle.plain.proofs.ReadLaws.{reads-fresh}
-use Rattle.claims.specs.Demands.{Lent}
-use Rattle.claims.specs.Agrees.{pageIf, AgreesAt, Agrees}
-use Rattle.claims.proofs.HeldSteps.{used-count}
-use Rattle.claims.proofs.SoundLaws.{agrees-sound}
-use Rattle.claims.proofs.Simulate.{step-agrees}
+use Rattle.simulation.specs.Lent.{Lent}
+use Rattle.simulation.specs.Agrees.{pageIf, AgreesAt, Agrees}
+use Rattle.simulation.proofs.HeldSteps.{used-count}
+use Rattle.simulation.proofs.SoundLaws.{agrees-sound}
+use Rattle.simulation.proofs.Simulate.{step-agrees}
 
 -- ---- what a plain machine would keep
 

@@ -19,8 +19,8 @@ use Rattle.kept.specs.Spare.{keptBy}
 use Rattle.state.specs.declared.sandbox.Sandbox.{Sandbox}
 use Rattle.memory.specs.Memory.{holdsIn}
 use Rattle.plain.specs.Machine.{Given, Kept, held}
-use Rattle.claims.specs.Agrees.{pageIf, AgreesAt}
-use Rattle.claims.proofs.ReadSteps.{mark-none, frame-is}
+use Rattle.simulation.specs.Agrees.{pageIf, AgreesAt}
+use Rattle.simulation.proofs.ReadSteps.{mark-none, frame-is}
 
 pub used-count : (f : ℕ → ℕ) (m : ℕ → Bool) (n : ℕ) → ((i : ℕ) → i < n → used (f i) ≡ one (m i)) → usedBelow f n ≡ count m n
 unfolding usedBelow sum count

@@ -42,16 +42,16 @@ use Rattle.plain.proofs.KeptLaws.{holds-after}
 use Rattle.plain.proofs.ReadLaws.{reads-after}
 use Rattle.plain.proofs.OneSandbox.{after-others}
 use Rattle.plain.proofs.Corollaries.{refused-changes-nothing}
-use Rattle.claims.specs.Demands.{Lent}
-use Rattle.claims.specs.Agrees.{AgreesAt, Agrees}
-use Rattle.claims.proofs.StepLaws.{gave-up, frame-free}
-use Rattle.claims.proofs.AreaSteps.{copy-same, slots-after, formed-after, copy-after, formed-copy-after, taken-after, untaken-after}
-use Rattle.claims.proofs.HeldSteps.{used-count, used-one, holds-same}
-use Rattle.claims.proofs.ReadSteps.{page-read, copy-read}
-use Rattle.claims.proofs.MapSteps.{Stored}
-use Rattle.claims.proofs.StoreSteps.{stored-after}
-use Rattle.claims.proofs.RunSteps.{Runned, runned}
-use Rattle.claims.proofs.SoundLaws.{frames-same, shares-same, agrees-tested}
+use Rattle.simulation.specs.Lent.{Lent}
+use Rattle.simulation.specs.Agrees.{AgreesAt, Agrees}
+use Rattle.simulation.proofs.StepLaws.{gave-up, frame-free}
+use Rattle.simulation.proofs.AreaSteps.{copy-same, slots-after, formed-after, copy-after, formed-copy-after, taken-after, untaken-after}
+use Rattle.simulation.proofs.HeldSteps.{used-count, used-one, holds-same}
+use Rattle.simulation.proofs.ReadSteps.{page-read, copy-read}
+use Rattle.simulation.proofs.MapSteps.{Stored}
+use Rattle.simulation.proofs.StoreSteps.{stored-after}
+use Rattle.simulation.proofs.RunSteps.{Runned, runned}
+use Rattle.simulation.proofs.SoundLaws.{frames-same, shares-same, agrees-tested}
 
 -- ---- the number
 

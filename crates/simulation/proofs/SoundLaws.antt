@@ -22,11 +22,11 @@ use Rattle.plain.specs.Machine.{Given, Kept, Plain, shares, fresh, closed}
 use Rattle.plain.specs.Claims.{Keeps, Reads}
 use Rattle.plain.proofs.KeptLaws.{holds-fresh}
 use Rattle.plain.proofs.ReadLaws.{reads-fresh}
-use Rattle.claims.specs.Demands.{Lent}
-use Rattle.claims.specs.Agrees.{AgreesAt, Agrees}
-use Rattle.claims.proofs.AreaSteps.{copy-same}
-use Rattle.claims.proofs.HeldSteps.{holds-same}
-use Rattle.claims.proofs.ReadSteps.{at, copy-at, no-front, no-back}
+use Rattle.simulation.specs.Lent.{Lent}
+use Rattle.simulation.specs.Agrees.{AgreesAt, Agrees}
+use Rattle.simulation.proofs.AreaSteps.{copy-same}
+use Rattle.simulation.proofs.HeldSteps.{holds-same}
+use Rattle.simulation.proofs.ReadSteps.{at, copy-at, no-front, no-back}
 
 -- ---- agreement is soundness
 

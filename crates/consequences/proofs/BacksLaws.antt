@@ -36,8 +36,8 @@ use Rattle.content.proofs.CompareLaws.{passed-over}
 use Rattle.memory.specs.Memory.{valueAt}
 use Rattle.memory.proofs.ValueLaws.{compare-value}
 use Rattle.machine.specs.Step.{numberAt, step}
-use Rattle.claims.specs.StillClean.{PassedOver, AlikeButBacks, BacksCannotAlter}
-use Rattle.claims.proofs.StepLaws.{was-sound, was-accepted}
+use Rattle.simulation.proofs.StepLaws.{was-sound, was-accepted}
+use Rattle.consequences.specs.StillClean.{PassedOver, AlikeButBacks, BacksCannotAlter}
 
 -- ---- the refusal
 

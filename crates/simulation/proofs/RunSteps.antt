@@ -41,12 +41,12 @@ use Rattle.content.specs.Content.{pageUnder, copyPage}
 use Rattle.memory.specs.Memory.{holdsIn, givesAt, placeFor, framesFor, longestOf, runsAfter, touched, keepsFront, storeAfter}
 use Rattle.plain.specs.Machine.{Given, Kept, copySlots, lessBy, runsAfter as plainRuns, keptAfter, viewOf}
 use Rattle.plain.specs.Claims.{Keeps, Reads}
-use Rattle.claims.specs.Demands.{Lent}
-use Rattle.claims.specs.Agrees.{AgreesAt}
-use Rattle.claims.proofs.ReadSteps.{at, copy-whole, under, mark-none}
-use Rattle.claims.proofs.HeldSteps.{front-is, holds-same}
-use Rattle.claims.proofs.MapSteps.{run-store, run-empty}
-use Rattle.claims.proofs.StoreSteps.{write-page}
+use Rattle.simulation.specs.Lent.{Lent}
+use Rattle.simulation.specs.Agrees.{AgreesAt}
+use Rattle.simulation.proofs.ReadSteps.{at, copy-whole, under, mark-none}
+use Rattle.simulation.proofs.HeldSteps.{front-is, holds-same}
+use Rattle.simulation.proofs.MapSteps.{run-store, run-empty}
+use Rattle.simulation.proofs.StoreSteps.{write-page}
 
 -- u is what the request leaves of the runs, r of the store; rows are those of all sandboxes before
 pub record Runned (n : ℕ) (r : Store) (rows : Rows) (s : ℕ) (u : Runs) (after : ℕ → ℕ) : Type 0 where

@@ -39,12 +39,12 @@ use Rattle.plain.specs.OverGaps.{overGaps}
 use Rattle.plain.specs.KeptRuns.{keptRuns}
 use Rattle.plain.proofs.CaseLaws.{kept-runs}
 use Rattle.plain.proofs.Claims.{claim-cases, claim-turned-back, claim-still-clean, claim-over-gaps}
-use Rattle.claims.specs.Demands.{Lent}
-use Rattle.claims.specs.TurnedBack.{AllGet, AllGetLent, strayEntry, StrayEntry}
-use Rattle.claims.proofs.StepLaws.{number-is, refused-leaves}
-use Rattle.claims.proofs.SoundLaws.{started-agrees}
-use Rattle.claims.proofs.Simulate.{step-answer}
+use Rattle.simulation.specs.Lent.{Lent}
+use Rattle.simulation.proofs.StepLaws.{number-is, refused-leaves}
+use Rattle.simulation.proofs.SoundLaws.{started-agrees}
+use Rattle.simulation.proofs.Simulate.{step-answer}
 use Rattle.claims.proofs.Runs.{starts-lists, demand-2}
+use Rattle.consequences.specs.TurnedBack.{AllGet, AllGetLent, strayEntry, StrayEntry}
 
 -- ---- the plain machine's tables
 

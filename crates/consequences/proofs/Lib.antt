@@ -1,0 +1,7 @@
+-- In reading order: the theorems last.
+pub mod TurnedBackLaws
+pub mod BacksLaws
+pub mod StillCleanLaws
+pub mod OverGapsLaws
+pub mod KeepsNothingLaws
+pub mod Claims

@@ -1,0 +1,3 @@
+-- In reading order: what lists of calls are over, and what the proofs carry along a list.
+pub mod Lent
+pub mod Agrees
