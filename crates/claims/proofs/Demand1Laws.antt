@@ -51,7 +51,8 @@ module _ (image : List ℕ) (w : World) (q : Request) (o : Outcome) (s : Stepped
   unsound : Coded q → length (w .sandboxes) ≡ 4 → ((t : ℕ) → t < 4 → Words (rowsOf w t)) → (Sound image w → ⊥) → o .answer .number ≡ 3
   unsound c four words n =
       number-is image w q o s
-      ∙ by-cases (soundb image w) (λ e. absurd (n (sound-true image w (record { row = four; words = words }) e))) (λ e. sym (number-three image w q (is-call c) e))
+      ∙ by-cases (soundb image w) (λ e. absurd (n (sound-true image w (record { row = four; words = words }) e)))
+      (λ e. sym (number-three image w q (is-call c) e))
 
   table : Coded q → Sound image w → o .answer .number ≡ refusal (viewAt image w (q .sandbox)) q
   table c S = number-is image w q o s ∙ sym (number-rest image w q (is-call c) (sound-of image w S))

@@ -54,7 +54,7 @@ pub fn decide(b: Sandbox, frames: u8, images: u8, shares: u16, q: Request) -> De
     if (q.code == 7) & b.taken {
         return refuse(present, Refusal::SnapshotTaken);
     }
-    if q.needs_snapshot() & !b.taken {
+    if codes::needs_snapshot(q) & !b.taken {
         return refuse(present, Refusal::NoSnapshot);
     }
     if !all_mapped(present, q) {

@@ -40,8 +40,8 @@ fn turn(machine: Machine, pool: &mut [u8; 2048], table: &mut [u16; 512], line: u
 
 // Writes a line of the reply: "line number from 1, refusal number or 0, value". A number too wide for its columns is not shown.
 fn show(line: u32, answer: Answer) {
-    let number = answer.number() as u32;
-    let value = answer.value();
+    let number = codes::number(answer) as u32;
+    let value = codes::value(answer);
     if line > 999_999 {
         return;
     }

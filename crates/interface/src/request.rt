@@ -1,6 +1,4 @@
 // A request: one call of the roll.
-ghost use mathlib.Core.Path.{_≡_};
-ghost use Rattle.interface.specs.Requests.{isCall, needsSnapshot};
 
 // A line of the roll: the call's code, the sandbox that it names, and its parameters.
 pub struct Request {
@@ -20,18 +18,4 @@ impl Request {
     pub const ANY_PAGE: u16 = 64;
     // "open: p1 share, 1 to 128"
     pub const MOST_SHARE: u16 = 128;
-
-    // Whether its code is that of a call: else row 2, "call code not 1 to 10".
-    pub fn is_call(self) -> bool
-        ensures { λ r. ⌜ r ≡ isCall self ⌝ }
-    {
-        (1 <= self.code) & (self.code <= 10)
-    }
-
-    // Whether it is refused without a snapshot: row 8, "rewind without a snapshot", and call 10.
-    pub fn needs_snapshot(self) -> bool
-        ensures { λ r. ⌜ r ≡ needsSnapshot self ⌝ }
-    {
-        (self.code == 8) | (self.code == 10)
-    }
 }

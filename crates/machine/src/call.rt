@@ -31,7 +31,7 @@ pub fn call(machine: Machine, pool: &mut [u8], table: &mut [u16], image: &[u8], 
     ensures { λ r. ⌜ Stepped (now (image .entry)) (worldOf machine (now (pool .entry)) (now (table .entry))) q
         (outcomeOf r (now (pool .exit)) (now (table .exit))) ⌝ }
 {
-    if !q.is_call() {
+    if !codes::is_call(q) {
         return refuse(machine, Refusal::NoSuchCall);
     }
     if !sound(machine, pool, table, image) {

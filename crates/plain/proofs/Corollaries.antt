@@ -77,7 +77,8 @@ none-spared g k h r i =
     (λ e. rw e)
 
 rewound-runs : (g : Given) (k : Kept) → Keeps k → Reads g k
-    → runsRewound (copied (copySlots (k .core))) (λ i. k .traces .front i && isCommitted (k .core .pages .slots i)) (runsRewound (k .core .pages .slots) (k .traces .front) (k .traces .runs))
+    → runsRewound (copied (copySlots (k .core))) (λ i. k .traces .front i && isCommitted (k .core .pages .slots i))
+    (runsRewound (k .core .pages .slots) (k .traces .front) (k .traces .runs))
     ≡ runsRewound (k .core .pages .slots) (k .traces .front) (k .traces .runs)
 rewound-runs g k h r = runs-idle (copied (copySlots (k .core))) _ _ (λ i l. none-spared g k h r i)
 

@@ -36,7 +36,8 @@ module _ (g : Given) (q : Request) (k : Kept) (total : ℕ) (a : Accepted (viewO
   unfolding slotsAfter bytesAfter copyAfter
   old-map e i =
       rw e
-      (over-both (λ x y. isCommitted x ≡ true → k .traces .front i ≡ false → y ≡ copyBytes (k .core .copy) i) _ _ _ _ _ _ i (λ c. absurd (false≢true c)) (r .old i))
+      (over-both (λ x y. isCommitted x ≡ true → k .traces .front i ≡ false → y ≡ copyBytes (k .core .copy) i) _ _ _ _ _ _ i
+      (λ c. absurd (false≢true c)) (r .old i))
 
   new-map : q .code ≡ Map → (i : ℕ) → isUncommitted (keptAfter g q k .core .pages .slots i) ≡ true → k .traces .front i ≡ false
       → keptAfter g q k .core .pages .bytes i ≡ backingByte (g .image) (backingAt (keptAfter g q k .core .pages .slots i))

@@ -38,7 +38,8 @@ module _ (q : Request) (f : Slots) (t : Traces) (e : q .code ≡ Map) where
   unfolding frontAfter
   map-front = rw e
 
-  at : (i : ℕ) → frontAfter q f t i ≡ (over (firstOf f q) (granted (q .p2) (t .runs)) (λ i. true) (t .front) when eqb (q .p1) 64 && eqb (q .p3) 0 else t .front) i
+  at : (i : ℕ)
+      → frontAfter q f t i ≡ (over (firstOf f q) (granted (q .p2) (t .runs)) (λ i. true) (t .front) when eqb (q .p1) 64 && eqb (q .p3) 0 else t .front) i
   at i = ap (λ (x : ℕ → Bool). x i) map-front
 
   -- a front mark is one of the new pages', or an old one
@@ -72,7 +73,8 @@ module _ (q : Request) (f : Slots) (share : ℕ) (t : Traces) where
   unfolding backAfter
   map-back e = rw e
 
-  map-runs : q .code ≡ Map → runsAfter q f share t ≡ (lessBy (runFor (q .p2) (t .runs)) (granted (q .p2) (t .runs)) (t .runs) when eqb (q .p1) 64 && eqb (q .p3) 0 else t .runs)
+  map-runs : q .code ≡ Map
+      → runsAfter q f share t ≡ (lessBy (runFor (q .p2) (t .runs)) (granted (q .p2) (t .runs)) (t .runs) when eqb (q .p1) 64 && eqb (q .p3) 0 else t .runs)
   unfolding runsAfter
   map-runs e = rw e
 
@@ -104,7 +106,8 @@ module _ (q : Request) (f : Slots) (share : ℕ) (t : Traces) where
       let gain : ℕ → ℕ = λ i. one (t .front i && isSpared (f i)) in
       omega (
         arith,
-        walked-sum (λ (x : ℕ). x) runPlaces (λ x. x) 0 (startsArea f) (λ i x. x + gain i) (t .runs) (omega arith) gain refl 64 (λ i a l. omega arith) 64 (omega arith),
+        walked-sum (λ (x : ℕ). x) runPlaces (λ x. x) 0 (startsArea f) (λ i x. x + gain i) (t .runs) (omega arith) gain refl 64
+            (λ i a l. omega arith) 64 (omega arith),
         count-sum (λ i. t .front i && isSpared (f i)) 64,
       )
 
@@ -112,7 +115,8 @@ module _ (q : Request) (f : Slots) (share : ℕ) (t : Traces) where
   fronts-apart =
       count-apart (λ i. t .front i && isCommitted (f i)) (λ i. t .front i && isSpared (f i)) (t .front) 64
       (λ i. by-cases (t .front i)
-      (λ m. by-cases (isSpared (f i)) (λ y. rw (m, y, spared-uncommitted (f i) y) (omega arith)) (λ y. by-cases (isCommitted (f i)) (λ z. rw (m, y, z) (omega arith)) (λ z. rw (m, y, z) (omega arith))))
+      (λ m. by-cases (isSpared (f i)) (λ y. rw (m, y, spared-uncommitted (f i) y) (omega arith))
+      (λ y. by-cases (isCommitted (f i)) (λ z. rw (m, y, z) (omega arith)) (λ z. rw (m, y, z) (omega arith))))
       (λ m. rw m (omega arith)))
 
   rewind-front : q .code ≡ Rewind → frontAfter q f t ≡ (λ i. t .front i && isCommitted (f i))
@@ -134,7 +138,8 @@ module _ (q : Request) (f : Slots) (share : ℕ) (t : Traces) where
       rw (rewind-front e, rewind-back e, rewind-runs e) (omega (arith, runs-gain, fronts-apart, backs))
 
   -- a write takes a frame more, or gives one up first: fronts and backs leave room for it
-  pub held-write : q .code ≡ Write → pageOf q < 64 → (t .front (pageOf q) ≡ false → count (t .front) 64 + count (t .back) 64 + 1 ≤ share) → held t ≤ share → held after ≤ share
+  pub held-write : q .code ≡ Write → pageOf q < 64 → (t .front (pageOf q) ≡ false → count (t .front) 64 + count (t .back) 64 + 1 ≤ share) → held t ≤ share
+      → held after ≤ share
   unfolding held frontAfter backAfter runsAfter
   held-write e low room h =
       by-cases (t .front (pageOf q))

@@ -119,5 +119,10 @@ fn print(out: &mut [u8], line: u32, answer: Answer)
     requires { ⌜ (line ≤ 999999) × (valueOf answer ≤ 65535) ⌝ }
     ensures { λ _. ⌜ now (out .exit) ≡ printedReply line (numberOf answer) (valueOf answer) ⌝ }
 {
-    print_reply(out, line, answer.number() as u32, answer.value())
+    print_reply(
+        out,
+        line,
+        codes::number(answer) as u32,
+        codes::value(answer),
+    )
 }

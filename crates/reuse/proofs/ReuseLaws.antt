@@ -81,7 +81,8 @@ gave-one gives runs kept place run e p r some =
     }
 
 -- where a frame is kept the longest run has one
-pub longest-has : (runs : Runs) (place most : ℕ) (run : Held) → most ≡ sum (lengthsOf runs) 8 → (most ≡ 0 → ⊥) → place ≡ longestRun (lengthsOf runs) → run ≡ row runs place
+pub longest-has : (runs : Runs) (place most : ℕ) (run : Held) → most ≡ sum (lengthsOf runs) 8 → (most ≡ 0 → ⊥)
+    → place ≡ longestRun (lengthsOf runs) → run ≡ row runs place
     → 1 ≤ countHeld run
 longest-has runs place most run m n p r =
     rw (r, p) (longest-some (lengthsOf runs) (omega (arith, m, n)))

@@ -1,6 +1,6 @@
 // Kept frames used again (A3): what a map takes of a sandbox's runs, what a write gives up of them, and a frame that is not held.
-// It promises: a map that takes a run gives its smallest frames to the first new pages without a byte of the pool, and no other map takes any; a write gives up a
-// frame of the longest run exactly where the share would be exceeded; the frame found is one that no entry names and no run keeps.
+// It promises: a map that takes a run gives its smallest frames to the first new pages without a byte of the pool, and no other map takes any; a write gives
+// up a frame of the longest run exactly where the share would be exceeded; the frame found is one that no entry names and no run keeps.
 // It stands on `kept` and `runs` for the runs, on `marks` for the entries that name a frame, and on `rules` for a map's first page.
 ghost use mathlib.Core.Path.{_≡_};
 ghost use mathlib.Core.List.{List};
@@ -88,8 +88,8 @@ pub struct Given {
     pub kept: Held,
 }
 
-// "When a write would bring fronts, backs and kept frames above the share, one frame of the longest run is given up first": the smallest. Without the runs there
-// is room for one more, so where nothing is kept nothing is counted.
+// "When a write would bring fronts, backs and kept frames above the share, one frame of the longest run is given up first": the smallest. Without the runs
+// there is room for one more, so where nothing is kept nothing is counted.
 pub fn give_up(table: &[u16], runs: Runs, kept: Held, share: u8, sandbox: u8) -> Given
     requires { ⌜ sandbox < 4 ⌝ }
     requires { ⌜ length (now table) ≡ 512 ⌝ }

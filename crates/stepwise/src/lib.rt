@@ -27,8 +27,8 @@ impl Told {
         ensures { λ r. ⌜ r ≡ toldBy answer ⌝ }
     {
         Told {
-            number: answer.number() as u32,
-            value: answer.value(),
+            number: codes::number(answer) as u32,
+            value: codes::value(answer),
         }
     }
 }
@@ -47,7 +47,7 @@ pub fn start_over(state: &mut [u8], pool: &mut [u8], table: &mut [u16], image: &
     let machine = started.machine;
     let answer = started.answer;
     encode(machine, state);
-    answer.number() as u32
+    codes::number(answer) as u32
 }
 
 // One call: the state is read from `state`, and the next one written there. A refused call leaves every byte of state, pool and table.
@@ -62,7 +62,7 @@ pub fn call_over(
         (handed (now (state .exit)) (now (pool .exit)) (now (table .exit))) ⌝ }
 {
     if !is_state(state) {
-        if !q.is_call() {
+        if !codes::is_call(q) {
             return Told::by(Answer::Refused(Refusal::NoSuchCall));
         }
         return Told::by(Answer::Refused(Refusal::Unsound));

@@ -46,8 +46,11 @@ loop-less c = search needs
 loop-again : tie.Need-loop-again Inv-loop μ-loop
 loop-again c =
     let l = c .before .before .before .loop in
-    let a = c .before .before .before .before .before .args in
-    (search needs, omega (arith, l .inv .1, c .is-used .ensures .1), used-more (from (a .sandbox * 128) (a .table .now)) (l .i) (l .n) _ (l .inv .2) (c .is-used .ensures .0))
+    let a = c .before .before .before .before .before .args in (
+      search needs,
+      omega (arith, l .inv .1, c .is-used .ensures .1),
+      used-more (from (a .sandbox * 128) (a .table .now)) (l .i) (l .n) _ (l .inv .2) (c .is-used .ensures .0),
+    )
 
 returns : tie.Need-returns Inv-loop μ-loop
 returns c =
@@ -57,4 +60,7 @@ returns c =
     (l .inv .2 ∙ ap (usedBelow (from (a .sandbox * 128) (a .table .now))) end, omega (arith, l .inv .1, l .inv .0))
 
 pub used-spec : {M : Type 1} → statement M
-used-spec = tie.close (tie.spec Inv-loop μ-loop mul-first loop-holds add-is-used mul-is-used shared-slice-read-is-used is-used-requires add-n add-i loop-less loop-again returns)
+used-spec =
+    tie.close
+    (tie.spec Inv-loop μ-loop mul-first loop-holds add-is-used mul-is-used shared-slice-read-is-used is-used-requires add-n add-i loop-less loop-again
+    returns)

@@ -41,7 +41,8 @@ run-here c = chosen c .at .ensures ∙ ap (row (behind c .args .b .runs)) (place
 frames-here : (c : tie.After-lesser) → c .lesser .result ≡ granted (behind c .args .q .p2) (lengthsOf (behind c .args .b .runs))
 frames-here c =
     let s = behind c in
-    frames-there (s .args .q) (s .args .b) (s .pre .0) (chosen c .before .before .before .before .before .if1 .left) (chosen c .before .before .before .if2 .left)
+    frames-there (s .args .q) (s .args .b) (s .pre .0) (chosen c .before .before .before .before .before .if1 .left)
+    (chosen c .before .before .before .if2 .left)
     _ (c .lesser .result) _ (place-is c) (chosen c .at .ensures) (counted c)
 
 -- ---- the needs

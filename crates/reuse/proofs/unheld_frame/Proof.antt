@@ -28,7 +28,8 @@ returns c =
     let both = c .before .before .before .before .both in
     let g = greatest-found (held (both .result)) (s .args .frames) (c .before .found .given .0 .0) (sym (free .ensures) ∙ c .before .found .given .1) in
     let f = c .before .found .given .0 .0 .0 in
-    let two = both-free (s .args .named) (s .args .kept) f (omega (arith, g .within, s .pre .0)) (ap (λ (h : Held). held h f) (sym (both .ensures)) ∙ g .free) in
+    let two =
+    both-free (s .args .named) (s .args .kept) f (omega (arith, g .within, s .pre .0)) (ap (λ (h : Held). held h f) (sym (both .ensures)) ∙ g .free) in
     (g .within, (two .0, two .1))
 
 returns-2 : tie.Need-returns-2

@@ -182,7 +182,10 @@ decide-requires c κs =
         inside .if3 .left,
         (
           rw e (ready (imageIn start) (worldIn start) (start .args .q) s row),
-          (rw (c .shares .ensures .0, e) (settled-at (imageIn start) (worldIn start) (start .args .q .sandbox) (s .each (start .args .q .sandbox) row)), c .shares .ensures .1),
+          (
+            rw (c .shares .ensures .0, e) (settled-at (imageIn start) (worldIn start) (start .args .q .sandbox) (s .each (start .args .q .sandbox) row)),
+            c .shares .ensures .1,
+          ),
         ),
       ),
     )

@@ -71,12 +71,18 @@ cast-t30 : tie.Need-cast-t30
 cast-t30 c = let s = behind (c .before .before .before .before .before) in omega (arith, s .pre .fit .unmapped (c .before .before .before .if2 .taken))
 
 cast-free-range : tie.Need-cast-free-range
-cast-free-range c = let s = behind (c .before .before .before .before .before .before) in omega (arith, s .pre .fit .unmapped (c .before .before .before .before .if2 .taken))
+cast-free-range c =
+    let s = behind (c .before .before .before .before .before .before) in omega (arith, s .pre .fit .unmapped (c .before .before .before .before .if2 .taken))
 
 free-range-requires : tie.Need-free-range-requires
 free-range-requires c κs =
-    let s = behind (c .before .before .before .before .before .before) in
-    (s .pre .row, (s .pre .fit .unmapped (c .before .before .before .before .if2 .taken), filed-ranged 256 (s .args .frames) (worldIn s .store) (s .pre .filed)))
+    let s = behind (c .before .before .before .before .before .before) in (
+      s .pre .row,
+      (
+        s .pre .fit .unmapped (c .before .before .before .before .if2 .taken),
+        filed-ranged 256 (s .args .frames) (worldIn s .store) (s .pre .filed),
+      ),
+    )
 
 same-length-2 : tie.Need-same-length-2
 same-length-2 c = search needs
@@ -87,7 +93,9 @@ same-length-3 c = search needs
 returns-2 : tie.Need-returns-2
 returns-2 c =
     let s = behind (c .before .before .before .before .before .before .before .before .before .before .before) in
-    rw (same-sandbox s) (unmapped (s .args .image .now) (s .args .frames) (s .args .q) (worldIn s) _ (c .before .before .before .before .before .before .before .before .before .if2 .taken) (c .before .before .before .before .free-range .ensures))
+    rw (same-sandbox s)
+    (unmapped (s .args .image .now) (s .args .frames) (s .args .q) (worldIn s) _ (c .before .before .before .before .before .before .before .before .before .if2 .taken)
+    (c .before .before .before .before .free-range .ensures))
 
 write-requires : tie.Need-write-requires
 write-requires c κs = search needs
@@ -134,14 +142,16 @@ same-length-8 c = search needs
 returns-5 : tie.Need-returns-5
 returns-5 c =
     let s = behind (c .before .before .before .before .before .before .before .before .before .before .before .before .before .before) in
-    rewound (s .args .image .now) (s .args .frames) (s .args .q) (worldIn s) _ _ (c .before .before .before .before .before .before .before .before .before .if5 .taken) (rw (← same-sandbox s) (c .before .before .before .before .rewind .ensures))
+    rewound (s .args .image .now) (s .args .frames) (s .args .q) (worldIn s) _ _ (c .before .before .before .before .before .before .before .before .before .if5 .taken)
+    (rw (← same-sandbox s) (c .before .before .before .before .rewind .ensures))
     (rw (← same-sandbox s) (c .before .before .before .before .before .before .before .gathered .ensures (s .args .machine .held) (s .args .pool .now)))
 
 returns-6 : tie.Need-returns-6
 returns-6 c =
     let s = behind (c .before .before .before .before .before) in
     rw (same-sandbox s)
-    (left-alone (s .args .image .now) (s .args .frames) (s .args .q) (worldIn s) (c .before .before .before .before .if1 .left) (c .before .before .before .if2 .left) (c .before .before .if3 .left)
+    (left-alone (s .args .image .now) (s .args .frames) (s .args .q) (worldIn s) (c .before .before .before .before .if1 .left)
+    (c .before .before .before .if2 .left) (c .before .before .if3 .left)
     (c .before .if4 .left) (c .if5 .left))
 
 pub store-after-spec : {M : Type 1} → statement M

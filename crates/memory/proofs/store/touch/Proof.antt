@@ -125,7 +125,8 @@ array-copy-out-b : tie.Need-array-copy-out-b
 array-copy-out-b c = search needs
 
 front-requires : tie.Need-front-requires
-front-requires c κs = let s = c .before .before .before .before .before .before .before .before .before .before .before in (asked s .row, (small s, asked s .filed .entries))
+front-requires c κs =
+    let s = c .before .before .before .before .before .before .before .before .before .before .before in (asked s .row, (small s, asked s .filed .entries))
 
 same-length : tie.Need-same-length
 same-length c = search needs
@@ -176,7 +177,16 @@ take-requires c κs =
     let low = looked found .unheld-frame .ensures .0 in
     let filed = asked s .filed in (
       asked s .row,
-      (small s, (filed-ranged 256 (s .args .frames) (worldIn s .store) filed, (source-here found, (omega (arith, low, filed .few), omega (arith, low, filed .pages))))),
+      (
+        small s,
+        (
+          filed-ranged 256 (s .args .frames) (worldIn s .store) filed,
+          (
+            source-here found,
+            (omega (arith, low, filed .few), omega (arith, low, filed .pages)),
+          ),
+        ),
+      ),
     )
 
 same-length-2 : tie.Need-same-length-2

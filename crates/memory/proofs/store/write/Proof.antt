@@ -31,7 +31,8 @@ cast-store-byte-2 : tie.Need-cast-store-byte-2
 cast-store-byte-2 c = search needs
 
 cast-store-byte-3 : tie.Need-cast-store-byte-3
-cast-store-byte-3 c = let s = behind (c .before .before .before .before .before .before .before .before .before .before) in omega (arith, s .pre .1 .fit .written (s .pre .0) .1)
+cast-store-byte-3 c =
+    let s = behind (c .before .before .before .before .before .before .before .before .before .before) in omega (arith, s .pre .1 .fit .written (s .pre .0) .1)
 
 store-byte-requires : tie.Need-store-byte-requires
 store-byte-requires c κs =

@@ -77,7 +77,8 @@ returns-4 : tie.Need-returns-4
 returns-4 c = λ h.
     let s = c .before .before .before .before .before .before .before .before .before .before .before .before in
     let frames = c .before .frames-held in
-    report-value (s .args .image .now) (s .args .q) (s .args .b) (lent s h) _ (frames .result) (c .kept .result) (s .args .frames) (c .before .before .before .before .if4 .taken)
+    report-value (s .args .image .now) (s .args .q) (s .args .b) (lent s h) _ (frames .result) (c .kept .result) (s .args .frames)
+    (c .before .before .before .before .if4 .taken)
     (s .pre .1 .1 .1 .1 .1 .1) (frames .ensures) (c .kept .ensures .0) refl
 
 cast-lowest-difference : tie.Need-cast-lowest-difference
