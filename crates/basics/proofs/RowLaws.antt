@@ -1,15 +1,15 @@
 -- Laws of rows: which place is chosen, what a pushed thing leaves, and that all of it goes by the lengths alone.
 use Prim.Native.Nat.{ℕ, zero, suc, _+_, _≤_, _<_}
-use mathlib.Core.Path.{_≡_, refl, sym, ap, _∙_, fun-ext}
+use mathlib.Core.Path.{_≡_, refl}
 use mathlib.Core.Logic.{_⊎_, inl, inr, ⊎-elim}
 use mathlib.Core.Bool.{Bool, true, false, _||_}
 use native.Mathlib.Omega.{arith}
 use native.Mathlib.Decide.{ℕ-discrete}
-use lib.Dec.{leb, ltb, eqb}
-use borrow.Author.Tests.{lt-ltb, le-ltb, ltb-true, ltb-false, le-leb, lt-leb, leb-true, leb-false, eqb-true, eqb-false, eq-eqb, ne-eqb}
+use lib.Dec.{leb, ltb}
+use borrow.Author.Tests.{lt-ltb, le-ltb, ltb-true, ltb-false, le-leb, leb-true, leb-false}
 use Rattle.basics.specs.Choice.{_when_else_}
 use Rattle.basics.specs.Ranges.{sum}
-use Rattle.basics.specs.Rows.{best, longer, noLonger, fitter, inPlace, movedUp, push, Walk, walkTo, walked}
+use Rattle.basics.specs.Rows.{best, longer, noLonger, fitter, movedUp, push, Walk, walkTo, walked}
 use Rattle.basics.proofs.TestLaws.{by-cases, when-cases, never, or-left, or-right}
 
 -- ---- the chosen place

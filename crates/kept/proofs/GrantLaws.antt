@@ -1,25 +1,23 @@
 -- A map takes a run: its first pages get the run's frames, smallest first, and hold zeros; the store stays tidy, the rest is kept, once and zero.
-use mathlib.Core.Path.{_≡_, refl, sym, ap, _∙_}
+use mathlib.Core.Path.{_≡_, refl, ap, _∙_}
 use mathlib.Core.Logic.{_⊎_, inl, inr, ⊎-elim}
-use mathlib.Core.Bool.{true, false}
 use mathlib.Core.Option.{none, some}
 use Prim.Native.Nat.{ℕ, zero, suc, _+_, _-_, _≤_, _<_}
 use native.Mathlib.Omega.{arith}
-use lib.Dec.{eqb, ltb}
-use borrow.Author.Tests.{eqb-true, eqb-false, ltb-true, ltb-false}
+use lib.Dec.{eqb}
 use Rattle.basics.specs.Rows.{inPlace}
 use Rattle.basics.proofs.TestLaws.{by-cases}
 use Rattle.interface.specs.Runs.{runPlaces}
 use Rattle.frames.specs.declared.Held.{Held}
 use Rattle.frames.specs.Frames.{held, mark, countHeld, leastHeld}
-use Rattle.frames.proofs.FrameLaws.{lt-or-ge, held-lt, held-one, none-count, held-mark-same, held-mark-other, count-without}
+use Rattle.frames.proofs.FrameLaws.{lt-or-ge, held-lt, held-mark-same, held-mark-other, count-without}
 use Rattle.frames.proofs.PairLaws.{least-found}
 use Rattle.pages.specs.Parts.{zeros}
 use Rattle.pages.proofs.PartLaws.{length-zeros}
 use Rattle.marks.proofs.NamedLaws.{same-or}
 use Rattle.table.specs.Store.{Store, entry, contents, Filed, Tidy, put, take}
 use Rattle.table.proofs.StoreLaws.{Changed, none-entry, taken}
-use Rattle.kept.specs.Spare.{Rows, lengths, keptAt, Spare, leftOf, grantTo, withRun}
+use Rattle.kept.specs.Spare.{Rows, lengths, Spare, leftOf, grantTo, withRun}
 use Rattle.kept.proofs.SpareLaws.{kept-with, run-kept, spare-step}
 
 -- ---- the smallest frames of a run

@@ -1,7 +1,7 @@
 -- A rewind makes runs of the fronts of uncommitted anonymous areas: these are then kept, once and zero; and their lengths are the plain machine's.
 use mathlib.Core.Path.{_≡_, refl, sym, ap, _∙_}
 use mathlib.Core.Logic.{_⊎_, inl, inr, ⊎-elim}
-use mathlib.Core.Bool.{Bool, true, false, not, _&&_, false≢true}
+use mathlib.Core.Bool.{Bool, true, false, not, _&&_}
 use mathlib.Core.Option.{none}
 use mathlib.Core.List.{List}
 use Prim.Native.Nat.{ℕ, zero, suc, _+_, _-_, _*_, _≤_, _<_}
@@ -9,24 +9,23 @@ use native.Mathlib.Omega.{arith}
 use lib.Dec.{eqb}
 use lib.ListN.{length, getD, set}
 use lib.Seq.{getD-set-other}
-use borrow.Author.Tests.{eq-eqb, ne-eqb, eqb-true, eqb-false, not-true}
-use Rattle.basics.specs.Choice.{_when_else_}
-use Rattle.basics.specs.Ranges.{one, count, sum}
+use borrow.Author.Tests.{eqb-true, eqb-false, not-true}
+use Rattle.basics.specs.Ranges.{one, count}
 use Rattle.basics.specs.Rows.{inPlace}
-use Rattle.basics.proofs.TestLaws.{by-cases, when-cases, and-left, and-right, never}
+use Rattle.basics.proofs.TestLaws.{by-cases, when-cases, and-left, and-right}
 use Rattle.basics.proofs.CountLaws.{count-sum, count-zero, count-once}
 use Rattle.basics.proofs.RowLaws.{walked-sum, walked-same}
 use Rattle.interface.specs.Slots.{Slots, startsArea}
 use Rattle.interface.specs.Runs.{runPlaces, isSpared, runsRewound}
 use Rattle.frames.specs.declared.Held.{Held}
 use Rattle.frames.specs.Frames.{held, mark, noneHeld, countHeld}
-use Rattle.frames.proofs.FrameLaws.{held-lt, held-or, held-zero, held-mark-same, held-mark-other, count-with, none-count}
+use Rattle.frames.proofs.FrameLaws.{held-lt, held-or, held-zero, held-mark-other, count-with, none-count}
 use Rattle.marks.proofs.NamedLaws.{same-or, by-entry}
 use Rattle.table.specs.Store.{Store, entry, frontOf, contents, pageFrom, Filed, Tidy, put, free, fill, rewindPage, rewindTo}
 use Rattle.table.proofs.StoreLaws.{none-entry}
 use Rattle.table.proofs.FreeLaws.{getD-clear}
 use Rattle.table.proofs.RewindLaws.{rewindTo-tidy, rewindTo-in}
-use Rattle.kept.specs.Spare.{Row, Rows, lengths, keptIn, keptAt, Spare, spares, gather, rowRewound}
+use Rattle.kept.specs.Spare.{Row, Rows, lengths, keptIn, Spare, spares, gather, rowRewound}
 use Rattle.kept.proofs.SpareLaws.{kept-row, spare-step}
 
 -- ---- the entries: each stays or is cleared

@@ -1,24 +1,21 @@
 -- Kept frames through one operation on the store: what is asked of it, and that then they are kept, once and zero.
 use mathlib.Core.Path.{_≡_, refl, sym, ap, _∙_}
-use mathlib.Core.Logic.{⊎-elim}
-use Prim.Native.Nat.{ℕ, zero, suc, _+_, _-_, _≤_, _<_}
+use Prim.Native.Nat.{ℕ, zero, _+_, _-_, _≤_, _<_}
 use native.Mathlib.Omega.{arith}
-use lib.Dec.{eqb}
-use Rattle.basics.specs.Choice.{_when_else_}
 use Rattle.basics.specs.Ranges.{sum}
 use Rattle.basics.specs.Rows.{inPlace}
 use Rattle.basics.proofs.CountLaws.{sum-put, sum-swap, sum-plus, sum-hole, part-le}
 use Rattle.interface.specs.Runs.{runPlaces}
 use Rattle.frames.specs.declared.Held.{Held}
-use Rattle.frames.specs.Frames.{held, mark, countHeld, Within}
+use Rattle.frames.specs.Frames.{held, countHeld}
 use Rattle.frames.proofs.SumLaws.{sum-same, sum-add}
-use Rattle.frames.proofs.FrameLaws.{held-lt, held-or, count-within}
-use Rattle.pages.specs.Parts.{frame, zeros}
-use Rattle.marks.specs.Named.{Named, usedBelow}
+use Rattle.frames.proofs.FrameLaws.{count-within}
+use Rattle.pages.specs.Parts.{frame}
+use Rattle.marks.specs.Named.{usedBelow}
 use Rattle.marks.proofs.MarkLaws.{within-named}
 use Rattle.table.specs.Store.{Store, entry, Filed, Tidy}
 use Rattle.table.proofs.FiledLaws.{count-filed}
-use Rattle.kept.specs.Spare.{Row, Rows, lengths, keptIn, keptAt, keptBy, Spare, withRun}
+use Rattle.kept.specs.Spare.{Row, Rows, keptIn, keptAt, keptBy, Spare, withRun}
 
 -- ---- sums over the runs
 

@@ -1,16 +1,14 @@
 -- The kept frames through the store's folds that take no frame; words of 64 bits; rows that agree in their 8 places.
 use mathlib.Core.Path.{_≡_, refl, sym, ap, _∙_}
 use mathlib.Core.Logic.{_⊎_, inl, inr, ⊎-elim}
-use mathlib.Core.Bool.{Bool, true, false}
-use mathlib.Core.List.{List}
+use mathlib.Core.Bool.{Bool}
 use Prim.Native.Nat.{ℕ, zero, suc, _+_, _-_, _^_, _≤_, _<_}
 use native.Mathlib.Omega.{arith}
 use lib.Dec.{eqb, ltb, leb}
 use lib.Seq.{getD-set-other}
 use borrow.Author.Tests.{ltb-true}
-use Rattle.basics.specs.Choice.{_when_else_}
 use Rattle.basics.specs.Ranges.{sum}
-use Rattle.basics.specs.Rows.{best, noLonger, inPlace, movedUp, push, Walk, walkTo, walked}
+use Rattle.basics.specs.Rows.{best, noLonger, movedUp, push, Walk, walkTo, walked}
 use Rattle.basics.proofs.TestLaws.{by-cases, when-cases}
 use Rattle.interface.specs.Slots.{Slots, startsArea}
 use Rattle.interface.specs.Runs.{runPlaces}
@@ -19,7 +17,7 @@ use Rattle.frames.specs.Frames.{held, mark, noneHeld, countHeld, leastHeld}
 use Rattle.frames.proofs.SumLaws.{sum-same, sum-none}
 use Rattle.frames.proofs.FrameLaws.{held-lt, held-zero, mark-low, mark-high}
 use Rattle.marks.proofs.NamedLaws.{by-entry}
-use Rattle.table.specs.Store.{Store, entry, frontOf, Filed, Tidy, put, take, free, fill, storeByte, move, freeTo, moveTo}
+use Rattle.table.specs.Store.{Store, entry, frontOf, Filed, put, take, fill, storeByte, move, freeTo, moveTo}
 use Rattle.kept.specs.Spare.{Row, Rows, keptIn, keptAt, Spare, Words, spares, gather, rowRewound, leftOf, grantTo}
 use Rattle.kept.proofs.GrantLaws.{next-found}
 use Rattle.kept.proofs.RewindLaws.{free-entry}

@@ -1,8 +1,8 @@
 -- A write gives up a frame of the longest run where it must, and takes one that is then not held; the other operations of the store leave the kept frames.
-use mathlib.Core.Path.{_≡_, refl, sym, ap, _∙_}
+use mathlib.Core.Path.{_≡_, refl, ap, _∙_}
 use mathlib.Core.Logic.{⊎-elim}
 use mathlib.Core.List.{List}
-use Prim.Native.Nat.{ℕ, zero, suc, _+_, _-_, _≤_, _<_}
+use Prim.Native.Nat.{ℕ, suc, _-_, _≤_, _<_}
 use native.Mathlib.Omega.{arith}
 use lib.Dec.{eqb}
 use lib.ListN.{length}
@@ -10,7 +10,7 @@ use Rattle.basics.specs.Rows.{inPlace}
 use Rattle.basics.proofs.TestLaws.{by-cases}
 use Rattle.interface.specs.Runs.{runPlaces}
 use Rattle.frames.specs.declared.Held.{Held}
-use Rattle.frames.specs.Frames.{held, mark, countHeld}
+use Rattle.frames.specs.Frames.{held, mark}
 use Rattle.frames.proofs.FrameLaws.{held-lt, held-or, held-mark-same, held-mark-other, count-without}
 use Rattle.marks.proofs.NamedLaws.{same-or}
 use Rattle.table.specs.Store.{Store, entry, Filed, Tidy, put, take}

@@ -2,7 +2,6 @@
 -- a kept frame is marked in its run, and in nothing else.
 use mathlib.Core.Path.{_≡_}
 use mathlib.Core.Bool.{Bool, not, _&&_}
-use mathlib.Core.List.{List}
 use Prim.Native.Nat.{ℕ, zero, suc, _+_, _-_, _^_, _≤_, _<_}
 use lib.Dec.{eqb}
 use Rattle.basics.specs.Choice.{_when_else_}

@@ -1,22 +1,22 @@
 -- What an accepted request makes of front marks, back marks and run lengths together: they stay within the share.
 use Prim.Native.Nat.{ℕ, zero, suc, _+_, _≤_, _<_}
 use mathlib.Core.Path.{_≡_, refl, sym, ap, _∙_}
-use mathlib.Core.Logic.{_⊎_, inl, inr, ⊎-elim}
-use mathlib.Core.Bool.{Bool, true, false, not, _&&_, _||_}
+use mathlib.Core.Logic.{_⊎_, inl, inr}
+use mathlib.Core.Bool.{Bool, true, false, _&&_, _||_}
 use native.Mathlib.Omega.{arith}
 use lib.Dec.{eqb, ltb}
 use borrow.Author.Tests.{eqb-true, ltb-true, ltb-false}
 use Rattle.basics.specs.Choice.{_when_else_}
 use Rattle.basics.specs.Ranges.{one, count, sum, inside, over}
-use Rattle.basics.proofs.TestLaws.{by-cases, when-cases, and-left, and-right}
-use Rattle.basics.proofs.RangeLaws.{inside-first, inside-end, inside-yes, over-cases}
-use Rattle.basics.proofs.CountLaws.{count-le, count-split, count-sum, count-none, count-apart, count-also}
+use Rattle.basics.proofs.TestLaws.{by-cases, when-cases}
+use Rattle.basics.proofs.RangeLaws.{inside-first, inside-end, inside-yes}
+use Rattle.basics.proofs.CountLaws.{count-le, count-sum, count-none, count-apart, count-also}
 use Rattle.basics.proofs.RowLaws.{walked-sum, walked-idle}
 use Rattle.interface.specs.declared.request.Request.{Request}
 use Rattle.interface.specs.Requests.{_is_, Map, Unmap, Write, Snapshot, Rewind, pageOf}
-use Rattle.interface.specs.Slots.{Slots, isMapped, isCommitted, startsArea, mappedPages}
+use Rattle.interface.specs.Slots.{Slots, isCommitted, startsArea}
 use Rattle.interface.specs.Outcome.{firstOf}
-use Rattle.interface.specs.Runs.{runPlaces, isSpared, takesRun, runFor, granted, longestRun, givesUp, runsRewound}
+use Rattle.interface.specs.Runs.{runPlaces, isSpared, runFor, granted, longestRun, runsRewound}
 use Rattle.interface.proofs.ChargeLaws.{inside-part}
 use Rattle.interface.proofs.RunLaws.{run-low, granted-le, granted-run, longest-low, longest-some, sum-less, spared-uncommitted}
 use Rattle.plain.specs.Machine.{Traces, held, frontAfter, backAfter, copiedBackAfter, lessBy, runsAfter}

@@ -1,6 +1,6 @@
 -- What lists of calls are over.
 use mathlib.Core.Path.{_≡_}
-use Prim.Native.Nat.{ℕ, _*_, _≤_}
+use Prim.Native.Nat.{_*_, _≤_}
 use lib.ListN.{length}
 use Rattle.state.specs.World.{pagesIn}
 use Rattle.plain.specs.Machine.{Given}

@@ -1,13 +1,12 @@
 -- The test of a sound state is true exactly of the sound states.
-use mathlib.Core.Path.{_≡_, refl, sym, _∙_, ap}
-use mathlib.Core.Bool.{Bool, true, false, not, _&&_}
+use mathlib.Core.Path.{_≡_, ap}
+use mathlib.Core.Bool.{Bool, true, false, not}
 use mathlib.Core.List.{List}
 use Prim.Native.Nat.{ℕ, _+_, _*_, _%_, _≤_, _<_}
 use native.Mathlib.Omega.{arith}
 use lib.Dec.{leb, ltb, eqb}
 use lib.ListN.{length, getD-replicate}
 use borrow.Author.Tests.{eq-eqb, eqb-true, leb-true, le-leb, not-true, ltb-true, ltb-false}
-use Rattle.basics.specs.Choice.{implies}
 use Rattle.basics.specs.Ranges.{every}
 use Rattle.basics.proofs.TestLaws.{by-cases, never, and-both, and-of, implied, implies-of}
 use Rattle.basics.proofs.LoopLaws.{every-at, every-of}

@@ -1,11 +1,10 @@
 -- The loop has the frames of the first i runs.
-use mathlib.Core.Path.{_≡_, refl, ap, ap₂, _∙_}
+use mathlib.Core.Path.{_≡_, refl, ap, _∙_}
 use Prim.Native.Nat.{_≤_, _-_}
-use native.Mathlib.Numerals.{add-one}
 use native.Mathlib.Omega.{arith}
 use borrow.Author.Needs.{needs}
 use Rattle.runs.specs.Row.{row}
-use Rattle.kept.specs.Test.{addRun, runsTo}
+use Rattle.kept.specs.Test.{runsTo}
 use Rattle.kept.proofs.TestLaws.{runs-more}
 use Rattle.kept.proofs.add_runs.Statement.{statement}
 use Rattle.kept.proofs.add_runs.Tie as tie
