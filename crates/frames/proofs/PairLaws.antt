@@ -6,7 +6,7 @@ use native.Mathlib.Nat.{mod-lt}
 use native.Mathlib.Omega.{arith}
 use lib.Count.{trailingZeros, under}
 use lib.Dec.{eqb, ltb}
-use lib.Bits.{bitAnd, bitOr, and-step, or-step, and-shr, or-shr, or-lt, and-lt}
+use lib.Bits.{bitAnd, bitOr, and-step, or-step, and-shr, or-shr, or-lt, and-lt, and-zero-r, or-zero-r}
 use borrow.Author.Tests.{eqb-true, eqb-false, eq-eqb, ltb-true, ltb-false, lt-ltb, le-ltb}
 use Rattle.basics.specs.Choice.{_when_else_}
 use Rattle.basics.specs.Ranges.{lowest}
@@ -14,7 +14,7 @@ use Rattle.basics.proofs.TestLaws.{by-cases, and-both, and-of}
 use Rattle.basics.proofs.LoopLaws.{lowest-least, lowest-passes}
 use Rattle.frames.specs.declared.Held.{Held}
 use Rattle.frames.specs.Word.{bit}
-use Rattle.frames.specs.Frames.{held, countHeld, leastHeld, bothHeld, apartHeld}
+use Rattle.frames.specs.Frames.{held, noneHeld, countHeld, leastHeld, bothHeld, apartHeld}
 use Rattle.frames.proofs.WordLaws.{bit-zero, bit-suc, bit-lt, bit-above, word-ext}
 use Rattle.frames.proofs.FrameLaws.{held-lt, held-low, held-high, none-count}
 
@@ -55,6 +55,15 @@ both-low h j a b = or-lt 64 (h .low) (j .low) a b
 pub both-high : (h j : Held) → h .high < 2 ^ 64 → j .high < 2 ^ 64 → bothHeld h j .high < 2 ^ 64
 unfolding bothHeld
 both-high h j a b = or-lt 64 (h .high) (j .high) a b
+
+-- no marks come to others
+pub both-none : (h : Held) → bothHeld h noneHeld ≡ h
+unfolding bothHeld
+both-none h = λ i. record { low = or-zero-r (h .low) i; high = or-zero-r (h .high) i }
+
+pub apart-none : (h : Held) → apartHeld h noneHeld ≡ true
+unfolding apartHeld
+apart-none h = rw (and-zero-r (h .low), and-zero-r (h .high))
 
 -- the test of two that have no frame in common says so
 pub apart-true : (h j : Held) → apartHeld h j ≡ true → (f : ℕ) → held h f + held j f ≤ 1

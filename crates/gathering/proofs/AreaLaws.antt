@@ -169,6 +169,15 @@ module _ (st : Store) (s : ℕ) (present : Areas) (F : Formed present) (r : Runs
             gives = rw (area k d, start, ← g .gives);
           }
 
+  -- behind the last area there is none in the places left
+  pub gathered-rest : (d k : ℕ) (q : Runs) → present .count ≤ k → Gathered st s present r k q → Gathered st s present r (k + d) q
+  gathered-rest zero k q l g = let e : k + zero ≡ k = omega arith in rw e g
+  gathered-rest (suc d) k q l g =
+      let e : k + suc d ≡ k + 1 + d = omega arith in
+      rw e
+      (gathered-rest d (k + 1) q (omega arith)
+      (record { page = g .page; there = before-none present F k (g .page) (g .there) l; gives = g .gives }))
+
   pub gathered-all : length (r .list) ≡ 8 → (q : Runs) → Gathered st s present r 8 q → q ≡ tabled (rowRewound st s (slots present) (row r))
   unfolding gathered
   gathered-all eight q g =

@@ -32,8 +32,9 @@ pub fn gathered(table: &[u16], present: Areas, runs: Runs, sandbox: u8) -> Runs
     requires { ⌜ ((k : ℕ) → getD (now table) k 0 ≤ 128) ⌝ }
     ensures { λ r. ⌜ ((h : Words) (pool : List ℕ) → r ≡ tabled (rowRewound (storeOf h pool (now (table .entry))) sandbox (slots present) (row runs))) ⌝ }
 {
+    let count = present.count as usize;
     let mut all = runs;
-    for k in 0..Area::MOST {
+    for k in 0..count {
         let area = present.list[k];
         all = push_area(table, area, all, sandbox);
     }

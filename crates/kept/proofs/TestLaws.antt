@@ -15,9 +15,9 @@ use Rattle.basics.proofs.TestLaws.{by-cases, never, both-ways, and-both, and-of
 use Rattle.basics.proofs.LoopLaws.{every-at, every-of}
 use Rattle.interface.specs.Runs.{runPlaces}
 use Rattle.frames.specs.declared.Held.{Held}
-use Rattle.frames.specs.Frames.{held, mark, countHeld, leastHeld, apartHeld}
-use Rattle.frames.proofs.FrameLaws.{held-lt, held-zero, held-mark-other, count-none}
-use Rattle.frames.proofs.PairLaws.{held-both, both-low, both-high, apart-true, apart-of, least-found}
+use Rattle.frames.specs.Frames.{held, mark, countHeld, leastHeld, apartHeld, noneHeld, sameHeld}
+use Rattle.frames.proofs.FrameLaws.{held-lt, held-zero, held-mark-other, count-none, same-held-true}
+use Rattle.frames.proofs.PairLaws.{held-both, both-low, both-high, apart-true, apart-of, least-found, both-none, apart-none}
 use Rattle.pages.specs.Parts.{frame, zeros}
 use Rattle.pages.proofs.PartLaws.{fits-pool, length-frame}
 use Rattle.marks.specs.declared.Marks.{Marks}
@@ -170,6 +170,19 @@ spare-of n st rows F words S =
     and-of (lt-ltb f n low) (blank-of (st .pool) n (F .pages) f (S .blank f low k))))))
 
 -- ---- the code's loop
+
+-- a sandbox that keeps none adds none
+pub runs-none : (row : Row) (m : Marks) → ((i : ℕ) → i < 8 → row i ≡ noneHeld) → (i : ℕ) → i ≤ 8 → runsTo row m i ≡ m
+unfolding runsTo
+runs-none row m h zero l = refl
+runs-none row m h (suc i) l =
+    let ih = runs-none row m h i (omega arith) in
+    rw (ih, h i (omega arith), apart-none (m .held)) (λ j. record { good = m .good; held = both-none (m .held) j })
+
+pub none-added : (row : Row) (m : Marks) → every (λ i. sameHeld (row i) noneHeld) 0 8 ≡ true → m ≡ runsTo row m 8
+none-added row m e =
+    sym
+    (runs-none row m (λ i l. same-held-true (row i) noneHeld (every-at (λ i. sameHeld (row i) noneHeld) 0 8 e i (omega arith) (omega arith))) 8 (omega arith))
 
 pub runs-more : (row : Row) (found m : Marks) (i : ℕ) (run : Held) → m ≡ runsTo row found i → run ≡ row i → addRun m run ≡ runsTo row found (i + 1)
 unfolding runsTo

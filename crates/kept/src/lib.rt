@@ -20,10 +20,13 @@ use marks::Marks;
 use pages::Page;
 use runs::Runs;
 
-// The runs of one sandbox more.
+// The runs of one sandbox more; most often it keeps none.
 pub fn add_runs(found: Marks, runs: Runs) -> Marks
     ensures { λ r. ⌜ r ≡ runsTo (row runs) found 8 ⌝ }
 {
+    if runs.is_none() {
+        return found;
+    }
     let mut m = found;
     for i in 0..8u8 {
         m = add_run(m, runs.at(i));

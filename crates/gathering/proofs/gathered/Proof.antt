@@ -1,7 +1,7 @@
 -- The runs of the first k places are pushed, whatever marks and pool there are.
 use mathlib.Core.Path.{_≡_}
 use mathlib.Core.List.{List}
-use Prim.Native.Nat.{ℕ, _≤_, _-_}
+use Prim.Native.Nat.{ℕ, _+_, _≤_, _-_}
 use native.Mathlib.Omega.{arith}
 use lib.ListN.{length}
 use borrow.Author.Needs.{needs}
@@ -9,18 +9,22 @@ use Rattle.basics.proofs.TestLaws.{length-mapped}
 use Rattle.frames.specs.declared.Held.{Held}
 use Rattle.table.specs.Store.{kept}
 use Rattle.areas.proofs.WalkLaws.{end-small}
-use Rattle.gathering.proofs.AreaLaws.{Gathered, gathered-start, gathered-next, gathered-all}
+use Rattle.gathering.proofs.AreaLaws.{Gathered, gathered-start, gathered-next, gathered-rest, gathered-all}
 use Rattle.gathering.proofs.gathered.Statement.{statement}
 use Rattle.gathering.proofs.gathered.Tie as tie
 
 abbrev Inv-loop : tie.InvT-loop
-Inv-loop table sandbox present all₀ k₀ all k = (k ≤ 8) × ((h : Held) (pool : List ℕ) → Gathered (kept h pool table) sandbox present all₀ k all)
+Inv-loop table sandbox present count all₀ k₀ all k =
+    (k ≤ present .count) × ((h : Held) (pool : List ℕ) → Gathered (kept h pool table) sandbox present all₀ k all)
 
 abbrev μ-loop : tie.MeasureT-loop
-μ-loop table sandbox present all₀ k₀ all k = 8 - k
+μ-loop table sandbox present count all₀ k₀ all k = present .count - k
 
 eight : (c : tie.Start Inv-loop μ-loop) → length (c .args .runs .list) ≡ 8
 eight c = search length-mapped
+
+cast-count : tie.Need-cast-count Inv-loop μ-loop
+cast-count c = search needs
 
 loop-holds : tie.Need-loop-holds Inv-loop μ-loop
 loop-holds c = (omega arith, λ h pool. gathered-start _ _ _ (c .before .pre .1 .0) _)
@@ -52,8 +56,14 @@ returns : tie.Need-returns Inv-loop μ-loop
 returns c = λ h pool.
     let l = c .before .loop in
     let start = c .before .before .before in
-    let end : l .k ≡ 8 = omega (arith, l .inv .0, c .loop-test .left) in
-    gathered-all _ _ _ (start .pre .1 .0) _ (eight start) (l .all) (rw end at (l .inv .1 h pool))
+    let formed = start .pre .1 .0 in
+    let end : l .k ≡ start .args .t2 .count = omega (arith, l .inv .0, c .loop-test .left) in
+    let left = 8 - start .args .t2 .count in
+    let e : l .k + left ≡ 8 = omega (arith, end, formed .formed .few) in
+    let all = gathered-rest _ _ _ formed _ left (l .k) (l .all) (omega (arith, end)) (l .inv .1 h pool) in
+    gathered-all _ _ _ formed _ (eight start) (l .all) (rw e at all)
 
 pub gathered-spec : {M : Type 1} → statement M
-gathered-spec = tie.close (tie.spec Inv-loop μ-loop loop-holds mul-area element-copy-out-area push-area-requires add-k loop-less loop-again returns)
+gathered-spec =
+    tie.close
+    (tie.spec Inv-loop μ-loop cast-count loop-holds mul-area element-copy-out-area push-area-requires add-k loop-less loop-again returns)

@@ -1,11 +1,11 @@
 -- The loop has the frames of the first i runs.
-use mathlib.Core.Path.{_≡_, refl, ap, _∙_}
+use mathlib.Core.Path.{_≡_, refl, sym, ap, _∙_}
 use Prim.Native.Nat.{_≤_, _-_}
 use native.Mathlib.Omega.{arith}
 use borrow.Author.Needs.{needs}
 use Rattle.runs.specs.Row.{row}
 use Rattle.kept.specs.Test.{runsTo}
-use Rattle.kept.proofs.TestLaws.{runs-more}
+use Rattle.kept.proofs.TestLaws.{none-added, runs-more}
 use Rattle.kept.proofs.add_runs.Statement.{statement}
 use Rattle.kept.proofs.add_runs.Tie as tie
 
@@ -14,6 +14,14 @@ Inv-loop runs m₀ i₀ m i = (i ≤ 8) × (m ≡ runsTo (row runs) m₀ i)
 
 abbrev μ-loop : tie.MeasureT-loop
 μ-loop runs m₀ i₀ m i = 8 - i
+
+is-none-requires : tie.Need-is-none-requires Inv-loop μ-loop
+is-none-requires c κs = search needs
+
+returns : tie.Need-returns Inv-loop μ-loop
+returns c =
+    let s = c .before .before in
+    none-added (row (s .args .runs)) (s .args .found) (sym (c .before .is-none .ensures) ∙ c .if1 .taken)
 
 loop-holds : tie.Need-loop-holds Inv-loop μ-loop
 unfolding runsTo
@@ -33,15 +41,16 @@ loop-less c = search needs
 
 loop-again : tie.Need-loop-again Inv-loop μ-loop
 loop-again c =
-    let start = c .before .before .before .before in
+    let start = c .before .before .before .before .before .before in
     let l = c .before .before .before .loop in
     (search needs, c .add-run .ensures ∙ runs-more (row (start .args .runs)) (start .args .found) (l .m) (l .i) _ (l .inv .1) (c .before .at .ensures))
 
-returns : tie.Need-returns Inv-loop μ-loop
-returns c =
+returns-2 : tie.Need-returns-2 Inv-loop μ-loop
+returns-2 c =
     let l = c .before .loop in
     let end : l .i ≡ 8 = omega (arith, l .inv .0, c .loop-test .left) in
-    l .inv .1 ∙ ap (runsTo (row (c .before .before .args .runs)) (c .before .before .args .found)) end
+    let s = c .before .before .before .before in
+    l .inv .1 ∙ ap (runsTo (row (s .args .runs)) (s .args .found)) end
 
 pub add-runs-spec : {M : Type 1} → statement M
-add-runs-spec = tie.close (tie.spec Inv-loop μ-loop loop-holds at-requires add-run-requires add-i loop-less loop-again returns)
+add-runs-spec = tie.close (tie.spec Inv-loop μ-loop is-none-requires returns loop-holds at-requires add-run-requires add-i loop-less loop-again returns-2)

@@ -5,7 +5,7 @@
 //! - `lookup`: all 8 places are tried for a page, and all 8 lengths are counted;
 //! - `walk` and `soundness`: the test of soundness walks the areas along with the pages, and
 //!   goes over all places of runs;
-//! - `rewind`: one look-up for each front; runs are gathered from all 8 places;
+//! - `rewind`: one look-up for each front; runs are gathered area by area;
 //! - `compare`: the areas are compared first, and all bytes of two pages.
 
 #[path = "../unproved/areas.rs"]

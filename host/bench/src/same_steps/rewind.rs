@@ -26,12 +26,11 @@ pub fn rewind<const KEEPS_FRONTS: bool>(
     }
 }
 
-/// "the frames of each uncommitted anonymous area, if any, are .. kept as one run": of each of the
-/// 8 places in turn, whether it holds an area or none. The entries are those before the rewind,
-/// which then clears the frames.
+/// "the frames of each uncommitted anonymous area, if any, are .. kept as one run": of each area
+/// in turn. The entries are those before the rewind, which then clears the frames.
 pub fn gather(sandbox: &mut Sandbox, memory: &Memory, s: usize) {
     let mut runs = sandbox.runs;
-    for area in sandbox.present.list {
+    for area in &sandbox.present.list[..usize::from(sandbox.present.count)] {
         if area.attributes.is_spared() {
             let mut run = Held::NONE;
             for page in (area.first.0..area.end() as u8).map(PageNo) {
