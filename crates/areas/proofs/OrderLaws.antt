@@ -27,7 +27,8 @@ images-one images Anonymous n d k h = tt
 images-one images (Image first) n d k h = omega arith
 
 -- a place holds a proper area, or covers no page
-pub place-cases : (images : ℕ) (s : Areas) → WellFormed images s → (P : Area → Type 0) (k : ℕ) → ((a : Area) → Proper images a → P a) → P none → P (getD (s .list) k none)
+pub place-cases : (images : ℕ) (s : Areas) → WellFormed images s → (P : Area → Type 0) (k : ℕ)
+    → ((a : Area) → Proper images a → P a) → P none → P (getD (s .list) k none)
 place-cases images s w P k area gap = go (decLt k (s .count))
   where
     go : Dec (k < s .count) → P (getD (s .list) k none)
@@ -58,7 +59,8 @@ module _ (images : ℕ) (s : Areas) (w : WellFormed images s) where
   unfolding Bounded
   slots-bounded page h =
       slot-past (s .list) page
-      (λ k. place-cases images s w (λ a. covers a page ≡ false) k (λ a p. inside-past (a .first .0) (a .pages) page (omega (arith, p .inside))) (covers-none page))
+      (λ k. place-cases images s w (λ a. covers a page ≡ false) k
+      (λ a p. inside-past (a .first .0) (a .pages) page (omega (arith, p .inside))) (covers-none page))
 
 -- the image page behind a page exists
 pub order-image : (images : ℕ) (s : Slot) → InOrder images s → ImagesExist images (backingAt s) 1

@@ -237,7 +237,8 @@ module _ (n : ℕ) (h : Held) (t : List ℕ) (few : n ≤ 128) (e : length t ≡
       let names = named-same n h (λ k. getD t k 0) (from 0 t) (λ k. sym (from-zero t k)) w in
       let good : found .good ≡ true = well n few (from 0 t) (names .within) (names .once) 512 in
       let words = good-marks n few (from 0 t) 512 good in
-      let same : found .held ≡ h = held-ext (found .held) h (words .low) (words .high) a b (marks-same n (found .held) h (from 0 t) (named-all n few (from 0 t) 512 no-more good) names) in
+      let same : found .held ≡ h =
+      held-ext (found .held) h (words .low) (words .high) a b (marks-same n (found .held) h (from 0 t) (named-all n few (from 0 t) 512 no-more good) names) in
       and-of good (same-held-of (found .held) h same)
 
 -- ---- the code's loop

@@ -43,7 +43,8 @@ module _ (Q : Area → Type 0) (f : Slots) (alone : (n : ℕ) (t : Attributes) �
       → (k : ℕ) → k < push b n (f n) .areas .count → Q (getD (push b n (f n) .areas .list) k none)
   each-step n b w q =
       push-cases (λ p. (k : ℕ) → k < p .areas .count → Q (getD (p .areas .list) k none)) b n (f n) (λ e. q)
-      (λ t e c k d. set-case Q (b .areas .list) (b .areas .count - 1) k (longer (last (b .areas))) (omega (arith, w .eight, w .few, continues-some (b .areas) n t c))
+      (λ t e c k d. set-case Q (b .areas .list) (b .areas .count - 1) k (longer (last (b .areas)))
+      (omega (arith, w .eight, w .few, continues-some (b .areas) n t c))
       (λ z. joined (last (b .areas)) n t e (continues-last (b .areas) n t c) (q (b .areas .count - 1) (omega (arith, continues-some (b .areas) n t c))))
       (λ z. q k d))
       (λ t e c l k d. set-case Q (b .areas .list) (b .areas .count) k (single n t) (omega (arith, w .eight)) (λ z. alone n t e) (λ z. q k (omega arith)))
@@ -91,7 +92,8 @@ change-order images n d (Protect r) (Mapped t) k g h = record { rights = g; imag
 change-order images n d Commit Unmapped k g h = tt
 change-order images n d Commit (Mapped t) k g h = record { rights = h .rights; image = h .image }
 
-pub changed-order : (images : ℕ) (f : Slots) (first n : ℕ) (c : Change) → SensibleChange images n c → AllInOrder images f → AllInOrder images (changed f first n c)
+pub changed-order : (images : ℕ) (f : Slots) (first n : ℕ) (c : Change) → SensibleChange images n c → AllInOrder images f
+    → AllInOrder images (changed f first n c)
 unfolding AllInOrder
 changed-order images f first n c g o page =
     over-cases (InOrder images) first n (λ i. changeAt c (i - first) (f i)) f page

@@ -68,7 +68,8 @@ module _ (f : Slots) (n : ℕ) (s : Areas) (w : Fine f n s) where
         end = λ k h. omega (arith, w .end k h);
         apart = w .apart;
         goes = λ t. false-of (continues s (suc n) t)
-            (λ h. omega (arith, continues-last s (suc n) t h .end, continues-some s (suc n) t h, w .end (s .count - 1) (omega (arith, continues-some s (suc n) t h))))
+            (λ h.
+            omega (arith, continues-last s (suc n) t h .end, continues-some s (suc n) t h, w .end (s .count - 1) (omega (arith, continues-some s (suc n) t h))))
             ∙ rw e;
         counted = w .counted ∙ rw (e, add-zero);
       }

@@ -47,7 +47,8 @@ module _ {C : ℕ → Type 0} (size n : ℕ) (s : Store) (t : Tidy C size n s) (
           (λ m. absurd (m (t .filed .names .once i k f (sym (getD-set-other (s .table) k i 0 0 m) ∙ w) e))) (same-or i k) in
           let free-j : mid j ≡ 0 = getD-set-other (s .table) k j 0 0 (λ m. apart (sym m)) ∙ empty in
           let first : Named n (mark (s .marks) f 0) mid =
-          named-put n (s .marks) (entry s) mid k 0 f 0 (t .filed .few) (t .filed .names) (owner n (s .marks) (entry s) (t .filed .names) k f e) (fits-none f) (getD-clear (s .table) k)
+          named-put n (s .marks) (entry s) mid k 0 f 0 (t .filed .few) (t .filed .names) (owner n (s .marks) (entry s) (t .filed .names) k f e)
+          (fits-none f) (getD-clear (s .table) k)
           (λ i m. getD-set-other (s .table) k i 0 0 m) in
           let second : Named n (mark (mark (s .marks) f 0) f 1) (entry (move k j s)) =
           named-put n (mark (s .marks) f 0) mid (entry (move k j s)) j (suc f) f 1 (t .filed .few) first
@@ -93,7 +94,8 @@ pub record Moved (C : ℕ → Type 0) (size n first : ℕ) (s : Store) (i : ℕ)
   pub rest : (k : ℕ) → (k < first + i → k < first) → (first + 64 ≤ k → first + i + 64 ≤ k) → contents size r k ≡ contents size s k
   pub later : (k : ℕ) → first + i + 64 ≤ k → contents size r k ≡ contents size s k
 
-module _ {C : ℕ → Type 0} (size n first : ℕ) (s : Store) (t : Tidy C size n s) (place : first + 128 ≤ 512) (empty : (i : ℕ) → i < 64 → contents size s (first + i + 64) ≡ none) where
+module _ {C : ℕ → Type 0} (size n first : ℕ) (s : Store) (t : Tidy C size n s) (place : first + 128 ≤ 512)
+    (empty : (i : ℕ) → i < 64 → contents size s (first + i + 64) ≡ none) where
   move-step : (i : ℕ) (r : Store) → i < 64 → Moved C size n first s i r → Moved C size n first s (suc i) (move (first + i) (first + i + 64) r)
   move-step i r l m =
       let k : ℕ = first + i in

@@ -12,7 +12,8 @@ use Rattle.pages.specs.Parts.{setFrame}
 use Rattle.pages.proofs.PartLaws.{length-frame, length-setFrame}
 use Rattle.marks.proofs.NamedLaws.{same-or, by-entry}
 use Rattle.table.specs.Store.{Store, entry, contents, pageFrom, Tidy, Ranged, fill, rewindPage, rewound, rewindTo}
-use Rattle.table.proofs.StoreLaws.{contents-none, contents-some, page-whole, free-none, free-tidy, free-same, free-other, fill-none, fill-tidy, fill-same, fill-other}
+use Rattle.table.proofs.StoreLaws.{contents-none, contents-some, page-whole, free-none, free-tidy, free-same, free-other}
+use Rattle.table.proofs.StoreLaws.{fill-none, fill-tidy, fill-same, fill-other}
 use Rattle.table.proofs.FreeLaws.{Kept, unchanged-kept, room-of, free-kept}
 
 -- ---- one page
@@ -35,11 +36,13 @@ module _ {C : ℕ → Type 0} (size n : ℕ) (s : Store) (t : Tidy C size n s) (
 
 -- ---- the pages of a sandbox
 
-module _ {C : ℕ → Type 0} (size n first : ℕ) (keep : ℕ → Bool) (bytes : ℕ → List ℕ) (whole : (i : ℕ) → length (bytes i) ≡ size) (s : Store) (t : Tidy C size n s) where
+module _ {C : ℕ → Type 0} (size n first : ℕ) (keep : ℕ → Bool) (bytes : ℕ → List ℕ) (whole : (i : ℕ) → length (bytes i) ≡ size)
+    (s : Store) (t : Tidy C size n s) where
   pub rewindTo-tidy : (i : ℕ) → Tidy C size n (rewindTo size first keep bytes s i)
   unfolding rewindTo
   rewindTo-tidy zero = t
-  rewindTo-tidy (suc i) = rewindPage-tidy size n (rewindTo size first keep bytes s i) (rewindTo-tidy i) (first + i) (first + i + 64) (bytes i) (whole i) (keep i)
+  rewindTo-tidy (suc i) =
+      rewindPage-tidy size n (rewindTo size first keep bytes s i) (rewindTo-tidy i) (first + i) (first + i + 64) (bytes i) (whole i) (keep i)
 
   pub rewindTo-out : (i k : ℕ) → (k < first) ⊎ (first + i ≤ k) → contents size (rewindTo size first keep bytes s i) k ≡ contents size s k
   unfolding rewindTo
@@ -51,7 +54,8 @@ module _ {C : ℕ → Type 0} (size n first : ℕ) (keep : ℕ → Bool) (bytes 
 
   -- the backs are as before, so each front is rewound to the back of the store before
   pub rewindTo-in : (i k : ℕ) → i ≤ 64 → k < i
-      → contents size (rewindTo size first keep bytes s i) (first + k) ≡ rewound (keep k) (bytes k) (contents size s (first + k + 64)) (contents size s (first + k))
+      → contents size (rewindTo size first keep bytes s i) (first + k)
+      ≡ rewound (keep k) (bytes k) (contents size s (first + k + 64)) (contents size s (first + k))
   unfolding rewindTo
   rewindTo-in zero k a b = absurd (omega arith)
   rewindTo-in (suc i) k a b =
@@ -59,7 +63,8 @@ module _ {C : ℕ → Type 0} (size n first : ℕ) (keep : ℕ → Bool) (bytes 
       (λ m. rw m
       (rewindPage-same size n (rewindTo size first keep bytes s i) (rewindTo-tidy i) (first + i) (first + i + 64) (bytes i) (whole i) (keep i)
       ∙ ap₂ (rewound (keep i) (bytes i)) (rewindTo-out i (first + i + 64) (inr (omega arith))) (rewindTo-out i (first + i) (inr (omega arith)))))
-      (λ m. rewindPage-other size n (rewindTo size first keep bytes s i) (rewindTo-tidy i) (first + i) (first + i + 64) (bytes i) (whole i) (keep i) (first + k) (λ r. m (omega arith))
+      (λ m. rewindPage-other size n (rewindTo size first keep bytes s i) (rewindTo-tidy i) (first + i) (first + i + 64) (bytes i) (whole i) (keep i)
+      (first + k) (λ r. m (omega arith))
       ∙ rewindTo-in i k (omega arith) (omega arith)) (same-or k i)
 
 -- ---- what the loop carries along
@@ -74,7 +79,8 @@ fill-kept size k ys s g w =
     rw (ne-eqb (entry s k) 0 (omega arith), m)
     (record { pool = same; table = refl; ranged = record { entries = g .entries; few = g .few; room = λ i. rw same (g .room i) } }))
 
-pub rewind-kept : (size k j : ℕ) (keep : Bool) (ys : List ℕ) (s : Store) → Ranged size (s .pool) (s .table) → length ys ≡ size → Kept size s (rewindPage size k j keep ys s)
+pub rewind-kept : (size k j : ℕ) (keep : Bool) (ys : List ℕ) (s : Store) → Ranged size (s .pool) (s .table) → length ys ≡ size
+    → Kept size s (rewindPage size k j keep ys s)
 unfolding rewindPage
 rewind-kept size k j true ys s g w =
     fill-kept size k (pageFrom ys (contents size s j)) s g
@@ -83,7 +89,8 @@ rewind-kept size k j true ys s g w =
     (λ f e. rw (contents-some size s j f e) (length-frame size (s .pool) f (room-of size s g j f e))))
 rewind-kept size k j false ys s g w = free-kept size k s g
 
-pub rewind-kept-as : (size k j : ℕ) (keep : Bool) (ys : List ℕ) (s r : Store) → r ≡ rewindPage size k j keep ys s → Ranged size (s .pool) (s .table) → length ys ≡ size → Kept size s r
+pub rewind-kept-as : (size k j : ℕ) (keep : Bool) (ys : List ℕ) (s r : Store) → r ≡ rewindPage size k j keep ys s → Ranged size (s .pool) (s .table) → length ys ≡ size
+    → Kept size s r
 rewind-kept-as size k j keep ys s r e g w = rw e (rewind-kept size k j keep ys s g w)
 
 -- a turn of the loop

@@ -25,11 +25,14 @@ more c =
     let l = c .before .before .before .before .before .loop in
     stand-more (s .args .t1) (s .pre .0) (l .i) (l .place) (l .area) (l .inv .2) (c .before .is-left .result) (c .before .is-left .ensures) (c .if1 .taken)
 
-walked : (c : tie.Joined1 Inv-loop μ-loop) → Standing (c .before .before .before .before .before .before .before .before .args .t1) (c .before .before .before .before .before .loop .i + 1) (c .if1 .place) (c .if1 .area)
+walked : (c : tie.Joined1 Inv-loop μ-loop)
+    → Standing (c .before .before .before .before .before .before .before .before .args .t1) (c .before .before .before .before .before .loop .i + 1)
+    (c .if1 .place) (c .if1 .area)
 walked c =
     let s = c .before .before .before .before .before .before .before .before in
     let l = c .before .before .before .before .before .loop in
-    stand-next (s .args .t1) (s .pre .0) (l .i) (l .place) (l .area) (l .inv .2) (c .before .is-left .result) (c .if1 .place) (c .if1 .area) (c .before .is-left .ensures)
+    stand-next (s .args .t1) (s .pre .0) (l .i) (l .place) (l .area) (l .inv .2) (c .before .is-left .result) (c .if1 .place) (c .if1 .area)
+    (c .before .is-left .ensures)
     (⊎-elim (λ w. inl (w .0 .taken, w .2, w .3)) (λ w. inr (w .0 .left, w .1, w .2)) (c .if1 .came))
 
 start-requires : tie.Need-start-requires Inv-loop μ-loop
@@ -73,7 +76,8 @@ is-mapped-requires : tie.Need-is-mapped-requires Inv-loop μ-loop
 is-mapped-requires c κs = tt
 
 push-requires : tie.Need-push-requires Inv-loop μ-loop
-push-requires c κs = (rw (c .before .before .before .before .before .before .before .loop .inv .1) (count-pack _ _), c .before .before .before .before .before .before .loop-test .taken)
+push-requires c κs =
+    (rw (c .before .before .before .before .before .before .before .loop .inv .1) (count-pack _ _), c .before .before .before .before .before .before .loop-test .taken)
 
 add-i : tie.Need-add-i Inv-loop μ-loop
 add-i c = omega arith
@@ -88,7 +92,8 @@ loop-again c =
     let slot = c .before .before .before .before .slot in
     let pushed =
     repack-step (slots (s .args .t1)) _ _ (s .args .change) _ _ _ _ (l .inv .1)
-    (c .before .before .before .before .before .slot-here .ensures ∙ sym (stand-slot (s .args .t1) (s .pre .0) (l .i) (l .place) (l .area) (l .inv .2))) (slot .ensures) in (
+    (c .before .before .before .before .before .slot-here .ensures ∙ sym (stand-slot (s .args .t1) (s .pre .0) (l .i) (l .place) (l .area) (l .inv .2)))
+    (slot .ensures) in (
       omega arith,
       ⊎-elim (λ w. w .2 ∙ w .1 .ensures ∙ pushed)
           (λ w. w .1 ∙ sym (push-none (l .packed) (l .i) (slot .result) (sym (c .before .is-mapped .ensures) ∙ w .0 .left)) ∙ pushed) (c .if2 .came),
