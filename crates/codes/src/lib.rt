@@ -61,5 +61,6 @@ pub fn refusal_number(why: Refusal) -> u8
         Refusal::NotWritable => 12,
         Refusal::ShareExceeded => 13,
         Refusal::TooManyAreas => 14,
+        Refusal::OutputTooShort => 15,
     }
 }

@@ -1,8 +1,9 @@
 // A start, and then a call at a time, for a host that plays no roll: the state is bytes that the host lends, as it lends pool and table.
 // Nothing is asked of what is lent. A wrong length and bytes that are no state's are refusal 3 (2 where the code is no call), and nothing changes.
 ghost use mathlib.Core.Path.{_≡_};
+ghost use Rattle.interface.specs.Requests.{requestOf};
 ghost use Rattle.layout.specs.Layout.{stateSize};
-ghost use Rattle.stepwise.specs.Calls.{handed, requestOf, startNumber, startHands, Called};
+ghost use Rattle.stepwise.specs.Calls.{handed, startNumber, startHands, Called};
 use interface::request::Request;
 use layout::size::Size;
 use stepwise::Told;

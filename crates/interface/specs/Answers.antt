@@ -3,7 +3,7 @@ use Prim.Native.Nat.{ℕ}
 use Rattle.interface.specs.declared.answer.Refusal.{Refusal}
 use Rattle.interface.specs.declared.answer.Refusal.the-variants.{Malformed, NoSuchCall, Unsound, NotOpen, AlreadyOpen, OutsideLimits}
 use Rattle.interface.specs.declared.answer.Refusal.the-variants.{SnapshotTaken, NoSnapshot, NotMapped, AlreadyMapped, NoGap, NotWritable}
-use Rattle.interface.specs.declared.answer.Refusal.the-variants.{ShareExceeded, TooManyAreas}
+use Rattle.interface.specs.declared.answer.Refusal.the-variants.{ShareExceeded, TooManyAreas, OutputTooShort}
 use Rattle.interface.specs.declared.answer.Answer.{Answer}
 use Rattle.interface.specs.declared.answer.Answer.the-variants.{Value, Refused}
 
@@ -23,6 +23,7 @@ refusalNumber NoGap = 11
 refusalNumber NotWritable = 12
 refusalNumber ShareExceeded = 13
 refusalNumber TooManyAreas = 14
+refusalNumber OutputTooShort = 15
 
 -- "refusal number or 0"
 abbrev pub numberOf : Answer → ℕ

@@ -69,3 +69,15 @@ refusal v q =
     -- "more than 8 areas would result"
     14 when ltb 8 (areas (slotsThen v q)) else
     0
+
+-- Request A9, the roll for the archive box, which is asked for by no call: of a sandbox, the bytes of its roll and those of the output memory. The first row
+-- that applies, or 0; rows 3, 4 and 8 are those of the calls.
+unfoldable pub archiveRefusal : View → ℕ → ℕ → ℕ → ℕ
+archiveRefusal v sandbox bytes room =
+    -- "sandbox above 3; or, but for open, not open"
+    4 when ltb 3 sandbox || not (v .opened) else
+    -- "Without a snapshot it is refusal 8"
+    8 when not (isTaken (v .copy)) else
+    -- "Turned away: 15, output memory shorter than the roll, after 14."
+    15 when ltb room bytes else
+    0

@@ -7,6 +7,10 @@ use Rattle.interface.specs.declared.page.Backing.{Backing}
 use Rattle.interface.specs.declared.page.Backing.the-variants.{Anonymous, Image}
 use Rattle.interface.specs.declared.request.Request.{Request}
 
+-- the request with these numbers
+abbrev pub requestOf : ℕ → ℕ → ℕ → ℕ → ℕ → ℕ → ℕ → Request
+requestOf code sandbox p1 p2 p3 p4 p5 = record { code = code; sandbox = sandbox; p1 = p1; p2 = p2; p3 = p3; p4 = p4; p5 = p5 }
+
 -- "The calls", numbered as there
 abbrev pub Open : ℕ
 Open = 1

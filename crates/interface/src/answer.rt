@@ -1,6 +1,6 @@
 // An answer: a value, or a refusal.
 
-// Why a request is refused: the rows of "Turned back", in its order.
+// Why a request is refused: the rows of "Turned back", in its order. The last is the archive's alone (request A9); no call is refused so.
 pub enum Refusal {
     Malformed,
     NoSuchCall,
@@ -16,6 +16,7 @@ pub enum Refusal {
     NotWritable,
     ShareExceeded,
     TooManyAreas,
+    OutputTooShort,
 }
 
 // What a call answers.

@@ -11,6 +11,7 @@ use Rattle.basics.proofs.TestLaws.{and-left, and-right, and-of}
 use Rattle.interface.specs.declared.answer.Refusal.{Refusal}
 use Rattle.interface.specs.declared.answer.Refusal.the-variants.{Malformed, NoSuchCall, Unsound, NotOpen, AlreadyOpen, OutsideLimits, SnapshotTaken}
 use Rattle.interface.specs.declared.answer.Refusal.the-variants.{NoSnapshot, NotMapped, AlreadyMapped, NoGap, NotWritable, ShareExceeded, TooManyAreas}
+use Rattle.interface.specs.declared.answer.Refusal.the-variants.{OutputTooShort}
 use Rattle.interface.specs.declared.request.Request.{Request}
 use Rattle.interface.specs.Answers.{refusalNumber}
 use Rattle.interface.specs.Requests.{Write, isCall, pageOf}
@@ -49,6 +50,7 @@ some-number NoGap = refl
 some-number NotWritable = refl
 some-number ShareExceeded = refl
 some-number TooManyAreas = refl
+some-number OutputTooShort = refl
 
 module _ (image : List ℕ) (w : World) (q : Request) where
   -- a refused call

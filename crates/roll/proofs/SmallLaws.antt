@@ -14,6 +14,7 @@ use Rattle.interface.specs.declared.request.Request.{Request}
 use Rattle.interface.specs.declared.answer.Refusal.{Refusal}
 use Rattle.interface.specs.declared.answer.Refusal.the-variants.{Malformed, NoSuchCall, Unsound, NotOpen, AlreadyOpen, OutsideLimits, SnapshotTaken}
 use Rattle.interface.specs.declared.answer.Refusal.the-variants.{NoSnapshot, NotMapped, AlreadyMapped, NoGap, NotWritable, ShareExceeded, TooManyAreas}
+use Rattle.interface.specs.declared.answer.Refusal.the-variants.{OutputTooShort}
 use Rattle.interface.specs.declared.answer.Answer.{Answer}
 use Rattle.interface.specs.declared.answer.Answer.the-variants.{Value, Refused}
 use Rattle.interface.specs.declared.page.Backing.{Backing}
@@ -132,8 +133,8 @@ module _ (image : List ℕ) (w : World) (q : Request) (t : Bytes image) (u : Byt
       rw (s .equals)
       (when-cases (λ x. x ≤ 65535) (eqb (numberAt image w q) 0) (λ e. value-low (eqb-true (numberAt image w q) 0 e)) (λ _. omega arith))
 
--- "Turned back" has 14 rows
-refusal-small : (r : Refusal) → refusalNumber r ≤ 14
+-- "Turned back" has 14 rows, and the archive one more
+refusal-small : (r : Refusal) → refusalNumber r ≤ 15
 refusal-small Malformed = omega arith
 refusal-small NoSuchCall = omega arith
 refusal-small Unsound = omega arith
@@ -148,8 +149,9 @@ refusal-small NoGap = omega arith
 refusal-small NotWritable = omega arith
 refusal-small ShareExceeded = omega arith
 refusal-small TooManyAreas = omega arith
+refusal-small OutputTooShort = omega arith
 
-number-small : (a : Answer) → numberOf a ≤ 14
+number-small : (a : Answer) → numberOf a ≤ 15
 number-small (Value v) = omega arith
 number-small (Refused r) = refusal-small r
 

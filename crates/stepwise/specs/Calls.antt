@@ -34,9 +34,6 @@ handsOf w = handed (stateBytes (machineOf w)) (w .store .pool) (w .store .table)
 abbrev pub worldIn : Handed → World
 worldIn h = worldOf (stateFrom (h .state)) (h .pool) (h .table)
 
-abbrev pub requestOf : ℕ → ℕ → ℕ → ℕ → ℕ → ℕ → ℕ → Request
-requestOf code sandbox p1 p2 p3 p4 p5 = record { code = code; sandbox = sandbox; p1 = p1; p2 = p2; p3 = p3; p4 = p4; p5 = p5 }
-
 -- an answer's number and value
 abbrev pub toldBy : Answer → Told
 toldBy a = record { number = numberOf a; value = valueOf a }

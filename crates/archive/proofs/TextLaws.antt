@@ -1,0 +1,122 @@
+-- The lines of an archive roll: every number fits its field, and there are not more lines than are read.
+use Prim.Native.Nat.{ℕ, zero, suc, _*_, _/_, _%_, _≤_, _<_}
+use mathlib.Core.Path.{_≡_, refl, sym, ap, _∙_}
+use mathlib.Core.Bool.{Bool, true, _&&_}
+use mathlib.Core.List.{List, [], _∷_, _++_, append-assoc}
+use native.Mathlib.Omega.{arith}
+use lib.Dec.{eqb}
+use lib.ListN.{length, length-append}
+use borrow.Author.Tests.{not-true}
+use Rattle.basics.proofs.TestLaws.{when-cases, and-left, and-right}
+use Rattle.interface.specs.declared.page.Backing.{Backing}
+use Rattle.interface.specs.declared.page.Backing.the-variants.{Anonymous, Image}
+use Rattle.interface.specs.declared.request.Request.{Request}
+use Rattle.interface.specs.Slots.{isMapped, rightsAt, backingAt, startsArea}
+use Rattle.lines.specs.Prints.{UpTo, numbersOf, printedRequest}
+use Rattle.lines.specs.Lines.{linesOf}
+use Rattle.lines.proofs.PrintLaws.{length-request}
+use Rattle.plain.specs.Machine.{Pages}
+use Rattle.archive.specs.Archive.{joined, only, kindOf, firstImage, mapAt, maps, differs, writeAt, writes, protectAt, protects, closing, archive}
+use Rattle.archive.specs.Claims.{HasImage, IsSnapshot}
+use Rattle.archive.specs.Text.{printedRoll, Sayable}
+use Rattle.archive.proofs.MapLaws.{start-inside, start-mapped}
+
+-- ---- the text
+
+pub length-roll : (l : List Request) → length (printedRoll l) ≡ length l * 43
+unfolding printedRoll
+length-roll [] = refl
+length-roll (q ∷ l) = length-append (printedRequest q) (printedRoll l) ∙ omega (arith, length-request q, length-roll l)
+
+pub lines-of-roll : (l : List Request) → length l ≤ 65535 → linesOf (length (printedRoll l)) ≡ length l
+unfolding linesOf
+lines-of-roll l h = rw (length-roll l) (omega arith)
+
+pub printed-append : (l m : List Request) → printedRoll (l ++ m) ≡ printedRoll l ++ printedRoll m
+unfolding printedRoll
+printed-append [] m = refl
+printed-append (q ∷ l) m = ap (λ x. printedRequest q ++ x) (printed-append l m) ∙ sym (append-assoc (printedRequest q) (printedRoll l) (printedRoll m))
+
+-- ---- every number fits
+
+sayable-append : (l m : List Request) → Sayable l → Sayable m → Sayable (l ++ m)
+sayable-append [] m h k = k
+sayable-append (q ∷ l) m h k = (h .0, sayable-append l m (h .1) k)
+
+sayable-joined : (f : ℕ → List Request) (n : ℕ) → ((i : ℕ) → i < n → Sayable (f i)) → Sayable (joined f n)
+unfolding joined
+sayable-joined f zero h = tt
+sayable-joined f (suc n) h = sayable-append (joined f n) (f n) (sayable-joined f n (λ i l. h i (omega arith))) (h n (omega arith))
+
+sayable-only : (b : Bool) (q : Request) → (b ≡ true → UpTo 65535 (numbersOf q)) → Sayable (only b q)
+sayable-only b q h = when-cases Sayable b (λ t. (h t, tt)) (λ _. tt)
+
+seven : {a b c d e f g : ℕ} → a ≤ 65535 → b ≤ 65535 → c ≤ 65535 → d ≤ 65535 → e ≤ 65535 → f ≤ 65535 → g ≤ 65535
+    → UpTo 65535 (a ∷ b ∷ c ∷ d ∷ e ∷ f ∷ g ∷ [])
+seven a b c d e f g = (a, (b, (c, (d, (e, (f, (g, tt)))))))
+
+kind-small : (b : Backing) → kindOf b ≤ 1
+kind-small Anonymous = omega arith
+kind-small (Image p) = omega arith
+
+image-small : (images : ℕ) (b : Backing) → images ≤ 64 → HasImage images b → firstImage b ≤ 64
+image-small images Anonymous h k = omega arith
+image-small images (Image p) h k = omega arith
+
+module _ (s share : ℕ) (d : Pages) (image : List ℕ) (row : s ≤ 3) (h : IsSnapshot image share d) where
+  module _ (images : length image / 256 ≤ 64) where
+    maps-sayable : Sayable (maps s (d .slots))
+    unfolding maps
+    maps-sayable =
+        sayable-joined (λ i. only (startsArea (d .slots) i) (mapAt s (d .slots) i)) 64
+        (λ i l. sayable-only (startsArea (d .slots) i) (mapAt s (d .slots) i) (λ t.
+        let inside = start-inside (d .slots) i l t in
+        let kind = kind-small (backingAt (d .slots i)) in
+        let first = image-small (length image / 256) (backingAt (d .slots i)) images (h .order .backing i (start-mapped (d .slots) i l t)) in
+        seven (omega arith) (omega arith) (omega arith) (omega arith) (omega arith) (omega arith) (omega arith)))
+
+  writes-sayable : Sayable (writes s image d)
+  unfolding writes
+  writes-sayable =
+      sayable-joined (λ a. only (differs image d (a / 256) (a % 256)) (writeAt s d a)) 16384
+      (λ a l. sayable-only (differs image d (a / 256) (a % 256)) (writeAt s d a) (λ t.
+      let byte = h .order .bytes (a / 256) (a % 256) (and-left (isMapped (d .slots (a / 256))) _ t) (not-true _ (and-right (isMapped (d .slots (a / 256))) _ t)) in
+      seven (omega arith) (omega arith) (omega arith) (omega arith) (omega arith) (omega arith) (omega arith)))
+
+  protects-sayable : Sayable (protects s (d .slots))
+  unfolding protects
+  protects-sayable =
+      sayable-joined (λ i. only (startsArea (d .slots) i && eqb (rightsAt (d .slots i)) 1) (protectAt s (d .slots) i)) 64
+      (λ i l. sayable-only (startsArea (d .slots) i && eqb (rightsAt (d .slots i)) 1) (protectAt s (d .slots) i) (λ t.
+      let inside = start-inside (d .slots) i l (and-left (startsArea (d .slots) i) _ t) in
+      seven (omega arith) (omega arith) (omega arith) (omega arith) (omega arith) (omega arith) (omega arith)))
+
+  pub archive-sayable : length image / 256 ≤ 64 → Sayable (archive s share d image)
+  unfolding archive
+  archive-sayable images =
+      let most = h .most in (
+        seven (omega arith) (omega arith) (omega arith) (omega arith) (omega arith) (omega arith) (omega arith),
+        sayable-append (maps s (d .slots)) _ (maps-sayable images)
+            (sayable-append (writes s image d) _ writes-sayable
+            (sayable-append (protects s (d .slots)) (closing s) protects-sayable
+            (seven (omega arith) (omega arith) (omega arith) (omega arith) (omega arith) (omega arith) (omega arith), tt))),
+      )
+
+-- ---- how many lines
+
+pub only-length : {A : Type 0} (b : Bool) (x : A) → length (only b x) ≤ 1
+only-length b x = when-cases (λ l. length l ≤ 1) b (λ _. omega arith) (λ _. omega arith)
+
+pub joined-length : {A : Type 0} (f : ℕ → List A) (n : ℕ) → ((i : ℕ) → length (f i) ≤ 1) → length (joined f n) ≤ n
+unfolding joined
+joined-length f zero h = omega arith
+joined-length f (suc n) h = rw (length-append (joined f n) (f n)) (omega (arith, h n, joined-length f n h))
+
+-- at most 64 maps, a write for each address, and at most 64 protects: more than there can be, and fewer than are read
+pub archive-length : (s share : ℕ) (d : Pages) (image : List ℕ) → length (archive s share d image) ≤ 16514
+unfolding archive maps writes protects
+archive-length s share d image =
+    let m = joined-length (λ i. only (startsArea (d .slots) i) (mapAt s (d .slots) i)) 64 (λ i. only-length (startsArea (d .slots) i) (mapAt s (d .slots) i)) in
+    let w = joined-length (λ a. only (differs image d (a / 256) (a % 256)) (writeAt s d a)) 16384 (λ a. only-length (differs image d (a / 256) (a % 256)) (writeAt s d a)) in
+    let p = joined-length (λ i. only (startsArea (d .slots) i && eqb (rightsAt (d .slots i)) 1) (protectAt s (d .slots) i)) 64 (λ i. only-length (startsArea (d .slots) i && eqb (rightsAt (d .slots i)) 1) (protectAt s (d .slots) i)) in
+    simp length-append (omega (arith, m, w, p))

@@ -1,0 +1,82 @@
+-- What is claimed of an archive roll.
+use Prim.Native.Nat.{ℕ, _*_, _/_, _≤_, _<_}
+use mathlib.Core.Path.{_≡_}
+use mathlib.Core.Bool.{true, false}
+use mathlib.Core.List.{List, [], _∷_}
+use mathlib.Core.Option.{some}
+use lib.Dec.{eqb}
+use lib.ListN.{length}
+use Rattle.interface.specs.declared.page.Backing.{Backing}
+use Rattle.interface.specs.declared.page.Backing.the-variants.{Anonymous, Image}
+use Rattle.interface.specs.declared.request.Request.{Request}
+use Rattle.interface.specs.Answers.{Answered}
+use Rattle.interface.specs.Slots.{isMapped, isCommitted, rightsAt, backingAt, areas, mappedPages}
+use Rattle.interface.specs.Limits.{rightsOk}
+use Rattle.plain.specs.Machine.{Given, Pages, fresh, backingByte, answers}
+use Rattle.plain.specs.Lists.{upTo}
+use Rattle.archive.specs.Archive.{archive}
+
+-- every call was accepted
+abbrev pub AllTaken : List Answered → Type 0
+AllTaken [] = Unit {0}
+AllTaken (a ∷ l) = (a .number ≡ 0) × AllTaken l
+
+-- "equal .. in mappings, rights and bytes": "Its mappings are its mapped pages with their backing; its bytes are what these pages read."
+-- (The marks agree too.)
+pub record Alike (d e : Pages) : Type 0 where
+  pub slots : d .slots ≡ e .slots
+  pub bytes : (i j : ℕ) → isMapped (d .slots i) ≡ true → j < 256 → d .bytes i j ≡ e .bytes i j
+
+-- an image page with this backing exists
+abbrev pub HasImage : ℕ → Backing → Type 0
+HasImage images Anonymous = Unit {0}
+HasImage images (Image p) = p .0 < images
+
+-- pages of which each has rights 1 or 3, an image page that exists, and in each place the byte that its backing has there, or a byte that a write put there
+pub record InOrder (image : List ℕ) (d : Pages) : Type 0 where
+  pub rights : (i : ℕ) → isMapped (d .slots i) ≡ true → rightsOk (rightsAt (d .slots i)) ≡ true
+  pub backing : (i : ℕ) → isMapped (d .slots i) ≡ true → HasImage (length image / 256) (backingAt (d .slots i))
+  pub bytes : (i j : ℕ) → isMapped (d .slots i) ≡ true → eqb (d .bytes i j) (backingByte image (backingAt (d .slots i)) j) ≡ false → d .bytes i j < 256
+
+-- what a snapshot of a sandbox with this share is
+pub record IsSnapshot (image : List ℕ) (share : ℕ) (d : Pages) : Type 0 where
+  pub least : 1 ≤ share
+  pub most : share ≤ 128
+  pub order : InOrder image d
+  pub inside : (i : ℕ) → isMapped (d .slots i) ≡ true → i < 64
+  pub marked : (i : ℕ) → isMapped (d .slots i) ≡ true → isCommitted (d .slots i) ≡ true
+  pub charged : 2 * mappedPages (d .slots) ≤ share
+  pub few : areas (d .slots) ≤ 8
+
+-- a snapshot that occurs: sandbox s after some list has this share and this copy
+pub record Occurs (g : Given) (s share : ℕ) (d : Pages) : Type 0 where
+  pub list : List Request
+  pub row : s ≤ 3
+  pub shared : upTo g list s .core .share ≡ share
+  pub copy : upTo g list s .core .copy ≡ some d
+
+-- "Played from a fresh state with the same image and pool, the roll gives a sandbox whose snapshot and present pages both equal the written snapshot in
+-- mappings, rights and bytes." Every line of it is accepted, and the sandbox has the share that the first names.
+pub record Rebuilds (g : Given) (s share : ℕ) (d : Pages) (roll : List Request) : Type 0 where
+  pub taken : AllTaken (answers g fresh roll)
+  pub pages : Pages
+  pub shared : upTo g roll s .core .share ≡ share
+  pub present : upTo g roll s .core .pages ≡ pages
+  pub copy : upTo g roll s .core .copy ≡ some pages
+  pub alike : Alike pages d
+
+abbrev pub Replay : Given → Type 0
+Replay g = (s share : ℕ) (d : Pages) → Occurs g s share d → Rebuilds g s share d (archive s share d (g .image))
+
+-- "Two snapshots under one image give equal rolls only if they agree in these."
+abbrev pub OnlyIf : List ℕ → Type 0
+OnlyIf image =
+    (frames₁ frames₂ s₁ s₂ share₁ share₂ : ℕ) (d₁ d₂ : Pages)
+    → Occurs (record { image = image; frames = frames₁ }) s₁ share₁ d₁
+    → Occurs (record { image = image; frames = frames₂ }) s₂ share₂ d₂
+    → archive s₁ share₁ d₁ image ≡ archive s₂ share₂ d₂ image
+    → Alike d₁ d₂
+
+-- and those that agree in these give equal rolls, of one sandbox with one share
+abbrev pub IfAlike : Type 0
+IfAlike = (s share : ℕ) (d e : Pages) (image : List ℕ) → Alike d e → archive s share d image ≡ archive s share e image

@@ -1,0 +1,5 @@
+-- In reading order.
+pub mod Archive
+pub mod Text
+pub mod Written
+pub mod Claims

@@ -1,0 +1,265 @@
+-- The machine's snapshot is the plain machine's copy; so the claims about rolls of the plain machine hold of the machine that runs.
+use Prim.Native.Nat.{ℕ, _*_, _<_}
+use mathlib.Core.Path.{_≡_, refl, sym, ap, ap₂, _∙_}
+use mathlib.Core.Bool.{Bool, true, false, false≢true, not, _||_}
+use mathlib.Core.List.{List}
+use mathlib.Core.Option.{Option, some, none}
+use native.Mathlib.Omega.{arith}
+use lib.Dec.{eqb, ltb}
+use lib.ListN.{length}
+use borrow.Author.Tests.{ltb-true, ltb-false}
+use Rattle.basics.proofs.TestLaws.{by-cases, or-left}
+use Rattle.interface.specs.declared.request.Request.{Request}
+use Rattle.interface.specs.Answers.{Answered}
+use Rattle.interface.specs.Slots.{isMapped, copied}
+use Rattle.interface.specs.Refusals.{View, isTaken, archiveRefusal}
+use Rattle.pages.specs.Parts.{listed}
+use Rattle.pages.proofs.ListedLaws.{listed-at, listed-same}
+use Rattle.areas.specs.Areas.{slots}
+use Rattle.state.specs.World.{World, sandboxAt, viewAt}
+use Rattle.state.specs.Test.{soundb}
+use Rattle.content.specs.Content.{copyRead}
+use Rattle.plain.specs.Machine.{Given, Pages, copySlots, viewOf, shares}
+use Rattle.plain.specs.Lists.{upTo}
+use Rattle.claims.specs.Demands.{RunFrom}
+use Rattle.simulation.specs.Lent.{Lent}
+use Rattle.simulation.specs.Agrees.{Agrees}
+use Rattle.simulation.proofs.ReadSteps.{copy-read, page-read}
+use Rattle.simulation.proofs.SoundLaws.{frames-same, shares-same, agrees-tested}
+use Rattle.simulation.proofs.Simulate.{view-at}
+use Rattle.claims.proofs.Runs.{list-agrees, demand-2}
+use Rattle.archive.specs.Archive.{archive}
+use Rattle.archive.specs.Text.{Sayable, printedRoll}
+use Rattle.archive.specs.Written.{Written, writtenAs, rollOf, plainWritten}
+use Rattle.archive.specs.Claims.{AllTaken, Alike, Occurs, Rebuilds}
+use Rattle.archive.proofs.Replay.{replay, only-if, is-snapshot, alike-sym, alike-trans, archive-alike}
+use Rattle.archive.proofs.TextLaws.{archive-sayable, archive-length, lines-of-roll}
+use Rattle.replay.specs.Snapshot.{snapshotOf, archiveOf, archiveNumber, written}
+use Rattle.replay.specs.Claims.{After, Snapped, WrittenAsPlain, Rebuilt, ReplayOf, AgainOf, OnlyIfOf, IfAlikeOf, Text, TextOf, Archived}
+use Rattle.replay.proofs.TextLaws.{roll-read, roll-one}
+
+taken-some : (o : Option Pages) → isTaken o ≡ true → (d : Pages) × (o ≡ some d)
+taken-some none h = absurd (false≢true h)
+taken-some (some d) h = (d, refl)
+
+-- ---- the snapshot of the world after a list is the plain machine's copy
+
+module _ (g : Given) (L : Lent g) (s : ℕ) (w : World) (S : Snapped g s w) where
+  abbrev qs : List Request
+  qs = S .after .list
+
+  agrees : Agrees (λ f. Unit {0}) g w (upTo g qs)
+  agrees = list-agrees g L qs (S .after .answers) w (S .after .run)
+
+  has-copy : (d : Pages) × (upTo g qs s .core .copy ≡ some d)
+  has-copy = taken-some (upTo g qs s .core .copy) (sym (agrees .each s (S .row) .taken) ∙ S .taken)
+
+  pub copy : Pages
+  copy = has-copy .0
+
+  pub is-copy : upTo g qs s .core .copy ≡ some copy
+  unfolding copy
+  is-copy = has-copy .1
+
+  pub occurs : Occurs g s (sandboxAt w s .share) copy
+  occurs = record { list = qs; row = omega (arith, S .row); shared = sym (agrees .each s (S .row) .share); copy = is-copy }
+
+  copy-slots : copied (copySlots (upTo g qs s .core)) ≡ copy .slots
+  copy-slots = rw is-copy
+
+  snapshot-bytes : (i : ℕ) → isMapped (copy .slots i) ≡ true → copyRead (g .image) (w .store) (sandboxAt w s) s i ≡ listed 256 (copy .bytes i)
+  snapshot-bytes i m =
+      let there : isMapped (copied (copySlots (upTo g qs s .core)) i) ≡ true = rw copy-slots m in
+      let inside = agrees .holds .each s .copyInside i there in
+      copy-read g L (w .store) s (sandboxAt w s) (upTo g qs s) (agrees .holds .each s) (agrees .reads s) (agrees .each s (S .row)) i inside there ∙ rw is-copy
+
+  pub snapshot-slots : slots (sandboxAt w s .snapshot) ≡ copy .slots
+  snapshot-slots = agrees .each s (S .row) .copy ∙ copy-slots
+
+  pub snapshot-alike : Alike (snapshotOf (g .image) w s) copy
+  snapshot-alike = record {
+    slots = snapshot-slots;
+    bytes = λ i j m b. rw (snapshot-bytes i (rw snapshot-slots at m)) (listed-at 256 (copy .bytes i) j b);
+  }
+
+  abbrev roll : List Request
+  roll = archive s (sandboxAt w s .share) copy (g .image)
+
+  pub same-roll : archiveOf (g .image) w s ≡ roll
+  same-roll = archive-alike s (sandboxAt w s .share) (snapshotOf (g .image) w s) copy (g .image) snapshot-alike
+
+  pub sayable : Sayable (archiveOf (g .image) w s)
+  sayable =
+      rw same-roll
+      (archive-sayable s (sandboxAt w s .share) copy (g .image) (omega (arith, S .row)) (is-snapshot g s (sandboxAt w s .share) copy occurs) (L .images))
+
+  text : Text (archiveOf (g .image) w s)
+  text = record {
+    whole = lines-of-roll (archiveOf (g .image) w s) (omega (arith, archive-length s (sandboxAt w s .share) (snapshotOf (g .image) w s) (g .image)));
+    read = λ rest. roll-read (archiveOf (g .image) w s) rest sayable;
+    one = roll-one (archiveOf (g .image) w s);
+  }
+
+  -- ---- played from the start
+
+  module _ (bs : List Answered) (v : World) (run : RunFrom g (archiveOf (g .image) w s) bs v) where
+    rebuilds : Rebuilds g s (sandboxAt w s .share) copy roll
+    rebuilds = replay g s (sandboxAt w s .share) copy occurs
+
+    run-of-roll : RunFrom g roll bs v
+    run-of-roll = rw same-roll at run
+
+    again : Agrees (λ f. Unit {0}) g v (upTo g roll)
+    again = list-agrees g L roll bs v run-of-roll
+
+    all-taken : AllTaken bs
+    all-taken = rw (demand-2 g L roll bs v run-of-roll) (rebuilds .taken)
+
+    new-copy : slots (sandboxAt v s .snapshot) ≡ slots (sandboxAt w s .snapshot)
+    new-copy = again .each s (S .row) .copy ∙ rw (rebuilds .copy) (rebuilds .alike .slots) ∙ sym snapshot-slots
+
+    new-present : slots (sandboxAt v s .present) ≡ slots (sandboxAt w s .snapshot)
+    new-present = again .each s (S .row) .present ∙ ap (λ (d : Pages). d .slots) (rebuilds .present) ∙ rebuilds .alike .slots ∙ sym snapshot-slots
+
+    -- a page of what was rebuilt
+    new-page : (i : ℕ) → isMapped (slots (sandboxAt w s .snapshot) i) ≡ true
+        → listed 256 (rebuilds .pages .bytes i) ≡ copyRead (g .image) (w .store) (sandboxAt w s) s i
+    new-page i m =
+        let there : isMapped (copy .slots i) ≡ true = rw snapshot-slots at m in
+        let mapped : isMapped (rebuilds .pages .slots i) ≡ true = rw (rebuilds .alike .slots) there in
+        listed-same 256 (rebuilds .pages .bytes i) (copy .bytes i) (λ j b. rebuilds .alike .bytes i j mapped b) ∙ sym (snapshot-bytes i there)
+
+    copy-there : (i : ℕ) → isMapped (slots (sandboxAt w s .snapshot) i) ≡ true → isMapped (copied (copySlots (upTo g roll s .core)) i) ≡ true
+    copy-there i m = rw (← again .each s (S .row) .copy, new-copy) m
+
+    page-there : (i : ℕ) → isMapped (slots (sandboxAt w s .snapshot) i) ≡ true → isMapped (upTo g roll s .core .pages .slots i) ≡ true
+    page-there i m = rw (← again .each s (S .row) .present, new-present) m
+
+    pub rebuilt : Rebuilt (g .image) s w v
+    rebuilt = record {
+      taken = again .each s (S .row) .taken ∙ rw (rebuilds .copy);
+      share = again .each s (S .row) .share ∙ rebuilds .shared;
+      copy = new-copy;
+      present = new-present;
+      copyBytes = λ i d m.
+          copy-read g L (v .store) s (sandboxAt v s) (upTo g roll s) (again .holds .each s) (again .reads s) (again .each s (S .row)) i d (copy-there i m)
+          ∙ rw (rebuilds .copy) (new-page i m);
+      bytes = λ i d m.
+          page-read g L (v .store) s (sandboxAt v s) (upTo g roll s) (again .holds .each s) (again .reads s) (again .each s (S .row)) i d (page-there i m)
+          ∙ rw (rebuilds .present) (new-page i m);
+    }
+
+    -- the snapshot of the rebuilt sandbox, in the same words
+    rebuilt-alike : Alike (snapshotOf (g .image) v s) (snapshotOf (g .image) w s)
+    rebuilt-alike = record {
+      slots = new-copy;
+      bytes = λ i j m b.
+          let there : isMapped (slots (sandboxAt w s .snapshot) i) ≡ true = rw new-copy at m in
+          let inside : i < 64 = again .holds .each s .copyInside i (copy-there i there) in
+          rw (rebuilt .copyBytes i inside there);
+    }
+
+    pub same-again : archiveOf (g .image) v s ≡ archiveOf (g .image) w s
+    same-again =
+        ap (λ share. archive s share (snapshotOf (g .image) v s) (g .image)) (rebuilt .share)
+        ∙ archive-alike s (sandboxAt w s .share) (snapshotOf (g .image) v s) (snapshotOf (g .image) w s) (g .image) rebuilt-alike
+
+-- ---- what is written is the plain machine's
+
+-- what is written where a row applies does not hang on the roll
+refused-alike : (n : ℕ) (roll roll′ : List Request) (out : List ℕ) → eqb n 0 ≡ false → writtenAs n roll out ≡ writtenAs n roll′ out
+unfolding writtenAs
+refused-alike n roll roll′ out e = rw e
+
+closed-4 : (v : View) (s bytes room : ℕ) → (ltb 3 s || not (v .opened)) ≡ true → archiveRefusal v s bytes room ≡ 4
+unfolding archiveRefusal
+closed-4 v s bytes room e = rw e
+
+bare-8 : (v : View) (s bytes room : ℕ) → (ltb 3 s || not (v .opened)) ≡ false → isTaken (v .copy) ≡ false → archiveRefusal v s bytes room ≡ 8
+unfolding archiveRefusal
+bare-8 v s bytes room e t = rw (e, t)
+
+sound-number : (image : List ℕ) (w : World) (s room : ℕ) → soundb image w ≡ true
+    → archiveNumber image w s room ≡ archiveRefusal (viewAt image w s) s (length (archiveOf image w s) * 43) room
+unfolding archiveNumber
+sound-number image w s room e = rw e
+
+module _ (g : Given) (L : Lent g) (qs : List Request) (as′ : List Answered) (w : World) (r : RunFrom g qs as′ w) (s : ℕ) (out : List ℕ) where
+  agree : Agrees (λ f. Unit {0}) g w (upTo g qs)
+  agree = list-agrees g L qs as′ w r
+
+  abbrev mine : View
+  mine = viewAt (g .image) w s
+
+  abbrev theirs : View
+  theirs = viewOf g (shares (upTo g qs)) (upTo g qs s .core)
+
+  number : archiveNumber (g .image) w s (length out) ≡ archiveRefusal mine s (length (archiveOf (g .image) w s) * 43) (length out)
+  number = sound-number (g .image) w s (length out) (agrees-tested g w (upTo g qs) agree L)
+
+  -- refused by both with one number
+  both-refused : (n : ℕ) → eqb n 0 ≡ false → archiveNumber (g .image) w s (length out) ≡ n
+      → archiveRefusal theirs s (length (rollOf g (upTo g qs) s) * 43) (length out) ≡ n → written (g .image) w s out ≡ plainWritten g (upTo g qs) s out
+  unfolding written plainWritten
+  both-refused n e a b = rw (a, b) (refused-alike n (archiveOf (g .image) w s) (rollOf g (upTo g qs) s) out e)
+
+  above : ltb 3 s ≡ true → written (g .image) w s out ≡ plainWritten g (upTo g qs) s out
+  above e = both-refused 4 refl (number ∙ closed-4 mine s _ (length out) (rw e)) (closed-4 theirs s _ (length out) (rw e))
+
+  module _ (l : s < 4) where
+    view : mine ≡ theirs
+    view = view-at g w (shares (upTo g qs)) s (upTo g qs s) (frames-same g w (upTo g qs) agree) (shares-same g w (upTo g qs) agree) (agree .each s l)
+
+    with-copy : sandboxAt w s .taken ≡ true → written (g .image) w s out ≡ plainWritten g (upTo g qs) s out
+    unfolding written plainWritten
+    with-copy t =
+        let S : Snapped g s w = record { after = record { list = qs; answers = as′; run = r }; row = l; taken = t } in
+        let same : archiveOf (g .image) w s ≡ rollOf g (upTo g qs) s = same-roll g L s w S ∙ rw (agree .each s l .share, is-copy g L s w S) in
+        rw number (ap₂ (λ (x : View) (y : List Request). writtenAs (archiveRefusal x s (length y * 43) (length out)) y out) view same)
+
+    without : sandboxAt w s .taken ≡ false → written (g .image) w s out ≡ plainWritten g (upTo g qs) s out
+    without t =
+        by-cases (ltb 3 s || not (mine .opened))
+        (λ e. both-refused 4 refl (number ∙ closed-4 mine s _ (length out) e)
+            (closed-4 theirs s _ (length out) (ap (λ (x : View). ltb 3 s || not (x .opened)) (sym view) ∙ e)))
+        (λ e. both-refused 8 refl (number ∙ bare-8 mine s _ (length out) e (rw t))
+            (bare-8 theirs s _ (length out) (ap (λ (x : View). ltb 3 s || not (x .opened)) (sym view) ∙ e)
+            (ap (λ (x : View). isTaken (x .copy)) (sym view) ∙ rw t)))
+
+pub written-as-plain : (g : Given) → Lent g → WrittenAsPlain g
+written-as-plain g L qs as′ w r s out =
+    by-cases (ltb 3 s) (above g L qs as′ w r s out)
+    (λ e. let l : s < 4 = omega (arith, ltb-false 3 s e) in
+    by-cases (sandboxAt w s .taken) (with-copy g L qs as′ w r s out l) (without g L qs as′ w r s out l))
+
+-- ---- the claims
+
+pub replay-of : (g : Given) → Lent g → ReplayOf g
+replay-of g L s w S bs v run = (all-taken g L s w S bs v run, rebuilt g L s w S bs v run)
+
+pub again-of : (g : Given) → Lent g → AgainOf g
+again-of g L s w S bs v run = let same = same-again g L s w S bs v run in (same, ap printedRoll same)
+
+pub text-of : (g : Given) → Lent g → TextOf g
+text-of g L s w S = text g L s w S
+
+pub if-alike-of : (image : List ℕ) → IfAlikeOf image
+if-alike-of image s w₁ w₂ e h =
+    ap (λ share. archive s share (snapshotOf image w₁ s) image) e ∙ archive-alike s (sandboxAt w₂ s .share) (snapshotOf image w₁ s) (snapshotOf image w₂ s) image h
+
+pub only-if-of : (image : List ℕ) (frames₁ frames₂ : ℕ) → Lent (record { image = image; frames = frames₁ }) → Lent (record { image = image; frames = frames₂ })
+    → OnlyIfOf image frames₁ frames₂
+only-if-of image frames₁ frames₂ L₁ L₂ s₁ s₂ w₁ w₂ S₁ S₂ e =
+    let g₁ : Given = record { image = image; frames = frames₁ } in
+    let g₂ : Given = record { image = image; frames = frames₂ } in
+    let d₁ = copy g₁ L₁ s₁ w₁ S₁ in
+    let d₂ = copy g₂ L₂ s₂ w₂ S₂ in
+    let rolls : archive s₁ (sandboxAt w₁ s₁ .share) d₁ image ≡ archive s₂ (sandboxAt w₂ s₂ .share) d₂ image
+    = sym (same-roll g₁ L₁ s₁ w₁ S₁) ∙ e ∙ same-roll g₂ L₂ s₂ w₂ S₂ in
+    let same = only-if image frames₁ frames₂ s₁ s₂ (sandboxAt w₁ s₁ .share) (sandboxAt w₂ s₂ .share) d₁ d₂
+    (occurs g₁ L₁ s₁ w₁ S₁) (occurs g₂ L₂ s₂ w₂ S₂) rolls in
+    alike-trans (snapshotOf image w₁ s₁) d₁ (snapshotOf image w₂ s₂) (snapshot-alike g₁ L₁ s₁ w₁ S₁)
+    (alike-trans d₁ d₂ (snapshotOf image w₂ s₂) same (alike-sym (snapshotOf image w₂ s₂) d₂ (snapshot-alike g₂ L₂ s₂ w₂ S₂)))
+
+pub archived : (g : Given) → Lent g → Archived g
+archived g L = record { plain = written-as-plain g L; replay = replay-of g L; again = again-of g L; text = text-of g L }
