@@ -27,25 +27,11 @@ use Rattle.interface.proofs.SlotLaws.{unmapped, beyond}
 use Rattle.plain.specs.Machine.{Given, Pages, Core, viewOf, backingByte, newBytes, bytesAfter, coreAfter}
 use Rattle.archive.specs.Archive.{only, endFrom, pagesFrom, kindOf, firstImage, mapAt, maps}
 use Rattle.archive.specs.Claims.{HasImage, IsSnapshot}
-use Rattle.archive.proofs.SegmentLaws.{Goes, goes-one, goes-only, goes-joined}
+use Rattle.archive.specs.Segments.{Goes, built, remade, writable, unmarked}
+use Rattle.archive.specs.Segments.{blank as blankOf}
+use Rattle.archive.proofs.SegmentLaws.{goes-one, goes-only, goes-joined}
 use Rattle.archive.proofs.TakenLaws.{map-taken}
 use Rattle.archive.proofs.RunLaws.{cut, cut-below, cut-from, cut-split, cut-none, cut-all, cut-on, over-cut, end-past, end-on, end-here, end-least, end-most, end-unmapped, attributesAt, area-page, areas-le, starts-of}
-
--- an open sandbox without a snapshot
-abbrev pub built : ℕ → Slots → (ℕ → ℕ → ℕ) → Core
-built share f b = record { opened = true; share = share; pages = record { slots = f; bytes = b }; copy = none }
-
--- a page made anew: uncommitted, with rights that come from the old ones
-abbrev pub remade : (ℕ → ℕ) → Slot → Slot
-remade r Unmapped = Unmapped
-remade r (Mapped t) = Mapped (record { rights = r (t .rights); committed = false; backing = t .backing })
-
--- with rights 3, as the maps make it; and with its own rights, as the protects leave it
-abbrev pub writable : Slot → Slot
-writable = remade (λ r. 3)
-
-abbrev pub unmarked : Slot → Slot
-unmarked = remade (λ r. r)
 
 pub mapped-remade : (r : ℕ → ℕ) (x : Slot) → isMapped (remade r x) ≡ isMapped x
 mapped-remade r Unmapped = refl
@@ -131,7 +117,7 @@ module _ (g : Given) (s share : ℕ) (row : s ≤ 3) (d : Pages) (h : IsSnapshot
   mappedTo b = cut b (λ i. writable (f i)) (λ i. Unmapped)
 
   abbrev pub blank : ℕ → ℕ → ℕ
-  blank i = backingByte (g .image) (backingAt (f i))
+  blank = blankOf (g .image) f
 
   abbrev pub blankTo : ℕ → ℕ → ℕ → ℕ
   blankTo b = cut b blank (λ i j. 0)

@@ -22,10 +22,11 @@ use Rattle.interface.proofs.ChargeLaws.{snapshot-charge}
 use Rattle.plain.specs.Machine.{Given, Pages, Core, viewOf, bytesAfter, coreAfter}
 use Rattle.archive.specs.Archive.{only, endFrom, pagesFrom, protectAt, protects, closing}
 use Rattle.archive.specs.Claims.{IsSnapshot}
-use Rattle.archive.proofs.SegmentLaws.{Goes, goes-one, goes-only, goes-joined}
+use Rattle.archive.specs.Segments.{Goes, built, writable, unmarked, snapped}
+use Rattle.archive.proofs.SegmentLaws.{goes-one, goes-only, goes-joined}
 use Rattle.archive.proofs.TakenLaws.{protect-taken, snapshot-taken}
 use Rattle.archive.proofs.RunLaws.{cut, cut-from, cut-split, cut-none, cut-all, cut-on, over-cut, end-past, end-here, end-apart, none-joins, areas-le, starts-of}
-use Rattle.archive.proofs.MapLaws.{built, writable, unmarked, mapped-remade, remade-none, starts-below, starts-remade, start-mapped, start-end, start-next, start-some, start-inside, start-page, cut-stays, nothing-past}
+use Rattle.archive.proofs.MapLaws.{mapped-remade, remade-none, starts-below, starts-remade, start-mapped, start-end, start-next, start-some, start-inside, start-page, cut-stays, nothing-past}
 use Rattle.archive.proofs.WriteLaws.{remade-charge}
 
 rights-back : (x : Slot) → rightsAt x ≡ 1 → withRights 1 (writable x) ≡ unmarked x
@@ -152,9 +153,6 @@ module _ (g : Given) (s share : ℕ) (row : s ≤ 3) (d : Pages) (h : IsSnapshot
   abbrev pub rebuilt : Pages
   rebuilt = record { slots = f; bytes = bytes }
 
-  abbrev pub closed : Core
-  closed = record { opened = true; share = share; pages = rebuilt; copy = some rebuilt }
-
   snapshot-slots : slotsAfter (requestOf Snapshot s 0 0 0 0 0) (λ i. unmarked (f i)) none ≡ f
   unfolding slotsAfter
   snapshot-slots = fun-ext λ i. commit-back (f i) (h .marked i)
@@ -166,8 +164,8 @@ module _ (g : Given) (s share : ℕ) (row : s ≤ 3) (d : Pages) (h : IsSnapshot
       (omega (arith, h .charged, snapshot-charge (λ i. unmarked (f i)), remade-charge f (λ r. r)))
       (rw snapshot-slots (h .few))
 
-  pub snapshot-goes : Goes g s (closing s) (built share (λ i. unmarked (f i)) bytes) closed
+  pub snapshot-goes : Goes g s (closing s) (built share (λ i. unmarked (f i)) bytes) (snapped share rebuilt)
   unfolding copyAfter bytesAfter
   snapshot-goes =
-      goes-one g s (requestOf Snapshot s 0 0 0 0 0) (built share (λ i. unmarked (f i)) bytes) closed refl refl snapshot-accepted
-      (ap (λ (x : Slots). record { opened = true; share = share; pages = record { slots = x; bytes = bytes }; copy = some (record { slots = x; bytes = bytes }) }) snapshot-slots)
+      goes-one g s (requestOf Snapshot s 0 0 0 0 0) (built share (λ i. unmarked (f i)) bytes) (snapped share rebuilt) refl refl snapshot-accepted
+      (ap (λ (x : Slots). snapped share (record { slots = x; bytes = bytes })) snapshot-slots)

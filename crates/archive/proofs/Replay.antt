@@ -6,7 +6,7 @@ use mathlib.Core.List.{List, [], _∷_, _++_}
 use mathlib.Core.Option.{some, none, Option·map, Option·some-ne-none}
 use native.Mathlib.Omega.{arith}
 use lib.Dec.{eqb}
-use borrow.Author.Tests.{eqb-true, eqb-false}
+use borrow.Author.Tests.{eqb-true, eqb-false, lt-ltb}
 use Rattle.basics.specs.Ranges.{sum}
 use Rattle.basics.proofs.TestLaws.{by-cases}
 use Rattle.interface.specs.declared.request.Request.{Request}
@@ -21,12 +21,13 @@ use Rattle.plain.proofs.KeptLaws.{mapped-none, areas-none}
 use Rattle.plain.proofs.TwoListsLaws.{accepted-core}
 use Rattle.plain.proofs.Claims.{claim-always}
 use Rattle.archive.specs.Archive.{joined, only, opening, maps, differs, writeAt, writes, protects, closing, archive}
-use Rattle.archive.specs.Claims.{Alike, IsSnapshot, Occurs, Rebuilds, Replay, OnlyIf, IfAlike}
-use Rattle.archive.proofs.SegmentLaws.{Goes, goes-then}
+use Rattle.archive.specs.Claims.{Alike, IsSnapshot, Occurs, Rebuilds, InSegments, Replay, OnlyIf, IfAlike}
+use Rattle.archive.specs.Segments.{Goes, Segments, built, unmarked, writable, blank, filled, snapped}
+use Rattle.archive.proofs.SegmentLaws.{goes-append}
 use Rattle.archive.proofs.TakenLaws.{open-taken}
-use Rattle.archive.proofs.MapLaws.{built, unmarked, mapStage, map-start, map-end, maps-go}
-use Rattle.archive.proofs.WriteLaws.{filled, writeStage, write-start, writes-go, filled-all}
-use Rattle.archive.proofs.ProtectLaws.{protectStage, protect-start, protect-end, protects-go, rebuilt, closed, snapshot-goes}
+use Rattle.archive.proofs.MapLaws.{mapStage, map-start, map-end, maps-go}
+use Rattle.archive.proofs.WriteLaws.{writeStage, write-start, writes-go, write-end}
+use Rattle.archive.proofs.ProtectLaws.{protectStage, protect-start, protect-end, protects-go, snapshot-goes}
 use Rattle.archive.proofs.OrderLaws.{copy-in-order}
 
 -- the first line, from fresh
@@ -43,39 +44,49 @@ module _ (g : Given) (s share : ℕ) (row : s ≤ 3) (least : 1 ≤ share) (most
   unfolding slotsAfter copyAfter bytesAfter
   open-leaves = accepted-core g s fresh first refl open-accepted
 
-module _ (g : Given) (s share : ℕ) (row : s ≤ 3) (d : Pages) (h : IsSnapshot (g .image) share d) where
-  -- the lines behind the first: one law a part, in turn
-  abbrev bytes : ℕ → ℕ → ℕ
-  bytes = filled g s share row d h 16384
+-- ---- the segments, and the roll as they come in turn
 
-  protects-then : Goes g s (protects s (d .slots) ++ closing s) (writeStage g s share row d h 16384) (closed g s share row d h bytes)
-  protects-then =
-      goes-then g s (protects s (d .slots)) (closing s) (writeStage g s share row d h 16384) (protectStage g s share row d h bytes 0) (protectStage g s share row d h bytes 64)
-      (built share (λ i. unmarked (d .slots i)) bytes) (closed g s share row d h bytes) (protect-start g s share row d h bytes) (protects-go g s share row d h bytes)
-      (protect-end g s share row d h bytes) (snapshot-goes g s share row d h bytes)
+module _ (g : Given) (s share : ℕ) (row : s ≤ 3) (d : Pages) (h : IsSnapshot (g .image) share d) (fits : share ≤ g .frames) where
+  pub segments-go : Segments g s share d
+  unfolding answers answer afterAll
+  segments-go = record {
+    opens = (open-accepted g s share row (h .least) (h .most) fits, tt);
+    opened = open-leaves g s share row (h .least) (h .most) fits;
+    mapped = rw (map-start g s share row d h, ← map-end g s share row d h) (maps-go g s share row d h);
+    written = rw (write-start g s share row d h, ← write-end g s share row d h) (writes-go g s share row d h);
+    protected = λ bytes. rw (protect-start g s share row d h bytes, ← protect-end g s share row d h bytes) (protects-go g s share row d h bytes);
+    closed = snapshot-goes g s share row d h;
+  }
 
-  writes-then : Goes g s (writes s (g .image) d ++ (protects s (d .slots) ++ closing s)) (mapStage g s share row d h 64) (closed g s share row d h bytes)
-  writes-then =
-      goes-then g s (writes s (g .image) d) (protects s (d .slots) ++ closing s) (mapStage g s share row d h 64) (writeStage g s share row d h 0) (writeStage g s share row d h 16384)
-      (writeStage g s share row d h 16384) (closed g s share row d h bytes) (map-end g s share row d h ∙ write-start g s share row d h) (writes-go g s share row d h) refl protects-then
+  abbrev rebuilt : Pages
+  rebuilt = record { slots = d .slots; bytes = filled (g .image) d }
 
-  rest-goes : Goes g s (maps s (d .slots) ++ (writes s (g .image) d ++ (protects s (d .slots) ++ closing s))) (built share (λ i. Unmapped) (λ i j. 0)) (closed g s share row d h bytes)
+  -- the lines behind the first
+  rest-goes : Goes g s (maps s (d .slots) ++ (writes s (g .image) d ++ (protects s (d .slots) ++ closing s))) (built share (λ i. Unmapped) (λ i j. 0))
+      (snapped share rebuilt)
   rest-goes =
-      goes-then g s (maps s (d .slots)) (writes s (g .image) d ++ (protects s (d .slots) ++ closing s)) (built share (λ i. Unmapped) (λ i j. 0)) (mapStage g s share row d h 0)
-      (mapStage g s share row d h 64) (mapStage g s share row d h 64) (closed g s share row d h bytes) (map-start g s share row d h) (maps-go g s share row d h) refl writes-then
+      let S = segments-go in
+      let bare : Core = built share (λ i. Unmapped) (λ i j. 0) in
+      let mapped : Core = built share (λ i. writable (d .slots i)) (blank (g .image) (d .slots)) in
+      let written : Core = built share (λ i. writable (d .slots i)) (filled (g .image) d) in
+      let protected : Core = built share (λ i. unmarked (d .slots i)) (filled (g .image) d) in
+      let closed : Core = snapped share rebuilt in
+      goes-append g s (maps s (d .slots)) (writes s (g .image) d ++ (protects s (d .slots) ++ closing s)) bare mapped closed (S .mapped)
+      (goes-append g s (writes s (g .image) d) (protects s (d .slots) ++ closing s) mapped written closed (S .written)
+      (goes-append g s (protects s (d .slots)) (closing s) written protected closed (S .protected (filled (g .image) d)) (S .closed (filled (g .image) d))))
 
-  pub rebuilds : share ≤ g .frames → Rebuilds g s share d (archive s share d (g .image))
+  pub rebuilds : Rebuilds g s share d (archive s share d (g .image))
   unfolding archive answers answer afterAll
-  rebuilds fits =
-      let opened = open-leaves g s share row (h .least) (h .most) fits in
+  rebuilds =
+      let opened = segments-go .opened in
       let last = rest-goes .leaves (after g fresh (requestOf Open s share 0 0 0 0)) opened in
       record {
-        taken = (open-accepted g s share row (h .least) (h .most) fits, rest-goes .taken (after g fresh (requestOf Open s share 0 0 0 0)) opened);
-        pages = rebuilt g s share row d h bytes;
+        taken = (segments-go .opens .0, rest-goes .taken (after g fresh (requestOf Open s share 0 0 0 0)) opened);
+        pages = rebuilt;
         shared = ap (λ (c : Core). c .share) last;
         present = ap (λ (c : Core). c .pages) last;
         copy = ap (λ (c : Core). c .copy) last;
-        alike = record { slots = refl; bytes = λ i j m l. filled-all g s share row d h i j m l };
+        alike = record { slots = refl; bytes = λ i j m l. rw (m, lt-ltb j 256 l) };
       }
 
 -- ---- a snapshot that occurs
@@ -118,6 +129,9 @@ module _ (g : Given) (s share : ℕ) (d : Pages) (o : Occurs g s share d) where
   pub share-fits : share ≤ g .frames
   share-fits =
       omega (arith, claim-always g (o .list) .holds .pooled, sum-at (λ t. upTo g (o .list) t .core .share) 4 s (omega (arith, o .row)), o .shared)
+
+pub in-segments : (g : Given) → InSegments g
+in-segments g s share d o = segments-go g s share (o .row) d (is-snapshot g s share d o) (share-fits g s share d o)
 
 pub replay : (g : Given) → Replay g
 replay g s share d o = rebuilds g s share (o .row) d (is-snapshot g s share d o) (share-fits g s share d o)

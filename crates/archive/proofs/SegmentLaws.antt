@@ -12,38 +12,29 @@ use Rattle.plain.specs.Machine.{Given, Core, Plain, viewOf, shares, coreAfter, 
 use Rattle.plain.proofs.OneSandbox.{shares-apart}
 use Rattle.plain.proofs.TwoListsLaws.{after-append, answers-append, accepted-core}
 use Rattle.archive.specs.Archive.{joined, only}
-use Rattle.archive.specs.Claims.{AllTaken}
+use Rattle.archive.specs.Segments.{AllTaken, Goes}
 
 pub taken-append : (l m : List Answered) → AllTaken l → AllTaken m → AllTaken (l ++ m)
 taken-append [] m h k = k
 taken-append (a ∷ l) m h k = (h .0, taken-append l m (h .1) k)
 
 module _ (g : Given) (s : ℕ) where
-  -- from any machine whose sandbox s has core c, every request of the list is accepted, and it has core c′ afterwards
-  pub record Goes (l : List Request) (c c′ : Core) : Type 0 where
-    pub taken : (p : Plain) → p s .core ≡ c → AllTaken (answers g p l)
-    pub leaves : (p : Plain) → p s .core ≡ c → afterAll g p l s .core ≡ c′
-
-  pub goes-none : (c c′ : Core) → c ≡ c′ → Goes [] c c′
+  pub goes-none : (c c′ : Core) → c ≡ c′ → Goes g s [] c c′
   unfolding answers afterAll
   goes-none c c′ e = record { taken = λ p h. tt; leaves = λ p h. h ∙ e }
 
-  pub goes-append : (l m : List Request) (c d e : Core) → Goes l c d → Goes m d e → Goes (l ++ m) c e
+  pub goes-append : (l m : List Request) (c d e : Core) → Goes g s l c d → Goes g s m d e → Goes g s (l ++ m) c e
   goes-append l m c d e x y = record {
     taken = λ p h. rw (answers-append g p l m) (taken-append (answers g p l) (answers g (afterAll g p l) m) (x .taken p h) (y .taken (afterAll g p l) (x .leaves p h)));
     leaves = λ p h. rw (after-append g p l m) (y .leaves (afterAll g p l) (x .leaves p h));
   }
-
-  -- a part, and what follows it, whose core is written in another way
-  pub goes-then : (l m : List Request) (b c d e z : Core) → b ≡ c → Goes l c d → d ≡ e → Goes m e z → Goes (l ++ m) b z
-  goes-then l m b c d e z x y u v = goes-append l m b e z (rw (x, ← u) y) v
 
   -- one request of an open sandbox
   module _ (q : Request) (c c′ : Core) (names : q .sandbox ≡ s) (opened : c .opened ≡ true) (free : refusal (viewOf g 0 c) q ≡ 0) (is : coreAfter g q c ≡ c′) where
     one-taken : (p : Plain) → p s .core ≡ c → numberAt g p q ≡ 0
     one-taken p h = let own : p (q .sandbox) .core ≡ c = ap (λ (t : ℕ). p t .core) names ∙ h in rw own (shares-apart g (shares p) 0 q c opened ∙ free)
 
-    pub goes-one : Goes (q ∷ []) c c′
+    pub goes-one : Goes g s (q ∷ []) c c′
     unfolding answers answer afterAll
     goes-one = record {
       taken = λ p h. (one-taken p h, tt);
@@ -51,11 +42,11 @@ module _ (g : Given) (s : ℕ) where
     }
 
   -- a request that stands there only where a test holds
-  pub goes-only : (b : Bool) (q : Request) (c c′ : Core) → (b ≡ true → Goes (q ∷ []) c c′) → (b ≡ false → c ≡ c′) → Goes (only b q) c c′
-  goes-only b q c c′ there not-there = when-cases (λ (l : List Request). Goes l c c′) b there (λ e. goes-none c c′ (not-there e))
+  pub goes-only : (b : Bool) (q : Request) (c c′ : Core) → (b ≡ true → Goes g s (q ∷ []) c c′) → (b ≡ false → c ≡ c′) → Goes g s (only b q) c c′
+  goes-only b q c c′ there not-there = when-cases (λ (l : List Request). Goes g s l c c′) b there (λ e. goes-none c c′ (not-there e))
 
   -- parts behind each other, by what is reached before each
-  pub goes-joined : (f : ℕ → List Request) (stage : ℕ → Core) (n : ℕ) → ((i : ℕ) → i < n → Goes (f i) (stage i) (stage (suc i))) → Goes (joined f n) (stage 0) (stage n)
+  pub goes-joined : (f : ℕ → List Request) (stage : ℕ → Core) (n : ℕ) → ((i : ℕ) → i < n → Goes g s (f i) (stage i) (stage (suc i))) → Goes g s (joined f n) (stage 0) (stage n)
   unfolding joined
   goes-joined f stage zero h = goes-none (stage 0) (stage 0) refl
   goes-joined f stage (suc n) h =

@@ -18,10 +18,11 @@ use Rattle.interface.specs.Refusals.{refusal}
 use Rattle.plain.specs.Machine.{Given, Pages, Core, viewOf, stored, bytesAfter, coreAfter}
 use Rattle.archive.specs.Archive.{only, differs, writeAt, writes}
 use Rattle.archive.specs.Claims.{IsSnapshot}
-use Rattle.archive.proofs.SegmentLaws.{Goes, goes-one, goes-only, goes-joined}
+use Rattle.archive.specs.Segments.{Goes, built, remade, writable, filled}
+use Rattle.archive.proofs.SegmentLaws.{goes-one, goes-only, goes-joined}
 use Rattle.archive.proofs.TakenLaws.{write-taken}
 use Rattle.archive.proofs.RunLaws.{areas-le}
-use Rattle.archive.proofs.MapLaws.{built, remade, writable, mapped-remade, starts-remade, blank}
+use Rattle.archive.proofs.MapLaws.{mapped-remade, starts-remade, blank}
 
 -- what a picture made anew charges and how many areas it has
 pub remade-charge : (f : Slots) (r : ℕ → ℕ) → mappedPages (λ i. remade r (f i)) ≤ mappedPages f
@@ -47,14 +48,14 @@ module _ (g : Given) (s share : ℕ) (row : s ≤ 3) (d : Pages) (h : IsSnapshot
   blank′ = blank g s share row d h
 
   -- the bytes with those below an address written
-  unfoldable pub filled : ℕ → ℕ → ℕ → ℕ
-  filled a i j = d .bytes i j when isMapped (f i) && (ltb j 256 && ltb (i * 256 + j) a) else blank′ i j
+  unfoldable pub filledTo : ℕ → ℕ → ℕ → ℕ
+  filledTo a i j = d .bytes i j when isMapped (f i) && (ltb j 256 && ltb (i * 256 + j) a) else blank′ i j
 
   abbrev pub writeStage : ℕ → Core
-  writeStage a = built share (λ i. writable (f i)) (filled a)
+  writeStage a = built share (λ i. writable (f i)) (filledTo a)
 
-  filled-off : (a i j : ℕ) → (eqb i (a / 256) && eqb j (a % 256)) ≡ false → filled a i j ≡ filled (suc a) i j
-  unfolding filled
+  filled-off : (a i j : ℕ) → (eqb i (a / 256) && eqb j (a % 256)) ≡ false → filledTo a i j ≡ filledTo (suc a) i j
+  unfolding filledTo
   filled-off a i j n =
       by-cases (ltb j 256)
       (λ l. let other : i * 256 + j ≡ a → ⊥ = λ e.
@@ -64,16 +65,16 @@ module _ (g : Given) (s share : ℕ) (row : s ≤ 3) (d : Pages) (h : IsSnapshot
       rw (ltb-next (i * 256 + j) a other))
       (λ l. rw l)
 
-  filled-at : (a : ℕ) → isMapped (f (a / 256)) ≡ true → filled (suc a) (a / 256) (a % 256) ≡ d .bytes (a / 256) (a % 256)
-  unfolding filled
+  filled-at : (a : ℕ) → isMapped (f (a / 256)) ≡ true → filledTo (suc a) (a / 256) (a % 256) ≡ d .bytes (a / 256) (a % 256)
+  unfolding filledTo
   filled-at a m = rw (m, lt-ltb (a % 256) 256 (omega arith), lt-ltb (a / 256 * 256 + a % 256) (suc a) (omega arith))
 
-  filled-before : (a : ℕ) → filled a (a / 256) (a % 256) ≡ blank′ (a / 256) (a % 256)
-  unfolding filled
+  filled-before : (a : ℕ) → filledTo a (a / 256) (a % 256) ≡ blank′ (a / 256) (a % 256)
+  unfolding filledTo
   filled-before a = by-cases (isMapped (f (a / 256))) (λ m. rw (m, lt-ltb (a % 256) 256 (omega arith), le-ltb (a / 256 * 256 + a % 256) a (omega arith))) (λ m. rw m)
 
-  filled-unmapped : (a i j : ℕ) → isMapped (f i) ≡ false → filled a i j ≡ blank′ i j
-  unfolding filled
+  filled-unmapped : (a i j : ℕ) → isMapped (f i) ≡ false → filledTo a i j ≡ blank′ i j
+  unfolding filledTo
   filled-unmapped a i j m = rw m
 
   module _ (a : ℕ) (l : a < 16384) where
@@ -98,9 +99,9 @@ module _ (g : Given) (s share : ℕ) (row : s ≤ 3) (d : Pages) (h : IsSnapshot
       byte : d .bytes (a / 256) (a % 256) < 256
       byte = h .order .bytes (a / 256) (a % 256) there (not-true _ (and-right (isMapped (f (a / 256))) _ differ))
 
-      write-bytes : stored q (filled a) ≡ filled (suc a)
+      write-bytes : stored q (filledTo a) ≡ filledTo (suc a)
       write-bytes =
-          at-or-off (stored q (filled a)) (filled (suc a))
+          at-or-off (stored q (filledTo a)) (filledTo (suc a))
           (rw (eq-eqb (a / 256) (a / 256) refl, eq-eqb (a % 256) (a % 256) refl) (sym (filled-at a there)))
           (λ i j n. rw n (filled-off a i j n))
 
@@ -120,7 +121,7 @@ module _ (g : Given) (s share : ℕ) (row : s ≤ 3) (d : Pages) (h : IsSnapshot
     write-stays : differs (g .image) d (a / 256) (a % 256) ≡ false → writeStage a ≡ writeStage (suc a)
     write-stays n =
         ap (built share (λ i. writable (f i)))
-        (at-or-off (filled a) (filled (suc a))
+        (at-or-off (filledTo a) (filledTo (suc a))
         (by-cases (isMapped (f (a / 256)))
         (λ m. let equal = eqb-true _ _ (not-false _ (and-not-right (isMapped (f (a / 256))) _ n m)) in filled-before a ∙ sym equal ∙ sym (filled-at a m))
         (λ m. filled-before a ∙ sym (filled-unmapped (suc a) (a / 256) (a % 256) m)))
@@ -132,8 +133,8 @@ module _ (g : Given) (s share : ℕ) (row : s ≤ 3) (d : Pages) (h : IsSnapshot
       goes-joined g s (λ a. only (differs (g .image) d (a / 256) (a % 256)) (writeAt s d a)) writeStage 16384
       (λ a l. goes-only g s (differs (g .image) d (a / 256) (a % 256)) (writeAt s d a) (writeStage a) (writeStage (suc a)) (write-goes a l) (write-stays a l))
 
-  none-yet : (i j : ℕ) → filled 0 i j ≡ blank′ i j
-  unfolding filled
+  none-yet : (i j : ℕ) → filledTo 0 i j ≡ blank′ i j
+  unfolding filledTo
   none-yet i j =
       when-cases (λ (x : ℕ). x ≡ blank′ i j) (isMapped (f i) && (ltb j 256 && ltb (i * 256 + j) 0))
       (λ e. absurd (omega (arith, ltb-true (i * 256 + j) 0 (and-right (ltb j 256) _ (and-right (isMapped (f i)) _ e))))) (λ _. refl)
@@ -142,6 +143,14 @@ module _ (g : Given) (s share : ℕ) (row : s ≤ 3) (d : Pages) (h : IsSnapshot
   write-start = ap (built share (λ i. writable (f i))) (fun-ext λ i. fun-ext λ j. sym (none-yet i j))
 
   -- all bytes are written
-  pub filled-all : (i j : ℕ) → isMapped (f i) ≡ true → j < 256 → filled 16384 i j ≡ d .bytes i j
-  unfolding filled
-  filled-all i j m l = rw (m, lt-ltb j 256 l, lt-ltb (i * 256 + j) 16384 (omega (arith, h .inside i m)))
+  all-filled : (i j : ℕ) → filledTo 16384 i j ≡ filled (g .image) d i j
+  unfolding filledTo
+  all-filled i j =
+      by-cases (isMapped (f i))
+      (λ m. by-cases (ltb j 256)
+      (λ l. rw (m, l, lt-ltb (i * 256 + j) 16384 (omega (arith, h .inside i m, ltb-true j 256 l))))
+      (λ l. rw (m, l)))
+      (λ m. rw m)
+
+  pub write-end : writeStage 16384 ≡ built share (λ i. writable (f i)) (filled (g .image) d)
+  write-end = ap (built share (λ i. writable (f i))) (fun-ext λ i. fun-ext λ j. all-filled i j)

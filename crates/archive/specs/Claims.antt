@@ -2,24 +2,19 @@
 use Prim.Native.Nat.{ℕ, _*_, _/_, _≤_, _<_}
 use mathlib.Core.Path.{_≡_}
 use mathlib.Core.Bool.{true, false}
-use mathlib.Core.List.{List, [], _∷_}
+use mathlib.Core.List.{List}
 use mathlib.Core.Option.{some}
 use lib.Dec.{eqb}
 use lib.ListN.{length}
 use Rattle.interface.specs.declared.page.Backing.{Backing}
 use Rattle.interface.specs.declared.page.Backing.the-variants.{Anonymous, Image}
 use Rattle.interface.specs.declared.request.Request.{Request}
-use Rattle.interface.specs.Answers.{Answered}
 use Rattle.interface.specs.Slots.{isMapped, isCommitted, rightsAt, backingAt, areas, mappedPages}
 use Rattle.interface.specs.Limits.{rightsOk}
 use Rattle.plain.specs.Machine.{Given, Pages, fresh, backingByte, answers}
 use Rattle.plain.specs.Lists.{upTo}
 use Rattle.archive.specs.Archive.{archive}
-
--- every call was accepted
-abbrev pub AllTaken : List Answered → Type 0
-AllTaken [] = Unit {0}
-AllTaken (a ∷ l) = (a .number ≡ 0) × AllTaken l
+use Rattle.archive.specs.Segments.{AllTaken, Segments}
 
 -- "equal .. in mappings, rights and bytes": "Its mappings are its mapped pages with their backing; its bytes are what these pages read."
 -- (The marks agree too.)
@@ -54,6 +49,10 @@ pub record Occurs (g : Given) (s share : ℕ) (d : Pages) : Type 0 where
   pub row : s ≤ 3
   pub shared : upTo g list s .core .share ≡ share
   pub copy : upTo g list s .core .copy ≡ some d
+
+-- each segment of its roll, played from what the one before leaves
+abbrev pub InSegments : Given → Type 0
+InSegments g = (s share : ℕ) (d : Pages) → Occurs g s share d → Segments g s share d
 
 -- "Played from a fresh state with the same image and pool, the roll gives a sandbox whose snapshot and present pages both equal the written snapshot in
 -- mappings, rights and bytes." Every line of it is accepted, and the sandbox has the share that the first names.

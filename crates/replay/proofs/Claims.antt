@@ -31,7 +31,8 @@ use Rattle.claims.proofs.Runs.{list-agrees, demand-2}
 use Rattle.archive.specs.Archive.{archive}
 use Rattle.archive.specs.Text.{Sayable, printedRoll}
 use Rattle.archive.specs.Written.{Written, writtenAs, rollOf, plainWritten}
-use Rattle.archive.specs.Claims.{AllTaken, Alike, Occurs, Rebuilds}
+use Rattle.archive.specs.Segments.{AllTaken}
+use Rattle.archive.specs.Claims.{Alike, Occurs, Rebuilds}
 use Rattle.archive.proofs.Replay.{replay, only-if, is-snapshot, alike-sym, alike-trans, archive-alike}
 use Rattle.archive.proofs.TextLaws.{archive-sayable, archive-length, lines-of-roll}
 use Rattle.replay.specs.Snapshot.{snapshotOf, archiveOf, archiveNumber, written}

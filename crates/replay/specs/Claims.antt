@@ -16,7 +16,8 @@ use Rattle.plain.specs.Machine.{Given}
 use Rattle.plain.specs.Lists.{upTo}
 use Rattle.claims.specs.Demands.{RunFrom}
 use Rattle.roll.specs.Play.{linesIn, requests}
-use Rattle.archive.specs.Claims.{AllTaken, Alike}
+use Rattle.archive.specs.Segments.{AllTaken}
+use Rattle.archive.specs.Claims.{Alike}
 use Rattle.archive.specs.Text.{printedRoll}
 use Rattle.archive.specs.Written.{plainWritten}
 use Rattle.replay.specs.Snapshot.{snapshotOf, archiveOf, written}
