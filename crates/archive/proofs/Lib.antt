@@ -1,3 +1,5 @@
+-- In reading order.
+pub mod IsSnapshot
 pub mod SegmentLaws
 pub mod TakenLaws
 pub mod RunLaws

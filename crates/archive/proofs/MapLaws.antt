@@ -26,12 +26,13 @@ use Rattle.interface.specs.Refusals.{refusal}
 use Rattle.interface.proofs.SlotLaws.{unmapped, beyond}
 use Rattle.plain.specs.Machine.{Given, Pages, Core, viewOf, backingByte, newBytes, bytesAfter, coreAfter}
 use Rattle.archive.specs.Archive.{only, endFrom, pagesFrom, kindOf, firstImage, mapAt, maps}
-use Rattle.archive.specs.Claims.{HasImage, IsSnapshot}
+use Rattle.archive.proofs.IsSnapshot.{HasImage, IsSnapshot}
 use Rattle.archive.specs.Segments.{Goes, built, remade, writable, unmarked}
 use Rattle.archive.specs.Segments.{blank as blankOf}
 use Rattle.archive.proofs.SegmentLaws.{goes-one, goes-only, goes-joined}
 use Rattle.archive.proofs.TakenLaws.{map-taken}
-use Rattle.archive.proofs.RunLaws.{cut, cut-below, cut-from, cut-split, cut-none, cut-all, cut-on, over-cut, end-past, end-on, end-here, end-least, end-most, end-unmapped, attributesAt, area-page, areas-le, starts-of}
+use Rattle.archive.proofs.RunLaws.{cut, cut-below, cut-from, cut-split, cut-none, cut-all, cut-on, over-cut, end-past, end-on, end-here}
+use Rattle.archive.proofs.RunLaws.{end-least, end-most, end-unmapped, attributesAt, area-page, areas-le, starts-of}
 
 pub mapped-remade : (r : ℕ → ℕ) (x : Slot) → isMapped (remade r x) ≡ isMapped x
 mapped-remade r Unmapped = refl
@@ -59,7 +60,8 @@ pub backing-told : (b : Backing) → (Anonymous when eqb (kindOf b) 0 else Image
 backing-told Anonymous = refl
 backing-told (Image p) = refl
 
-pub backing-ok : (s i n images : ℕ) (b : Backing) → 1 ≤ n → HasImage images (advance b (n - 1)) → backingOk images (requestOf Map s i n (kindOf b) (firstImage b) 3) ≡ true
+pub backing-ok : (s i n images : ℕ) (b : Backing) → 1 ≤ n → HasImage images (advance b (n - 1))
+    → backingOk images (requestOf Map s i n (kindOf b) (firstImage b) 3) ≡ true
 backing-ok s i n images Anonymous m there = refl
 backing-ok s i n images (Image p) m there = le-leb (p .0 + n) images (omega arith)
 
@@ -133,7 +135,8 @@ module _ (g : Given) (s share : ℕ) (row : s ≤ 3) (d : Pages) (h : IsSnapshot
         arith,
         h .charged,
         count-le (λ i. isMapped (mappedTo b i)) (λ i. isMapped (f i)) 64
-            (λ i. cut-split (λ x. isMapped x ≡ true → isMapped (f i) ≡ true) b (λ i. writable (f i)) (λ i. Unmapped) i (λ _. rw mapped-remade (λ m. m)) (λ _ m. cc)),
+            (λ i. cut-split (λ x. isMapped x ≡ true → isMapped (f i) ≡ true) b (λ i. writable (f i)) (λ i. Unmapped) i (λ _. rw mapped-remade (λ m. m))
+            (λ _ m. cc)),
       )
 
   mapped-areas : (b : ℕ) → areas (mappedTo b) ≤ 8
@@ -160,7 +163,8 @@ module _ (g : Given) (s share : ℕ) (row : s ≤ 3) (d : Pages) (h : IsSnapshot
 
     map-slots : slotsAfter q (mappedTo i) none ≡ mappedTo (i + pagesFrom f i)
     unfolding slotsAfter firstOf
-    map-slots = rw (ne-eqb i 64 (λ e. omega arith)) (over-cut i (pagesFrom f i) (λ j. pageOn (newPage q) (j - i)) (λ j. writable (f j)) (λ j. Unmapped) page-new)
+    map-slots = rw (ne-eqb i 64 (λ e. omega arith)) (over-cut i (pagesFrom f i) (λ j. pageOn (newPage q) (j - i)) (λ j. writable (f j))
+        (λ j. Unmapped) page-new)
 
     map-bytes : bytesAfter g q (built share (mappedTo i) (blankTo i)) ≡ blankTo (i + pagesFrom f i)
     unfolding bytesAfter firstOf
@@ -171,7 +175,8 @@ module _ (g : Given) (s share : ℕ) (row : s ≤ 3) (d : Pages) (h : IsSnapshot
     last-image =
         let least = start-some f i l starts in
         let last : i + pagesFrom f i - 1 - i ≡ pagesFrom f i - 1 = omega arith in
-        let is : f (i + pagesFrom f i - 1) ≡ pageOn (attributesAt (f i)) (i + pagesFrom f i - 1 - i) = start-page f i l starts (i + pagesFrom f i - 1) (omega arith) (omega arith) in
+        let is : f (i + pagesFrom f i - 1) ≡ pageOn (attributesAt (f i)) (i + pagesFrom f i - 1 - i) = start-page f i l starts (i + pagesFrom f i - 1)
+        (omega arith) (omega arith) in
         let there = h .order .backing (i + pagesFrom f i - 1) (rw is) in
         rw (is, last) at there
 
@@ -182,7 +187,8 @@ module _ (g : Given) (s share : ℕ) (row : s ≤ 3) (d : Pages) (h : IsSnapshot
     unfolding copyAfter
     map-accepted =
         map-taken (viewOf g 0 (built share (mappedTo i) (blankTo i))) s row refl i (pagesFrom f i) (kindOf (backingAt (f i))) (firstImage (backingAt (f i)))
-        l (start-some f i l starts) (start-inside f i l starts) (backing-ok s i (pagesFrom f i) (length (g .image) / 256) (backingAt (f i)) (start-some f i l starts) last-image) map-free
+        l (start-some f i l starts) (start-inside f i l starts)
+        (backing-ok s i (pagesFrom f i) (length (g .image) / 256) (backingAt (f i)) (start-some f i l starts) last-image) map-free
         (rw map-slots (mapped-charge (i + pagesFrom f i))) (rw map-slots (mapped-areas (i + pagesFrom f i)))
 
     map-leaves : coreAfter g q (built share (mappedTo i) (blankTo i)) ≡ built share (mappedTo (i + pagesFrom f i)) (blankTo (i + pagesFrom f i))
@@ -192,7 +198,8 @@ module _ (g : Given) (s share : ℕ) (row : s ≤ 3) (d : Pages) (h : IsSnapshot
     map-goes : Goes g s (q ∷ []) (mapStage i) (mapStage (suc i))
     map-goes =
         rw (start-end f i l starts, ← start-next f i l starts)
-        (goes-one g s q (built share (mappedTo i) (blankTo i)) (built share (mappedTo (i + pagesFrom f i)) (blankTo (i + pagesFrom f i))) refl refl map-accepted map-leaves)
+        (goes-one g s q (built share (mappedTo i) (blankTo i))
+        (built share (mappedTo (i + pagesFrom f i)) (blankTo (i + pagesFrom f i))) refl refl map-accepted map-leaves)
 
   map-stays : (i : ℕ) → i < 64 → startsArea f i ≡ false → mapStage i ≡ mapStage (suc i)
   map-stays i l n =
@@ -218,4 +225,5 @@ module _ (g : Given) (s share : ℕ) (row : s ≤ 3) (d : Pages) (h : IsSnapshot
   pub map-end : mapStage 64 ≡ built share (λ i. writable (f i)) blank
   map-end =
       rw (end-past f 64 (omega arith))
-      (ap₂ (built share) (cut-all 64 (λ i. writable (f i)) (λ i. Unmapped) (λ i l. rw (nothing-past i l))) (cut-all 64 blank (λ i j. 0) (λ i l. rw (nothing-past i l))))
+      (ap₂ (built share) (cut-all 64 (λ i. writable (f i)) (λ i. Unmapped) (λ i l. rw (nothing-past i l)))
+      (cut-all 64 blank (λ i j. 0) (λ i l. rw (nothing-past i l))))

@@ -23,9 +23,10 @@ use Rattle.interface.specs.Outcome.{pageOn, newPage, slotsAfter, copyAfter}
 use Rattle.interface.specs.Accepted.{Accepted}
 use Rattle.interface.proofs.KindLaws.{Kind, kind, isMap, isUnmap, isProtect, isWrite, isSnapshot, isRewind, isOther}
 use Rattle.interface.proofs.AcceptedLaws.{accepted}
-use Rattle.plain.specs.Machine.{Given, Pages, Core, Kept, Plain, fresh, copyBytes, backingByte, newBytes, stored, bytesAfter, pagesAfter, coreAfter, viewOf, shares, numberAt, after, afterAll}
+use Rattle.plain.specs.Machine.{Given, Pages, Core, Kept, Plain, fresh, copyBytes, backingByte, newBytes, stored, bytesAfter, pagesAfter, coreAfter}
+use Rattle.plain.specs.Machine.{viewOf, shares, numberAt, after, afterAll}
 use Rattle.plain.specs.Lists.{upTo}
-use Rattle.archive.specs.Claims.{HasImage, InOrder}
+use Rattle.archive.proofs.IsSnapshot.{HasImage, InOrder}
 
 -- one page with its bytes
 pub record PageOk (image : List ℕ) (x : Slot) (bytes : ℕ → ℕ) : Type 0 where
@@ -77,10 +78,12 @@ module _ (g : Given) (q : Request) (c : Core) (total : ℕ) (a : Accepted (viewO
   new-ok e first i m =
       let limits = rw e at (a .inLimits) in
       let right : rightsOk (q .p5) ≡ true = and-right (backingOk (length (g .image) / 256) q) _ (and-right (placeOk (q .p1) (q .p2)) _ limits) in
-      let back : backingOk (length (g .image) / 256) q ≡ true = and-left (backingOk (length (g .image) / 256) q) _ (and-right (placeOk (q .p1) (q .p2)) _ limits) in
+      let back : backingOk (length (g .image) / 256) q ≡ true = and-left (backingOk (length (g .image) / 256) q) _
+      (and-right (placeOk (q .p1) (q .p2)) _ limits) in
       record {
         rights = λ _. right;
-        backing = λ _. advance-image (length (g .image) / 256) (q .p2) (i - first) (q .p3) (q .p4) back (omega (arith, inside-first first (q .p2) i m, inside-end first (q .p2) i m));
+        backing = λ _. advance-image (length (g .image) / 256) (q .p2) (i - first) (q .p3) (q .p4) back
+            (omega (arith, inside-first first (q .p2) i m, inside-end first (q .p2) i m));
         small = λ j _ n. let byte : ℕ = newBytes g q first i j in never (eqb byte byte) (eq-eqb byte byte refl) n;
       }
 
@@ -96,7 +99,8 @@ module _ (g : Given) (q : Request) (c : Core) (total : ℕ) (a : Accepted (viewO
   written-ok b i = record {
     rights = h .present i .rights;
     backing = h .present i .backing;
-    small = λ j m. when-cases (λ x. eqb x (backingByte (g .image) (backingAt (c .pages .slots i)) j) ≡ false → x < 256) (eqb i (pageOf q) && eqb j (offsetOf q)) (λ _ _. b) (λ _. h .present i .small j m);
+    small = λ j m. when-cases (λ x. eqb x (backingByte (g .image) (backingAt (c .pages .slots i)) j) ≡ false → x < 256)
+        (eqb i (pageOf q) && eqb j (offsetOf q)) (λ _ _. b) (λ _. h .present i .small j m);
   }
 
   present-ok : Kind q → PagesOk (g .image) (pagesAfter g q c)
@@ -104,10 +108,12 @@ module _ (g : Given) (q : Request) (c : Core) (total : ℕ) (a : Accepted (viewO
   present-ok (isMap e) i =
       let new = new-ok e in
       rw e (over-pair (PageOk (g .image)) _ _ _ _ _ _ i (λ m. new _ i m) (h .present i))
-  present-ok (isUnmap e) i = rw e (over-cases (λ x. PageOk (g .image) x (c .pages .bytes i)) _ _ _ _ i (λ _. none-ok (g .image) (c .pages .bytes i)) (h .present i))
+  present-ok (isUnmap e) i = rw e (over-cases (λ x. PageOk (g .image) x (c .pages .bytes i)) _ _ _ _ i (λ _. none-ok (g .image) (c .pages .bytes i))
+      (h .present i))
   present-ok (isProtect e) i =
       let right = protect-right e in
-      rw e (over-cases (λ x. PageOk (g .image) x (c .pages .bytes i)) _ _ _ _ i (λ _. rights-ok (g .image) (c .pages .slots i) (c .pages .bytes i) (q .p3) right (h .present i)) (h .present i))
+      rw e (over-cases (λ x. PageOk (g .image) x (c .pages .bytes i)) _ _ _ _ i
+      (λ _. rights-ok (g .image) (c .pages .slots i) (c .pages .bytes i) (q .p3) right (h .present i)) (h .present i))
   present-ok (isWrite e) i = let written = written-ok (write-byte e) i in rw e written
   present-ok (isSnapshot e) i = rw e (commit-ok (g .image) (c .pages .slots i) (c .pages .bytes i) (h .present i))
   present-ok (isRewind e) i = rw e (copy-ok (g .image) (c .copy) (h .copied) i)

@@ -15,18 +15,21 @@ use Rattle.interface.specs.declared.page.Slot.{Slot}
 use Rattle.interface.specs.declared.page.Slot.the-variants.{Unmapped, Mapped}
 use Rattle.interface.specs.declared.request.Request.{Request}
 use Rattle.interface.specs.Requests.{requestOf, Snapshot}
-use Rattle.interface.specs.Slots.{Slots, isMapped, isCommitted, rightsAt, withRights, withCommitted, joins, previous, startsArea, areas, mappedPages, chargeOf, allAre}
+use Rattle.interface.specs.Slots.{Slots, isMapped, isCommitted, rightsAt, withRights, withCommitted, joins, previous, startsArea, areas, mappedPages}
+use Rattle.interface.specs.Slots.{chargeOf, allAre}
 use Rattle.interface.specs.Outcome.{slotsAfter, copyAfter}
 use Rattle.interface.specs.Refusals.{refusal}
 use Rattle.interface.proofs.ChargeLaws.{snapshot-charge}
 use Rattle.plain.specs.Machine.{Given, Pages, Core, viewOf, bytesAfter, coreAfter}
 use Rattle.archive.specs.Archive.{only, endFrom, pagesFrom, protectAt, protects, closing}
-use Rattle.archive.specs.Claims.{IsSnapshot}
+use Rattle.archive.proofs.IsSnapshot.{IsSnapshot}
 use Rattle.archive.specs.Segments.{Goes, built, writable, unmarked, snapped}
 use Rattle.archive.proofs.SegmentLaws.{goes-one, goes-only, goes-joined}
 use Rattle.archive.proofs.TakenLaws.{protect-taken, snapshot-taken}
-use Rattle.archive.proofs.RunLaws.{cut, cut-from, cut-split, cut-none, cut-all, cut-on, over-cut, end-past, end-here, end-apart, none-joins, areas-le, starts-of}
-use Rattle.archive.proofs.MapLaws.{mapped-remade, remade-none, starts-below, starts-remade, start-mapped, start-end, start-next, start-some, start-inside, start-page, cut-stays, nothing-past}
+use Rattle.archive.proofs.RunLaws.{cut, cut-from, cut-split, cut-none, cut-all, cut-on, over-cut, end-past, end-here, end-apart, none-joins}
+use Rattle.archive.proofs.RunLaws.{areas-le, starts-of}
+use Rattle.archive.proofs.MapLaws.{mapped-remade, remade-none, starts-below, starts-remade, start-mapped, start-end, start-next, start-some}
+use Rattle.archive.proofs.MapLaws.{start-inside, start-page, cut-stays, nothing-past}
 use Rattle.archive.proofs.WriteLaws.{remade-charge}
 
 rights-back : (x : Slot) → rightsAt x ≡ 1 → withRights 1 (writable x) ≡ unmarked x
@@ -62,7 +65,8 @@ module _ (g : Given) (s share : ℕ) (row : s ≤ 3) (d : Pages) (h : IsSnapshot
   protectStage i = built share (protectedTo (endFrom f i)) bytes
 
   mapped-there : (b i : ℕ) → isMapped (protectedTo b i) ≡ isMapped (f i)
-  mapped-there b i = cut-split (λ x. isMapped x ≡ isMapped (f i)) b (λ i. unmarked (f i)) (λ i. writable (f i)) i (λ _. mapped-remade (λ r. r) (f i)) (λ _. mapped-remade (λ r. 3) (f i))
+  mapped-there b i = cut-split (λ x. isMapped x ≡ isMapped (f i)) b (λ i. unmarked (f i)) (λ i. writable (f i)) i (λ _. mapped-remade (λ r. r) (f i))
+      (λ _. mapped-remade (λ r. 3) (f i))
 
   protected-charge : (b : ℕ) → chargeOf (protectedTo b) none ≤ share
   unfolding chargeOf mappedPages
@@ -108,7 +112,8 @@ module _ (g : Given) (s share : ℕ) (row : s ≤ 3) (d : Pages) (h : IsSnapshot
       protect-accepted : refusal (viewOf g 0 (built share (protectedTo i) bytes)) q ≡ 0
       unfolding copyAfter
       protect-accepted =
-          protect-taken (viewOf g 0 (built share (protectedTo i) bytes)) s row refl i (pagesFrom f i) l (start-some f i l starts) (start-inside f i l starts) protect-mapped
+          protect-taken (viewOf g 0 (built share (protectedTo i) bytes)) s row refl i (pagesFrom f i) l (start-some f i l starts)
+          (start-inside f i l starts) protect-mapped
           (rw protect-slots (protected-charge (i + pagesFrom f i)))
           (rw protect-slots (protected-areas (i + pagesFrom f i) (rw (start-next f i l starts) (end-joins (suc i) (omega arith)))))
 

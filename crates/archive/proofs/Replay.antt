@@ -21,7 +21,8 @@ use Rattle.plain.proofs.KeptLaws.{mapped-none, areas-none}
 use Rattle.plain.proofs.TwoListsLaws.{accepted-core}
 use Rattle.plain.proofs.Claims.{claim-always}
 use Rattle.archive.specs.Archive.{joined, only, opening, maps, differs, writeAt, writes, protects, closing, archive}
-use Rattle.archive.specs.Claims.{Alike, IsSnapshot, Occurs, Rebuilds, InSegments, Replay, OnlyIf, IfAlike}
+use Rattle.archive.specs.Claims.{Alike, Occurs, Rebuilds, InSegments, Replay, OnlyIf, IfAlike}
+use Rattle.archive.proofs.IsSnapshot.{IsSnapshot}
 use Rattle.archive.specs.Segments.{Goes, Segments, built, unmarked, writable, blank, filled, snapped}
 use Rattle.archive.proofs.SegmentLaws.{goes-append}
 use Rattle.archive.proofs.TakenLaws.{open-taken}
@@ -94,7 +95,8 @@ module _ (g : Given) (s share : ℕ) (row : s ≤ 3) (d : Pages) (h : IsSnapshot
 sum-at : (f : ℕ → ℕ) (n s : ℕ) → s < n → f s ≤ sum f n
 unfolding sum
 sum-at f zero s l = absurd (omega arith)
-sum-at f (suc n) s l = by-cases (eqb s n) (λ e. let is = eqb-true s n e in rw is (omega arith)) (λ e. omega (arith, sum-at f n s (omega (arith, eqb-false s n e))))
+sum-at f (suc n) s l = by-cases (eqb s n) (λ e. let is = eqb-true s n e in rw is (omega arith))
+    (λ e. omega (arith, sum-at f n s (omega (arith, eqb-false s n e))))
 
 module _ (g : Given) (s share : ℕ) (d : Pages) (o : Occurs g s share d) where
   abbrev k : Kept

@@ -36,7 +36,8 @@ unfolding cut
 cut-from b f g i h = rw (le-ltb i b h)
 
 pub cut-split {ℓ ℓ′} : {A : Type ℓ} (P : A → Type ℓ′) (b : ℕ) (f g : ℕ → A) (i : ℕ) → (i < b → P (f i)) → (b ≤ i → P (g i)) → P (cut b f g i)
-cut-split P b f g i low high = by-cases (ltb i b) (λ l. rw (cut-below b f g i (ltb-true i b l)) (low (ltb-true i b l))) (λ l. rw (cut-from b f g i (ltb-false i b l)) (high (ltb-false i b l)))
+cut-split P b f g i low high = by-cases (ltb i b) (λ l. rw (cut-below b f g i (ltb-true i b l)) (low (ltb-true i b l)))
+    (λ l. rw (cut-from b f g i (ltb-false i b l)) (high (ltb-false i b l)))
 
 pub cut-none {ℓ} : {A : Type ℓ} (f g : ℕ → A) → cut 0 f g ≡ g
 cut-none f g = fun-ext λ i. cut-from 0 f g i (omega arith)
@@ -105,7 +106,8 @@ none-joins (Mapped t) (Mapped u) h = never true refl h
 pub end-unmapped : (f : Slots) (i : ℕ) → i < 64 → isMapped (f i) ≡ false → (endFrom f i ≡ i) × (endFrom f (suc i) ≡ suc i)
 end-unmapped f i h u = (
   end-here f i h (none-joins (previous f i) (f i) u),
-  by-cases (ltb (suc i) 64) (λ l. end-here f (suc i) (ltb-true (suc i) 64 l) (joins-none (f i) (f (suc i)) u)) (λ l. end-past f (suc i) (ltb-false (suc i) 64 l)),
+  by-cases (ltb (suc i) 64) (λ l. end-here f (suc i) (ltb-true (suc i) 64 l) (joins-none (f i) (f (suc i)) u))
+      (λ l. end-past f (suc i) (ltb-false (suc i) 64 l)),
 )
 
 -- ---- what stands at the pages of an area
@@ -147,9 +149,11 @@ page-more : (t : Attributes) (x : Slot) (k : ℕ) → x ≡ pageOn t k → pageO
 page-more t x k e = rw e (ap (λ (b : Backing). Mapped (record { rights = t .rights; committed = t .committed; backing = b })) (advance-more (t .backing) k))
 
 -- a page of the area that starts at page i
-pub run : (f : Slots) (i k : ℕ) → isMapped (f i) ≡ true → ((j : ℕ) → i < j → j ≤ i + k → joins (previous f j) (f j) ≡ true) → f (i + k) ≡ pageOn (attributesAt (f i)) k
+pub run : (f : Slots) (i k : ℕ) → isMapped (f i) ≡ true → ((j : ℕ) → i < j → j ≤ i + k → joins (previous f j) (f j) ≡ true)
+    → f (i + k) ≡ pageOn (attributesAt (f i)) k
 run f i zero m h =
-    rw add-zero (mapped-slot (f i) m ∙ ap (λ (b : Backing). Mapped (record { rights = rightsAt (f i); committed = isCommitted (f i); backing = b })) (sym (advance-none (backingAt (f i)))))
+    rw add-zero (mapped-slot (f i) m ∙ ap (λ (b : Backing). Mapped (record { rights = rightsAt (f i); committed = isCommitted (f i); backing = b }))
+    (sym (advance-none (backingAt (f i)))))
 run f i (suc k) m h =
     let next : i + suc k ≡ suc (i + k) = omega arith in
     let before = run f i k m (λ j l n. h j l (omega arith)) in
@@ -168,7 +172,8 @@ pub areas-le : (h f : Slots) → ((i : ℕ) → startsArea h i ≡ true → star
 unfolding areas
 areas-le h f e = count-le (startsArea h) (startsArea f) 64 e
 
-pub starts-of : (h f : Slots) (i : ℕ) → (isMapped (h i) ≡ true → isMapped (f i) ≡ true) → (joins (previous f i) (f i) ≡ true → joins (previous h i) (h i) ≡ true)
+pub starts-of : (h f : Slots) (i : ℕ) → (isMapped (h i) ≡ true → isMapped (f i) ≡ true)
+    → (joins (previous f i) (f i) ≡ true → joins (previous h i) (h i) ≡ true)
     → startsArea h i ≡ true → startsArea f i ≡ true
 starts-of h f i m j e =
     let apart = not-true _ (and-right (isMapped (h i)) (not (joins (previous h i) (h i))) e) in

@@ -25,12 +25,14 @@ module _ (g : Given) (s : ℕ) where
 
   pub goes-append : (l m : List Request) (c d e : Core) → Goes g s l c d → Goes g s m d e → Goes g s (l ++ m) c e
   goes-append l m c d e x y = record {
-    taken = λ p h. rw (answers-append g p l m) (taken-append (answers g p l) (answers g (afterAll g p l) m) (x .taken p h) (y .taken (afterAll g p l) (x .leaves p h)));
+    taken = λ p h. rw (answers-append g p l m) (taken-append (answers g p l) (answers g (afterAll g p l) m) (x .taken p h)
+        (y .taken (afterAll g p l) (x .leaves p h)));
     leaves = λ p h. rw (after-append g p l m) (y .leaves (afterAll g p l) (x .leaves p h));
   }
 
   -- one request of an open sandbox
-  module _ (q : Request) (c c′ : Core) (names : q .sandbox ≡ s) (opened : c .opened ≡ true) (free : refusal (viewOf g 0 c) q ≡ 0) (is : coreAfter g q c ≡ c′) where
+  module _ (q : Request) (c c′ : Core) (names : q .sandbox ≡ s) (opened : c .opened ≡ true) (free : refusal (viewOf g 0 c) q ≡ 0)
+      (is : coreAfter g q c ≡ c′) where
     one-taken : (p : Plain) → p s .core ≡ c → numberAt g p q ≡ 0
     one-taken p h = let own : p (q .sandbox) .core ≡ c = ap (λ (t : ℕ). p t .core) names ∙ h in rw own (shares-apart g (shares p) 0 q c opened ∙ free)
 
@@ -46,7 +48,8 @@ module _ (g : Given) (s : ℕ) where
   goes-only b q c c′ there not-there = when-cases (λ (l : List Request). Goes g s l c c′) b there (λ e. goes-none c c′ (not-there e))
 
   -- parts behind each other, by what is reached before each
-  pub goes-joined : (f : ℕ → List Request) (stage : ℕ → Core) (n : ℕ) → ((i : ℕ) → i < n → Goes g s (f i) (stage i) (stage (suc i))) → Goes g s (joined f n) (stage 0) (stage n)
+  pub goes-joined : (f : ℕ → List Request) (stage : ℕ → Core) (n : ℕ) → ((i : ℕ) → i < n → Goes g s (f i) (stage i) (stage (suc i)))
+      → Goes g s (joined f n) (stage 0) (stage n)
   unfolding joined
   goes-joined f stage zero h = goes-none (stage 0) (stage 0) refl
   goes-joined f stage (suc n) h =

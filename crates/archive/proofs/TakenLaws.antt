@@ -18,12 +18,26 @@ module _ (v : View) (s : ℕ) (row : s ≤ 3) where
       rw (le-ltb 3 s row, o, le-leb 1 share l, le-leb share 128 m, le-ltb _ _ p, le-ltb share _ c, le-ltb 8 _ a)
 
   module _ (opened : v .opened ≡ true) where
-    pub map-taken : (i n kind p : ℕ) → i < 64 → 1 ≤ n → i + n ≤ 64 → backingOk (v .imagePages) (requestOf Map s i n kind p 3) ≡ true → allAre false (v .slots) i n ≡ true
+    pub map-taken : (i n kind p : ℕ) → i < 64 → 1 ≤ n → i + n ≤ 64 → backingOk (v .imagePages) (requestOf Map s i n kind p 3) ≡ true
+        → allAre false (v .slots) i n ≡ true
         → chargeThen v (requestOf Map s i n kind p 3) ≤ v .share → areas (slotsThen v (requestOf Map s i n kind p 3)) ≤ 8
         → refusal v (requestOf Map s i n kind p 3) ≡ 0
     unfolding refusal within allMapped
     map-taken i n kind p l m e b u c a =
-        rw (le-ltb 3 s row, opened, ne-eqb i 64 (λ t. omega arith), le-leb i 63 (omega arith), le-leb 1 n m, le-leb n 64 (omega arith), le-leb (i + n) 64 e, b, u, le-ltb (v .share) _ c, le-ltb 8 _ a)
+        rw (
+          le-ltb 3 s row,
+          opened,
+          ne-eqb i 64 (λ t. omega arith),
+          le-leb i 63 (omega arith),
+          le-leb 1 n m,
+          le-leb n 64 (omega arith),
+          le-leb
+              (i + n) 64 e,
+          b,
+          u,
+          le-ltb (v .share) _ c,
+          le-ltb 8 _ a,
+        )
 
     pub write-taken : (a b : ℕ) → a < 16384 → b < 256 → isMapped (v .slots (a / 256)) ≡ true → rightsAt (v .slots (a / 256)) ≡ 3
         → chargeThen v (requestOf Write s a b 0 0 0) ≤ v .share → areas (slotsThen v (requestOf Write s a b 0 0 0)) ≤ 8
@@ -36,7 +50,18 @@ module _ (v : View) (s : ℕ) (row : s ≤ 3) where
         → refusal v (requestOf Protect s i n 1 0 0) ≡ 0
     unfolding refusal within allMapped
     protect-taken i n l m e u c f =
-        rw (le-ltb 3 s row, opened, le-leb i 63 (omega arith), le-leb 1 n m, le-leb n 64 (omega arith), le-leb (i + n) 64 e, u, le-ltb (v .share) _ c, le-ltb 8 _ f)
+        rw (
+          le-ltb 3 s row,
+          opened,
+          le-leb i 63 (omega arith),
+          le-leb 1 n m,
+          le-leb n 64 (omega arith),
+          le-leb (i + n) 64 e,
+          u,
+          le-ltb
+              (v .share) _ c,
+          le-ltb 8 _ f,
+        )
 
     pub snapshot-taken : isTaken (v .copy) ≡ false
         → chargeThen v (requestOf Snapshot s 0 0 0 0 0) ≤ v .share → areas (slotsThen v (requestOf Snapshot s 0 0 0 0 0)) ≤ 8

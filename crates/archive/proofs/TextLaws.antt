@@ -17,7 +17,7 @@ use Rattle.lines.specs.Lines.{linesOf}
 use Rattle.lines.proofs.PrintLaws.{length-request}
 use Rattle.plain.specs.Machine.{Pages}
 use Rattle.archive.specs.Archive.{joined, only, kindOf, firstImage, mapAt, maps, differs, writeAt, writes, protectAt, protects, closing, archive}
-use Rattle.archive.specs.Claims.{HasImage, IsSnapshot}
+use Rattle.archive.proofs.IsSnapshot.{HasImage, IsSnapshot}
 use Rattle.archive.specs.Text.{printedRoll, Sayable}
 use Rattle.archive.proofs.MapLaws.{start-inside, start-mapped}
 
@@ -80,7 +80,8 @@ module _ (s share : ℕ) (d : Pages) (image : List ℕ) (row : s ≤ 3) (h : IsS
   writes-sayable =
       sayable-joined (λ a. only (differs image d (a / 256) (a % 256)) (writeAt s d a)) 16384
       (λ a l. sayable-only (differs image d (a / 256) (a % 256)) (writeAt s d a) (λ t.
-      let byte = h .order .bytes (a / 256) (a % 256) (and-left (isMapped (d .slots (a / 256))) _ t) (not-true _ (and-right (isMapped (d .slots (a / 256))) _ t)) in
+      let byte = h .order .bytes (a / 256) (a % 256) (and-left (isMapped (d .slots (a / 256))) _ t)
+      (not-true _ (and-right (isMapped (d .slots (a / 256))) _ t)) in
       seven (omega arith) (omega arith) (omega arith) (omega arith) (omega arith) (omega arith) (omega arith)))
 
   protects-sayable : Sayable (protects s (d .slots))
@@ -117,6 +118,8 @@ pub archive-length : (s share : ℕ) (d : Pages) (image : List ℕ) → length (
 unfolding archive maps writes protects
 archive-length s share d image =
     let m = joined-length (λ i. only (startsArea (d .slots) i) (mapAt s (d .slots) i)) 64 (λ i. only-length (startsArea (d .slots) i) (mapAt s (d .slots) i)) in
-    let w = joined-length (λ a. only (differs image d (a / 256) (a % 256)) (writeAt s d a)) 16384 (λ a. only-length (differs image d (a / 256) (a % 256)) (writeAt s d a)) in
-    let p = joined-length (λ i. only (startsArea (d .slots) i && eqb (rightsAt (d .slots i)) 1) (protectAt s (d .slots) i)) 64 (λ i. only-length (startsArea (d .slots) i && eqb (rightsAt (d .slots i)) 1) (protectAt s (d .slots) i)) in
+    let w = joined-length (λ a. only (differs image d (a / 256) (a % 256)) (writeAt s d a)) 16384
+    (λ a. only-length (differs image d (a / 256) (a % 256)) (writeAt s d a)) in
+    let p = joined-length (λ i. only (startsArea (d .slots) i && eqb (rightsAt (d .slots i)) 1) (protectAt s (d .slots) i)) 64
+    (λ i. only-length (startsArea (d .slots) i && eqb (rightsAt (d .slots i)) 1) (protectAt s (d .slots) i)) in
     simp length-append (omega (arith, m, w, p))

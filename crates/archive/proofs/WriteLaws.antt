@@ -17,7 +17,7 @@ use Rattle.interface.specs.Outcome.{slotsAfter, copyAfter}
 use Rattle.interface.specs.Refusals.{refusal}
 use Rattle.plain.specs.Machine.{Given, Pages, Core, viewOf, stored, bytesAfter, coreAfter}
 use Rattle.archive.specs.Archive.{only, differs, writeAt, writes}
-use Rattle.archive.specs.Claims.{IsSnapshot}
+use Rattle.archive.proofs.IsSnapshot.{IsSnapshot}
 use Rattle.archive.specs.Segments.{Goes, built, remade, writable, filled}
 use Rattle.archive.proofs.SegmentLaws.{goes-one, goes-only, goes-joined}
 use Rattle.archive.proofs.TakenLaws.{write-taken}
@@ -71,7 +71,8 @@ module _ (g : Given) (s share : ℕ) (row : s ≤ 3) (d : Pages) (h : IsSnapshot
 
   filled-before : (a : ℕ) → filledTo a (a / 256) (a % 256) ≡ blank′ (a / 256) (a % 256)
   unfolding filledTo
-  filled-before a = by-cases (isMapped (f (a / 256))) (λ m. rw (m, lt-ltb (a % 256) 256 (omega arith), le-ltb (a / 256 * 256 + a % 256) a (omega arith))) (λ m. rw m)
+  filled-before a = by-cases (isMapped (f (a / 256))) (λ m. rw (m, lt-ltb (a % 256) 256 (omega arith), le-ltb (a / 256 * 256 + a % 256) a (omega arith)))
+      (λ m. rw m)
 
   filled-unmapped : (a i j : ℕ) → isMapped (f i) ≡ false → filledTo a i j ≡ blank′ i j
   unfolding filledTo
@@ -108,7 +109,8 @@ module _ (g : Given) (s share : ℕ) (row : s ≤ 3) (d : Pages) (h : IsSnapshot
       write-accepted : refusal (viewOf g 0 (writeStage a)) q ≡ 0
       unfolding slotsAfter copyAfter chargeOf
       write-accepted =
-          write-taken (viewOf g 0 (writeStage a)) s row refl a (d .bytes (a / 256) (a % 256)) l byte (rw (mapped-remade (λ r. 3) (f (a / 256))) there) (rights-writable (f (a / 256)) there)
+          write-taken (viewOf g 0 (writeStage a)) s row refl a (d .bytes (a / 256) (a % 256)) l byte (rw (mapped-remade (λ r. 3) (f (a / 256))) there)
+          (rights-writable (f (a / 256)) there)
           (omega (arith, h .charged, remade-charge f (λ r. 3))) (omega (arith, h .few, remade-areas f (λ r. 3)))
 
       write-leaves : coreAfter g q (writeStage a) ≡ writeStage (suc a)

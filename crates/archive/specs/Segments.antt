@@ -67,7 +67,8 @@ pub record Segments (g : Given) (s share : ℕ) (d : Pages) : Type 0 where
   pub written : Goes g s (writes s (g .image) d) (built share (λ i. writable (d .slots i)) (blank (g .image) (d .slots)))
       (built share (λ i. writable (d .slots i)) (filled (g .image) d))
   -- and its rights; whatever its bytes
-  pub protected : (bytes : ℕ → ℕ → ℕ) → Goes g s (protects s (d .slots)) (built share (λ i. writable (d .slots i)) bytes) (built share (λ i. unmarked (d .slots i)) bytes)
+  pub protected : (bytes : ℕ → ℕ → ℕ) → Goes g s (protects s (d .slots)) (built share (λ i. writable (d .slots i)) bytes)
+      (built share (λ i. unmarked (d .slots i)) bytes)
   -- its mark, and the copy
   pub closed : (bytes : ℕ → ℕ → ℕ)
       → Goes g s (closing s) (built share (λ i. unmarked (d .slots i)) bytes) (snapped share (record { slots = d .slots; bytes = bytes }))

@@ -222,10 +222,10 @@ module _ (g : Given) (L : Lent g) (qs : List Request) (as′ : List Answered) (w
     without t =
         by-cases (ltb 3 s || not (mine .opened))
         (λ e. both-refused 4 refl (number ∙ closed-4 mine s _ (length out) e)
-            (closed-4 theirs s _ (length out) (ap (λ (x : View). ltb 3 s || not (x .opened)) (sym view) ∙ e)))
+        (closed-4 theirs s _ (length out) (ap (λ (x : View). ltb 3 s || not (x .opened)) (sym view) ∙ e)))
         (λ e. both-refused 8 refl (number ∙ bare-8 mine s _ (length out) e (rw t))
-            (bare-8 theirs s _ (length out) (ap (λ (x : View). ltb 3 s || not (x .opened)) (sym view) ∙ e)
-            (ap (λ (x : View). isTaken (x .copy)) (sym view) ∙ rw t)))
+        (bare-8 theirs s _ (length out) (ap (λ (x : View). ltb 3 s || not (x .opened)) (sym view) ∙ e)
+        (ap (λ (x : View). isTaken (x .copy)) (sym view) ∙ rw t)))
 
 pub written-as-plain : (g : Given) → Lent g → WrittenAsPlain g
 written-as-plain g L qs as′ w r s out =
@@ -246,7 +246,8 @@ text-of g L s w S = text g L s w S
 
 pub if-alike-of : (image : List ℕ) → IfAlikeOf image
 if-alike-of image s w₁ w₂ e h =
-    ap (λ share. archive s share (snapshotOf image w₁ s) image) e ∙ archive-alike s (sandboxAt w₂ s .share) (snapshotOf image w₁ s) (snapshotOf image w₂ s) image h
+    ap (λ share. archive s share (snapshotOf image w₁ s) image) e
+    ∙ archive-alike s (sandboxAt w₂ s .share) (snapshotOf image w₁ s) (snapshotOf image w₂ s) image h
 
 pub only-if-of : (image : List ℕ) (frames₁ frames₂ : ℕ) → Lent (record { image = image; frames = frames₁ }) → Lent (record { image = image; frames = frames₂ })
     → OnlyIfOf image frames₁ frames₂

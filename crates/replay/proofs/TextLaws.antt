@@ -26,7 +26,12 @@ pub roll-read : (l : List Request) (rest : List ℕ) → Sayable l → requests 
 unfolding printedRoll requests linesIn
 roll-read [] rest h = refl
 roll-read (q ∷ l) rest h =
-    rw (append-assoc (printedRequest q) (printedRoll l) rest, lines-cons (printedRequest q) (printedRoll l ++ rest) (length-request q) (length l), request-read q (h .0))
+    rw (
+      append-assoc (printedRequest q) (printedRoll l) rest,
+      lines-cons (printedRequest q) (printedRoll l ++ rest) (length-request q)
+          (length l),
+      request-read q (h .0),
+    )
     (ap (λ x. q ∷ x) (roll-read l rest (h .1)))
 
 -- no more requests than lines
@@ -49,7 +54,8 @@ nothing [] h = refl
 nothing (x ∷ text) h = absurd (omega arith)
 
 -- the request that a line gives
-by-line : (x : Line) (q : Request) (l : List Request) (more : List ℕ) → requests (x ∷ linesIn more (length l)) ≡ q ∷ l → (x ≡ Call q) × (requests (linesIn more (length l)) ≡ l)
+by-line : (x : Line) (q : Request) (l : List Request) (more : List ℕ) → requests (x ∷ linesIn more (length l)) ≡ q ∷ l
+    → (x ≡ Call q) × (requests (linesIn more (length l)) ≡ l)
 unfolding requests
 by-line (Call p) q l more y = let s = head-same p q _ l y in (ap Call (s .0), s .1)
 by-line Malformed q l more y =
