@@ -21,7 +21,7 @@ use Rattle.plain.proofs.KeptLaws.{mapped-none, areas-none}
 use Rattle.plain.proofs.TwoListsLaws.{accepted-core}
 use Rattle.plain.proofs.Claims.{claim-always}
 use Rattle.archive.specs.Archive.{joined, only, opening, maps, differs, writeAt, writes, protects, closing, archive}
-use Rattle.archive.specs.Claims.{Alike, Occurs, Rebuilds, InSegments, Replay, OnlyIf, IfAlike}
+use Rattle.archive.specs.Claims.{Alike, Occurs, Rebuilds, InSegments, Replay, OnlyIf, IfAlike, Longest}
 use Rattle.archive.proofs.IsSnapshot.{IsSnapshot}
 use Rattle.archive.specs.Segments.{Goes, Segments, built, unmarked, writable, blank, filled, snapped}
 use Rattle.archive.proofs.SegmentLaws.{goes-append}
@@ -30,6 +30,7 @@ use Rattle.archive.proofs.MapLaws.{mapStage, map-start, map-end, maps-g
 use Rattle.archive.proofs.WriteLaws.{writeStage, write-start, writes-go, write-end}
 use Rattle.archive.proofs.ProtectLaws.{protectStage, protect-start, protect-end, protects-go, snapshot-goes}
 use Rattle.archive.proofs.OrderLaws.{copy-in-order}
+use Rattle.archive.proofs.TextLaws.{archive-longest}
 
 -- the first line, from fresh
 module _ (g : Given) (s share : ℕ) (row : s ≤ 3) (least : 1 ≤ share) (most : share ≤ 128) (fits : share ≤ g .frames) where
@@ -105,7 +106,7 @@ module _ (g : Given) (s share : ℕ) (d : Pages) (o : Occurs g s share d) where
   keeps : Keeps k
   keeps = claim-always g (o .list) .holds .each s
 
-  opened : k .core .opened ≡ true
+  pub opened : k .core .opened ≡ true
   opened =
       by-cases (k .core .opened) (λ e. e)
       (λ e. absurd (Option·some-ne-none d (sym (o .copy) ∙ ap (λ (x : Kept). x .core .copy) (keeps .closedEmpty e))))
@@ -137,6 +138,9 @@ in-segments g s share d o = segments-go g s share (o .row) d (is-snapshot g s sh
 
 pub replay : (g : Given) → Replay g
 replay g s share d o = rebuilds g s share (o .row) d (is-snapshot g s share d o) (share-fits g s share d o)
+
+pub longest : (g : Given) → Longest g
+longest g s share d o = archive-longest s share d (g .image) (is-snapshot g s share d o .few)
 
 -- ---- equal rolls
 

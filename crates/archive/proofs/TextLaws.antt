@@ -1,24 +1,28 @@
 -- The lines of an archive roll: every number fits its field, and there are not more lines than are read.
-use Prim.Native.Nat.{ℕ, zero, suc, _*_, _/_, _%_, _≤_, _<_}
-use mathlib.Core.Path.{_≡_, refl, sym, ap, _∙_}
+use Prim.Native.Nat.{ℕ, zero, suc, _+_, _*_, _/_, _%_, _≤_, _<_}
+use mathlib.Core.Path.{_≡_, refl, sym, ap, ap₂, _∙_}
 use mathlib.Core.Bool.{Bool, true, _&&_}
 use mathlib.Core.List.{List, [], _∷_, _++_, append-assoc}
 use native.Mathlib.Omega.{arith}
 use lib.Dec.{eqb}
 use lib.ListN.{length, length-append}
 use borrow.Author.Tests.{not-true}
-use Rattle.basics.proofs.TestLaws.{when-cases, and-left, and-right}
+use Rattle.basics.specs.Ranges.{count}
+use Rattle.basics.proofs.TestLaws.{by-cases, when-cases, and-left, and-right}
+use Rattle.basics.proofs.CountLaws.{count-small, count-le}
 use Rattle.interface.specs.declared.page.Backing.{Backing}
 use Rattle.interface.specs.declared.page.Backing.the-variants.{Anonymous, Image}
 use Rattle.interface.specs.declared.request.Request.{Request}
-use Rattle.interface.specs.Slots.{isMapped, rightsAt, backingAt, startsArea}
+use Rattle.interface.specs.Slots.{isMapped, rightsAt, backingAt, startsArea, areas}
 use Rattle.lines.specs.Prints.{UpTo, numbersOf, printedRequest}
 use Rattle.lines.specs.Lines.{linesOf}
 use Rattle.lines.proofs.PrintLaws.{length-request}
 use Rattle.plain.specs.Machine.{Pages}
-use Rattle.archive.specs.Archive.{joined, only, kindOf, firstImage, mapAt, maps, differs, writeAt, writes, protectAt, protects, closing, archive}
-use Rattle.archive.proofs.IsSnapshot.{HasImage, IsSnapshot}
+use Rattle.archive.specs.Archive.{joined, only, kindOf, firstImage, mapAt, maps, differs, writeAt, writes}
+use Rattle.archive.specs.Archive.{readOnlyStart, protectAt, protects, closing, archive}
 use Rattle.archive.specs.Text.{printedRoll, Sayable}
+use Rattle.archive.specs.Claims.{LinesCounted}
+use Rattle.archive.proofs.IsSnapshot.{HasImage, IsSnapshot}
 use Rattle.archive.proofs.MapLaws.{start-inside, start-mapped}
 
 -- ---- the text
@@ -113,13 +117,42 @@ unfolding joined
 joined-length f zero h = omega arith
 joined-length f (suc n) h = rw (length-append (joined f n) (f n)) (omega (arith, h n, joined-length f n h))
 
--- at most 64 maps, a write for each address, and at most 64 protects: more than there can be, and fewer than are read
-pub archive-length : (s share : ℕ) (d : Pages) (image : List ℕ) → length (archive s share d image) ≤ 16514
-unfolding archive maps writes protects
-archive-length s share d image =
-    let m = joined-length (λ i. only (startsArea (d .slots) i) (mapAt s (d .slots) i)) 64 (λ i. only-length (startsArea (d .slots) i) (mapAt s (d .slots) i)) in
-    let w = joined-length (λ a. only (differs image d (a / 256) (a % 256)) (writeAt s d a)) 16384
-    (λ a. only-length (differs image d (a / 256) (a % 256)) (writeAt s d a)) in
-    let p = joined-length (λ i. only (startsArea (d .slots) i && eqb (rightsAt (d .slots i)) 1) (protectAt s (d .slots) i)) 64
-    (λ i. only-length (startsArea (d .slots) i && eqb (rightsAt (d .slots i)) 1) (protectAt s (d .slots) i)) in
+-- as many as the tests that hold
+lines-there : {A : Type 0} (there : ℕ → Bool) (x : ℕ → A) (n : ℕ) → length (joined (λ i. only (there i) (x i)) n) ≡ count there n
+unfolding joined count
+lines-there there x zero = refl
+lines-there there x (suc n) =
+    length-append (joined (λ i. only (there i) (x i)) n) (only (there n) (x n))
+    ∙ ap₂ _+_ (lines-there there x n) (by-cases (there n) (λ e. rw e) (λ e. rw e))
+
+pub counted : LinesCounted
+unfolding archive maps writes protects areas
+counted s share d image =
+    let m = lines-there (startsArea (d .slots)) (mapAt s (d .slots)) 64 in
+    let w = lines-there (λ a. differs image d (a / 256) (a % 256)) (writeAt s d) 16384 in
+    let p = lines-there (readOnlyStart (d .slots)) (protectAt s (d .slots)) 64 in
     simp length-append (omega (arith, m, w, p))
+
+-- fewer than are read, whatever the pages
+pub archive-length : (s share : ℕ) (d : Pages) (image : List ℕ) → length (archive s share d image) ≤ 16514
+unfolding areas
+archive-length s share d image =
+    omega (
+      arith,
+      counted s share d image,
+      count-small (startsArea (d .slots)) 64,
+      count-small (λ a. differs image d (a / 256) (a % 256)) 16384,
+      count-small (readOnlyStart (d .slots)) 64,
+    )
+
+-- and of a snapshot
+pub archive-longest : (s share : ℕ) (d : Pages) (image : List ℕ) → areas (d .slots) ≤ 8 → length (archive s share d image) ≤ 16402
+unfolding areas
+archive-longest s share d image few =
+    omega (
+      arith,
+      few,
+      counted s share d image,
+      count-small (λ a. differs image d (a / 256) (a % 256)) 16384,
+      count-le (readOnlyStart (d .slots)) (startsArea (d .slots)) 64 (λ i e. and-left (startsArea (d .slots) i) _ e),
+    )

@@ -72,8 +72,11 @@ writes s image d = joined (λ a. only (differs image d (a / 256) (a % 256)) (wri
 abbrev pub protectAt : ℕ → Slots → ℕ → Request
 protectAt s f i = requestOf Protect s i (pagesFrom f i) 1 0 0
 
+abbrev pub readOnlyStart : Slots → ℕ → Bool
+readOnlyStart f i = startsArea f i && eqb (rightsAt (f i)) 1
+
 unfoldable pub protects : ℕ → Slots → List Request
-protects s f = joined (λ i. only (startsArea f i && eqb (rightsAt (f i)) 1) (protectAt s f i)) 64
+protects s f = joined (λ i. only (readOnlyStart f i) (protectAt s f i)) 64
 
 -- "snapshot"
 abbrev pub closing : ℕ → List Request

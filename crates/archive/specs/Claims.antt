@@ -1,14 +1,16 @@
 -- What is claimed of an archive roll.
-use Prim.Native.Nat.{ℕ, _≤_, _<_}
+use Prim.Native.Nat.{ℕ, _+_, _/_, _%_, _≤_, _<_}
 use mathlib.Core.Path.{_≡_}
 use mathlib.Core.Bool.{true}
 use mathlib.Core.List.{List}
 use mathlib.Core.Option.{some}
+use lib.ListN.{length}
+use Rattle.basics.specs.Ranges.{count}
 use Rattle.interface.specs.declared.request.Request.{Request}
-use Rattle.interface.specs.Slots.{isMapped}
+use Rattle.interface.specs.Slots.{isMapped, areas}
 use Rattle.plain.specs.Machine.{Given, Pages, fresh, answers}
 use Rattle.plain.specs.Lists.{upTo}
-use Rattle.archive.specs.Archive.{archive}
+use Rattle.archive.specs.Archive.{differs, readOnlyStart, archive}
 use Rattle.archive.specs.Segments.{AllTaken, Segments}
 
 -- "equal .. in mappings, rights and bytes": "Its mappings are its mapped pages with their backing; its bytes are what these pages read."
@@ -53,3 +55,15 @@ OnlyIf image =
 -- and those that agree in these give equal rolls, of one sandbox with one share
 abbrev pub IfAlike : Type 0
 IfAlike = (s share : ℕ) (d e : Pages) (image : List ℕ) → Alike d e → archive s share d image ≡ archive s share e image
+
+-- ---- how many lines
+
+-- "The answer is the number of lines": one for each area, for each byte that differs and for each area with rights 1, the first and the last
+abbrev pub LinesCounted : Type 0
+LinesCounted =
+    (s share : ℕ) (d : Pages) (image : List ℕ)
+    → length (archive s share d image) ≡ areas (d .slots) + count (λ a. differs image d (a / 256) (a % 256)) 16384 + count (readOnlyStart (d .slots)) 64 + 2
+
+-- never more than 8 + 16,384 + 8 + 2
+abbrev pub Longest : Given → Type 0
+Longest g = (s share : ℕ) (d : Pages) → Occurs g s share d → length (archive s share d (g .image)) ≤ 16402

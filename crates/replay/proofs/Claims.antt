@@ -1,5 +1,5 @@
 -- The machine's snapshot is the plain machine's copy; so the claims about rolls of the plain machine hold of the machine that runs.
-use Prim.Native.Nat.{ℕ, _*_, _<_}
+use Prim.Native.Nat.{ℕ, _*_, _≤_, _<_}
 use mathlib.Core.Path.{_≡_, refl, sym, ap, ap₂, _∙_}
 use mathlib.Core.Bool.{Bool, true, false, false≢true, not, _||_}
 use mathlib.Core.List.{List}
@@ -7,7 +7,7 @@ use mathlib.Core.Option.{Option, some, none}
 use native.Mathlib.Omega.{arith}
 use lib.Dec.{eqb, ltb}
 use lib.ListN.{length}
-use borrow.Author.Tests.{ltb-true, ltb-false}
+use borrow.Author.Tests.{ltb-false, le-ltb}
 use Rattle.basics.proofs.TestLaws.{by-cases, or-left}
 use Rattle.interface.specs.declared.request.Request.{Request}
 use Rattle.interface.specs.Answers.{Answered}
@@ -33,10 +33,11 @@ use Rattle.archive.specs.Text.{Sayable, printedRoll}
 use Rattle.archive.specs.Written.{Written, writtenAs, rollOf, plainWritten}
 use Rattle.archive.specs.Segments.{AllTaken}
 use Rattle.archive.specs.Claims.{Alike, Occurs, Rebuilds}
-use Rattle.archive.proofs.Replay.{replay, only-if, is-snapshot, alike-sym, alike-trans, archive-alike}
+use Rattle.archive.proofs.Replay.{replay, opened, longest, only-if, is-snapshot, alike-sym, alike-trans, archive-alike}
 use Rattle.archive.proofs.TextLaws.{archive-sayable, archive-length, lines-of-roll}
 use Rattle.replay.specs.Snapshot.{snapshotOf, archiveOf, archiveNumber, written}
-use Rattle.replay.specs.Claims.{After, Snapped, WrittenAsPlain, Rebuilt, ReplayOf, AgainOf, OnlyIfOf, IfAlikeOf, Text, TextOf, Archived}
+use Rattle.replay.specs.Claims.{After, Snapped, WrittenAsPlain, AcceptedOf, LongestOf, Rebuilt, ReplayOf, AgainOf, OnlyIfOf, IfAlikeOf, Text}
+use Rattle.replay.specs.Claims.{TextOf, Archived}
 use Rattle.replay.proofs.TextLaws.{roll-read, roll-one}
 
 taken-some : (o : Option Pages) → isTaken o ≡ true → (d : Pages) × (o ≡ some d)
@@ -64,6 +65,10 @@ module _ (g : Given) (L : Lent g) (s : ℕ) (w : World) (S : Snapped g s w) wher
 
   pub occurs : Occurs g s (sandboxAt w s .share) copy
   occurs = record { list = qs; row = omega (arith, S .row); shared = sym (agrees .each s (S .row) .share); copy = is-copy }
+
+  pub is-open : sandboxAt w s .opened ≡ true
+  unfolding occurs
+  is-open = agrees .each s (S .row) .opened ∙ opened g s (sandboxAt w s .share) copy occurs
 
   copy-slots : copied (copySlots (upTo g qs s .core)) ≡ copy .slots
   copy-slots = rw is-copy
@@ -233,6 +238,23 @@ written-as-plain g L qs as′ w r s out =
     (λ e. let l : s < 4 = omega (arith, ltb-false 3 s e) in
     by-cases (sandboxAt w s .taken) (with-copy g L qs as′ w r s out l) (without g L qs as′ w r s out l))
 
+-- ---- with room
+
+free-0 : (v : View) (s bytes room : ℕ) → s < 4 → v .opened ≡ true → isTaken (v .copy) ≡ true → bytes ≤ room → archiveRefusal v s bytes room ≡ 0
+unfolding archiveRefusal
+free-0 v s bytes room row opened taken fits = rw (le-ltb 3 s (omega (arith, row)), opened, taken, le-ltb room bytes fits)
+
+pub accepted-of : (g : Given) → Lent g → AcceptedOf g
+unfolding written
+accepted-of g L s w S out fits =
+    let roll : List Request = archiveOf (g .image) w s in
+    let A = agrees g L s w S in
+    let free = free-0 (viewAt (g .image) w s) s (length roll * 43) (length out) (S .row) (is-open g L s w S) (rw (S .taken)) fits in
+    rw (sound-number (g .image) w s (length out) (agrees-tested g w (upTo g (S .after .list)) A L), free)
+
+pub longest-of : (g : Given) → Lent g → LongestOf g
+longest-of g L s w S = rw (same-roll g L s w S) (longest g s (sandboxAt w s .share) (copy g L s w S) (occurs g L s w S))
+
 -- ---- the claims
 
 pub replay-of : (g : Given) → Lent g → ReplayOf g
@@ -264,4 +286,11 @@ only-if-of image frames₁ frames₂ L₁ L₂ s₁ s₂ w₁ w₂ S₁ S₂ e =
     (alike-trans d₁ d₂ (snapshotOf image w₂ s₂) same (alike-sym (snapshotOf image w₂ s₂) d₂ (snapshot-alike g₂ L₂ s₂ w₂ S₂)))
 
 pub archived : (g : Given) → Lent g → Archived g
-archived g L = record { plain = written-as-plain g L; replay = replay-of g L; again = again-of g L; text = text-of g L }
+archived g L = record {
+  plain = written-as-plain g L;
+  accepted = accepted-of g L;
+  longest = longest-of g L;
+  replay = replay-of g L;
+  again = again-of g L;
+  text = text-of g L;
+}

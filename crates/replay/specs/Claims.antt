@@ -1,6 +1,6 @@
 -- THE ARCHIVE. What request A9 asks of the roll of a sandbox's snapshot, of runs of the machine: w is the world after some list, v the world after a run of
 -- its roll. proofs/Claims proves every one, of every image and pool that a start accepts.
-use Prim.Native.Nat.{ℕ, _*_, _<_}
+use Prim.Native.Nat.{ℕ, _*_, _≤_, _<_}
 use mathlib.Core.Path.{_≡_}
 use mathlib.Core.Bool.{true}
 use mathlib.Core.List.{List, _++_}
@@ -19,7 +19,7 @@ use Rattle.roll.specs.Play.{linesIn, requests}
 use Rattle.archive.specs.Segments.{AllTaken}
 use Rattle.archive.specs.Claims.{Alike}
 use Rattle.archive.specs.Text.{printedRoll}
-use Rattle.archive.specs.Written.{plainWritten}
+use Rattle.archive.specs.Written.{writtenAs, plainWritten}
 use Rattle.replay.specs.Snapshot.{snapshotOf, archiveOf, written}
 
 -- the world w after some list from a start
@@ -39,6 +39,16 @@ abbrev pub WrittenAsPlain : Given → Type 0
 WrittenAsPlain g =
     (qs : List Request) (as′ : List Answered) (w : World) → RunFrom g qs as′ w
     → (s : ℕ) (out : List ℕ) → written (g .image) w s out ≡ plainWritten g (upTo g qs) s out
+
+-- so, of a sandbox with a snapshot, where the output has room: "The answer is the number of lines; output memory past them is untouched"
+abbrev pub AcceptedOf : Given → Type 0
+AcceptedOf g =
+    (s : ℕ) (w : World) → Snapped g s w → (out : List ℕ) → length (archiveOf (g .image) w s) * 43 ≤ length out
+    → written (g .image) w s out ≡ writtenAs 0 (archiveOf (g .image) w s) out
+
+-- and 16,402 lines, 705,286 bytes, are always room enough
+abbrev pub LongestOf : Given → Type 0
+LongestOf g = (s : ℕ) (w : World) → Snapped g s w → length (archiveOf (g .image) w s) ≤ 16402
 
 -- ---- replay
 
@@ -99,6 +109,8 @@ TextOf g = (s : ℕ) (w : World) → Snapped g s w → Text (archiveOf (g .image
 -- all of this, of the image and pool of a start that is not refused
 pub record Archived (g : Given) : Type 0 where
   pub plain : WrittenAsPlain g
+  pub accepted : AcceptedOf g
+  pub longest : LongestOf g
   pub replay : ReplayOf g
   pub again : AgainOf g
   pub text : TextOf g
