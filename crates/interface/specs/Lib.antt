@@ -11,6 +11,7 @@ pub mod Accepted
 pub mod Examples
 pub mod Gaps
 pub mod Edges
+pub mod ArchiveRows
 pub mod Differences
 pub mod Runs
 pub mod Keeping
