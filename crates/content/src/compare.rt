@@ -120,7 +120,7 @@ fn agrees(pool: &[u8], image: &[u8], present: Slot, snapshot: Slot, front: u16, 
     if is_committed(present) & (front == 0) {
         return true;
     }
-    table::compare::same_pages(
+    reading::compare::same_pages(
         pool,
         image,
         front,

@@ -30,7 +30,7 @@ pub fn read(pool: &[u8], table: &[u16], image: &[u8], b: Sandbox, q: Request, im
     let page = PageNo((q.p1 / 256) as u8);
     let slot = present.slot(page);
     let source = source_of(backing_at(slot));
-    table::store::read_byte(
+    reading::store::read_byte(
         pool,
         table,
         image,

@@ -54,7 +54,7 @@ pub fn store_after(
         return map(held, table, b, q, images);
     }
     if code == 3 {
-        let h = table::store::free_range(held, pool, table, s, PageNo(q.p1 as u8), q.p2 as u8);
+        let h = freeing::store::free_range(held, pool, table, s, PageNo(q.p1 as u8), q.p2 as u8);
         return Left {
             held: h,
             runs: runs,
@@ -102,7 +102,7 @@ fn write(
     let left = touch(machine, pool, table, image, q, frames, images);
     let s = q.sandbox as u8;
     let page = PageNo((q.p1 / 256) as u8);
-    table::store::store_byte(pool, table, s, page, (q.p1 % 256) as u8, q.p2 as u8);
+    filling::store::store_byte(pool, table, s, page, (q.p1 % 256) as u8, q.p2 as u8);
     left
 }
 
@@ -145,7 +145,7 @@ fn touch(
     let slot = present.slot(page);
     let committed = is_committed(slot);
     let source = source_of(backing_at(slot));
-    let h = table::store::take(held, pool, table, image, s, page, committed, source, f);
+    let h = filling::store::take(held, pool, table, image, s, page, committed, source, f);
     Left {
         held: h,
         runs: left,
@@ -204,5 +204,5 @@ fn rewind_page(
     let slot = present.slot(page);
     let keep = is_committed(slot);
     let source = source_of(backing_at(slot));
-    table::store::restore_page(held, pool, table, image, s, page, keep, source)
+    filling::store::restore_page(held, pool, table, image, s, page, keep, source)
 }

@@ -26,7 +26,7 @@ pub fn start(pool: &mut [u8], table: &mut [u16], image: &[u8]) -> Started
             answer: Answer::Refused(Refusal::Unsound),
         };
     }
-    let held = table::store::start(pool, table);
+    let held = freeing::store::start(pool, table);
     machine.held = held;
     Started {
         machine: machine,

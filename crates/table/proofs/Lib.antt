@@ -5,7 +5,6 @@ pub mod FreeLaws
 pub mod MoveLaws
 pub mod RewindLaws
 pub mod TouchLaws
-pub mod CompareLaws
 pub mod LeftLaws
 pub mod StartLaws
 pub mod PageLaws

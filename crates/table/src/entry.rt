@@ -3,6 +3,7 @@ ghost use mathlib.Core.Path.{_≡_};
 ghost use mathlib.Core.List.{List};
 ghost use Prim.Native.Nat.{ℕ, _+_, _-_, _*_, _≤_, _<_};
 ghost use lib.ListN.{length, getD};
+ghost use Rattle.basics.specs.Choice.{_when_else_};
 ghost use Rattle.frames.specs.declared.Held.{Held as Words};
 ghost use Rattle.table.specs.Store.{kept, frontOf, backOf, move, moveTo};
 use frames::FrameNo;
@@ -29,6 +30,19 @@ pub fn back(table: &[u16], sandbox: u8, page: PageNo) -> u16
 {
     let at = front_index(sandbox, page) + PageNo::COUNT;
     table[at]
+}
+
+// The back entry of a committed page; none of one that is not.
+pub fn back_if(table: &[u16], sandbox: u8, page: PageNo, committed: bool) -> u16
+    requires { ⌜ sandbox < 4 ⌝ }
+    requires { ⌜ page .0 < 64 ⌝ }
+    requires { ⌜ length (now table) ≡ 512 ⌝ }
+    ensures { λ r. ⌜ r ≡ (getD (now (table .entry)) (backOf sandbox (page .0)) 0 when committed else 0) ⌝ }
+{
+    if committed {
+        return back(table, sandbox, page);
+    }
+    0
 }
 
 // The fronts of all pages of a sandbox become its backs.
@@ -59,7 +73,7 @@ fn move_front(table: &mut [u16], sandbox: u8, page: PageNo)
 }
 
 // Where a page's front entry stands; its back entry stands 64 further on.
-pub(crate) fn front_index(sandbox: u8, page: PageNo) -> usize
+pub fn front_index(sandbox: u8, page: PageNo) -> usize
     requires { ⌜ sandbox < 4 ⌝ }
     requires { ⌜ page .0 < 64 ⌝ }
     ensures { λ r. ⌜ r ≡ frontOf sandbox (page .0) ⌝ }

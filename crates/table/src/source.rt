@@ -1,46 +1,8 @@
 // The bytes that a page starts with: "zero bytes or its image page".
-ghost use mathlib.Core.Path.{_≡_};
-ghost use Prim.Native.Nat.{_+_, _*_, _≤_};
-ghost use lib.ListN.{length, getD};
-ghost use Rattle.pages.specs.Parts.{setFrame};
-ghost use Rattle.table.specs.Source.{sourceBytes, sourceEnd};
-use frames::FrameNo;
 use interface::page::ImagePageNo;
-use pages::Page;
 
 // Where a page's first bytes come from.
 pub enum Source {
     Zero,
     Image(ImagePageNo),
-}
-
-// A frame gets the source's bytes.
-pub(crate) fn fill_frame(pool: &mut [u8], f: FrameNo, image: &[u8], source: Source)
-    requires { ⌜ f .0 * 256 + 256 ≤ length (now pool) ⌝ }
-    requires { ⌜ sourceEnd source * 256 ≤ length (now image) ⌝ }
-    ensures { λ r. ⌜ now (pool .exit) ≡ setFrame 256 (now (pool .entry)) (f .0) (sourceBytes (now (image .entry)) source) ⌝ }
-{
-    match source {
-        Source::Zero => pool::clear_frame(pool, f),
-        Source::Image(page) => {
-            let start = page.0 as usize * Page::SIZE;
-            let end = start + Page::SIZE;
-            pool::fill_frame(pool, f, &image[start..end])
-        }
-    }
-}
-
-// One of the source's bytes.
-pub(crate) fn read_byte(image: &[u8], source: Source, offset: u8) -> u8
-    requires { ⌜ sourceEnd source * 256 ≤ length (now image) ⌝ }
-    ensures { λ r. ⌜ r ≡ getD (sourceBytes (now (image .entry)) source) offset 0 ⌝ }
-{
-    match source {
-        Source::Zero => 0,
-        Source::Image(page) => {
-            let start = page.0 as usize * Page::SIZE;
-            let end = start + Page::SIZE;
-            pages::read(&image[start..end], offset as usize)
-        }
-    }
 }

@@ -1,0 +1,71 @@
+use mathlib.Core.Path.{ap}
+use native.Mathlib.Omega.{arith}
+use borrow.Author.Needs.{needs}
+use Rattle.pages.proofs.PartLaws.{part-is-frame}
+use Rattle.table.specs.Source.{sourceEnd}
+use Rattle.filling.proofs.source.fill_frame.Statement.{statement}
+use Rattle.filling.proofs.source.fill_frame.Tie as tie
+
+enum-told : tie.Need-enum-told
+enum-told c = search needs
+
+clear-frame-requires : tie.Need-clear-frame-requires
+clear-frame-requires c κs = search needs
+
+enum-known-source : tie.Need-enum-known-source
+enum-known-source c = search needs
+
+cast-start : tie.Need-cast-start
+cast-start c = search needs
+
+mul-start : tie.Need-mul-start
+mul-start c = search needs
+
+add-end : tie.Need-add-end
+add-end c = search needs
+
+sub-fill-frame : tie.Need-sub-fill-frame
+sub-fill-frame c = search needs
+
+part-fill-frame-start : tie.Need-part-fill-frame-start
+part-fill-frame-start c = search needs
+
+part-fill-frame-end : tie.Need-part-fill-frame-end
+part-fill-frame-end c = omega (arith, ap sourceEnd (c .before .before .before .source .given .1))
+
+fill-frame-requires : tie.Need-fill-frame-requires
+fill-frame-requires c κs = search needs
+
+same-length : tie.Need-same-length
+same-length c = search needs
+
+returns : tie.Need-returns
+returns c = rw (c .before .before .before .before .enum-told .given .1) (c .before .before .clear-frame .ensures)
+
+same-length-2 : tie.Need-same-length-2
+same-length-2 c = search needs
+
+returns-2 : tie.Need-returns-2
+returns-2 c =
+    let start = c .before .before .before .before .before .before .before .before .before .before .before in
+    let known = c .before .before .before .before .before .before .before .source .given in
+    rw (known .1, ← part-is-frame 256 (start .args .image .now) (known .0 .0 .0)) (c .before .before .fill-frame .ensures)
+
+pub fill-frame-spec : {M : Type 1} → statement M
+fill-frame-spec =
+    tie.close
+    (tie.spec
+    enum-told
+    clear-frame-requires
+    enum-known-source
+    cast-start
+    mul-start
+    add-end
+    sub-fill-frame
+    part-fill-frame-start
+    part-fill-frame-end
+    fill-frame-requires
+    same-length
+    returns
+    same-length-2
+    returns-2)

@@ -1,0 +1,71 @@
+-- The first i pages are freed; the entries still lie in the pool.
+use mathlib.Core.Path.{_≡_, refl, ap, _∙_}
+use Prim.Native.Nat.{ℕ, _≤_, _-_, _+_}
+use native.Mathlib.Omega.{arith}
+use borrow.Author.Needs.{needs}
+use lib.ListN.{length}
+use Rattle.table.specs.Store.{kept, frontOf, Ranged, free, freeTo}
+use Rattle.table.proofs.FreeLaws.{free-more, free-kept-as}
+use Rattle.freeing.proofs.store.free_range.Statement.{statement}
+use Rattle.freeing.proofs.store.free_range.Tie as tie
+
+abbrev Inv-loop : tie.InvT-loop
+Inv-loop pool₀ table₀ sandbox first n h₀ i₀ pool table h i = (i ≤ n) × (length pool ≡ length pool₀) × (length table ≡ length table₀) × Ranged 256 pool table × (kept h pool table ≡ freeTo 256 (frontOf sandbox (first .0)) (kept h₀ pool₀ table₀) i)
+
+abbrev μ-loop : tie.MeasureT-loop
+μ-loop pool₀ table₀ sandbox first n h₀ i₀ pool table h i = n - i
+
+loop-holds : tie.Need-loop-holds Inv-loop μ-loop
+unfolding freeTo
+loop-holds c = (search needs, refl, refl, c .before .before .pre .1 .1, refl)
+
+add-t14 : tie.Need-add-t14 Inv-loop μ-loop
+add-t14 c = search needs
+
+free-front-requires : tie.Need-free-front-requires Inv-loop μ-loop
+free-front-requires c κs = (c .before .before .before .before .before .before .before .pre .0, (omega arith, c .before .before .before .before .loop .inv .3))
+
+add-i : tie.Need-add-i Inv-loop μ-loop
+add-i c = search needs
+
+loop-less : tie.Need-loop-less Inv-loop μ-loop
+loop-less c = search needs
+
+loop-again : tie.Need-loop-again Inv-loop μ-loop
+loop-again c =
+    let l = c .before .before .before .before .before .before .before .before .before .loop in
+    let start = c .before .before .before .before .before .before .before .before .before .before .before .before .args in
+    let f = c .before .before .before .before .free-front in
+    let at = frontOf (start .sandbox) (start .first .0) + l .i in
+    let r = kept (l .h) (l .pool) (l .table) in
+    let q = kept (f .result) (f .last .1 .0) (f .last .1 .1 .0) in
+    let e : q ≡ free 256 at r = f .ensures ∙ ap (λ (k : ℕ). free 256 k r) (omega arith) in
+    let k = free-kept-as 256 at r q e (l .inv .3) in
+    (search needs, k .pool ∙ l .inv .1, k .table ∙ l .inv .2, k .ranged, free-more 256 _ (l .i) _ r q (l .inv .4) e)
+
+same-length : tie.Need-same-length Inv-loop μ-loop
+same-length c = search needs
+
+same-length-2 : tie.Need-same-length-2 Inv-loop μ-loop
+same-length-2 c = search needs
+
+returns : tie.Need-returns Inv-loop μ-loop
+returns c =
+    let start = c .before .before .before .before .args in
+    c .before .loop .inv .4 ∙ ap (freeTo 256 (frontOf (start .sandbox) (start .first .0)) _) (omega arith)
+
+pub free-range-spec : {M : Type 1} → statement M
+free-range-spec =
+    tie.close
+    (tie.spec
+    Inv-loop
+    μ-loop
+    loop-holds
+    add-t14
+    free-front-requires
+    add-i
+    loop-less
+    loop-again
+    same-length
+    same-length-2
+    returns)

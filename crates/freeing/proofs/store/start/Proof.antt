@@ -1,0 +1,32 @@
+use borrow.Author.Needs.{needs}
+use Rattle.freeing.proofs.store.start.Statement.{statement}
+use Rattle.freeing.proofs.store.start.Tie as tie
+
+clear-pool-requires : tie.Need-clear-pool-requires
+clear-pool-requires c κs = search needs
+
+clear-table-requires : tie.Need-clear-table-requires
+clear-table-requires c κs = search needs
+
+none-requires : tie.Need-none-requires
+none-requires c κs = search needs
+
+same-length : tie.Need-same-length
+same-length c = search needs
+
+same-length-2 : tie.Need-same-length-2
+same-length-2 c = search needs
+
+returns : tie.Need-returns
+returns c = rw (c .none .ensures, c .before .before .before .before .before .before .before .clear-pool .ensures, c .before .before .before .clear-table .ensures, c .before .before .before .before .before .before .before .before .before .before .before .pre)
+
+pub start-spec : {M : Type 1} → statement M
+start-spec =
+    tie.close
+    (tie.spec
+    clear-pool-requires
+    clear-table-requires
+    none-requires
+    same-length
+    same-length-2
+    returns)

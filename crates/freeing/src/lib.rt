@@ -1,0 +1,5 @@
+// Freeing: fronts given up. "Freed and cleared to zero": their frames are cleared and no longer held; at a start that is all there is.
+// It promises: what is left is the store that table/specs/Store defines of it (`free`, `freeTo`, `cleared`); the laws of these stand in `table`.
+// It stands on `table` for entries and the store, on `pool` and `pages` for the bytes of a frame, on `frames` for the held marks, and on `interface`
+// for the number of a page.
+pub mod store;

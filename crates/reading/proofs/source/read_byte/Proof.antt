@@ -1,0 +1,59 @@
+use mathlib.Core.Path.{ap}
+use native.Mathlib.Omega.{arith}
+use borrow.Author.Needs.{needs}
+use Rattle.pages.proofs.PartLaws.{part-is-frame, getD-zeros}
+use Rattle.table.specs.Source.{sourceEnd}
+use Rattle.reading.proofs.source.read_byte.Statement.{statement}
+use Rattle.reading.proofs.source.read_byte.Tie as tie
+
+enum-told : tie.Need-enum-told
+enum-told c = search needs
+
+enum-known-source : tie.Need-enum-known-source
+enum-known-source c = search needs
+
+cast-start : tie.Need-cast-start
+cast-start c = search needs
+
+mul-start : tie.Need-mul-start
+mul-start c = search needs
+
+add-end : tie.Need-add-end
+add-end c = search needs
+
+sub-read : tie.Need-sub-read
+sub-read c = search needs
+
+part-read-start : tie.Need-part-read-start
+part-read-start c = search needs
+
+part-read-end : tie.Need-part-read-end
+part-read-end c = omega (arith, ap sourceEnd (c .before .before .source .given .1))
+
+read-requires : tie.Need-read-requires
+read-requires c κs = search needs
+
+returns : tie.Need-returns
+returns c = rw (c .enum-told .given .1, getD-zeros)
+
+returns-2 : tie.Need-returns-2
+returns-2 c =
+    let start = c .before .before .before .before .before .before .before in
+    let known = c .before .before .before .before .source .given in
+    rw (known .1, ← part-is-frame 256 (start .args .image .now) (known .0 .0 .0)) (c .read .ensures)
+
+pub read-byte-spec : {M : Type 1} → statement M
+read-byte-spec =
+    tie.close
+    (tie.spec
+    enum-told
+    enum-known-source
+    cast-start
+    mul-start
+    add-end
+    sub-read
+    part-read-start
+    part-read-end
+    read-requires
+    returns
+    returns-2)
