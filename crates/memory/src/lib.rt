@@ -1,6 +1,6 @@
-// What an accepted request makes of the lent memory and of the sandbox's runs, and its value.
-// It promises: the store and the runs after a request are those of specs/Memory, whichever unheld frame a write takes and whichever frame of the longest run it
-// gives up; the value is the one stated there. Rewind works in proportion to the fronts there are and to the pages of uncommitted anonymous areas.
-// It stands on `table` for the frames, on `reuse` and `gathering` for the runs, and on `rules` for what a request within its limits is.
-pub mod store;
-pub mod value;
+// Memory: what an accepted request makes of the lent memory and of the sandbox's runs, and its value: definitions and their laws, no code.
+// It promises: for each call, what the parts of the code leave is the store, the runs and the value of specs/Memory (proofs/MemoryLaws, ValueLaws), and
+// a state that is asked (specs/Parts) has the frames that a write gives up and takes and those that a map takes (proofs/SpareLaws). The code is in
+// `rewinding` and `effects`.
+// It stands on `table` for the store, on `reuse` and `kept` for the runs, on `content` for what a page reads, and on `rules` for what a request within
+// its limits is.

@@ -13,11 +13,11 @@ use Rattle.areas.specs.declared.area.Areas.{Areas}
 use Rattle.areas.specs.Areas.{slots}
 use Rattle.areas.proofs.FormedLaws.{near}
 use Rattle.content.specs.Content.{backingPage, sourceOf, copyPage}
 use Rattle.memory.specs.Memory.{keepsFront}
 use Rattle.content.proofs.ReadingLaws.{source-there}
 use Rattle.memory.proofs.MemoryLaws.{rewind-alike}
-use Rattle.memory.proofs.store.rewind.Statement.{statement}
-use Rattle.memory.proofs.store.rewind.Tie as tie
+use Rattle.rewinding.proofs.store.rewind.Statement.{statement}
+use Rattle.rewinding.proofs.store.rewind.Tie as tie
 
 -- which pages keep their fronts, and the bytes of a page without a back, as the present areas say it
 abbrev keeps : Areas → ℕ → Bool

@@ -3,8 +3,8 @@ use Rattle.interface.specs.Slots.{isCommitted, backingAt}
 use Rattle.table.proofs.RewindLaws.{rewind-none}
 use Rattle.content.specs.Content.{sourceOf}
 use borrow.Author.Needs.{needs}
-use Rattle.memory.proofs.store.rewind_page.Statement.{statement}
-use Rattle.memory.proofs.store.rewind_page.Tie as tie
+use Rattle.rewinding.proofs.store.rewind_page.Statement.{statement}
+use Rattle.rewinding.proofs.store.rewind_page.Tie as tie
 
 front-requires : tie.Need-front-requires
 front-requires c κs = let s = c .before .before .before .before in (s .pre .0, (s .pre .1 .0, s .pre .1 .1 .1 .0 .entries))

@@ -4,10 +4,10 @@ use Rattle.table.specs.Store.{Store, kept}
 use Rattle.areas.specs.Areas.{Near}
 use Rattle.areas.proofs.FormedLaws.{near}
 use Rattle.areas.proofs.WalkLaws.{settled}
 use Rattle.memory.proofs.ValueLaws.{map-value, read-value, snapshot-value, report-value, compare-value, no-value}
 use borrow.Author.Needs.{needs}
-use Rattle.memory.proofs.value.value_of.Statement.{statement}
-use Rattle.memory.proofs.value.value_of.Tie as tie
+use Rattle.effects.proofs.value.value_of.Statement.{statement}
+use Rattle.effects.proofs.value.value_of.Tie as tie
 
 -- the present areas are near, and well formed
 near-present : (s : tie.Start) → Near (s .args .b .present .list)

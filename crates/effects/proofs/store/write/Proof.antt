@@ -3,10 +3,10 @@ use native.Mathlib.Omega.{arith}
 use Rattle.state.specs.World.{World, worldOf, sandboxAt}
 use Rattle.rules.proofs.FitLaws.{page-small}
 use Rattle.content.proofs.ReadingLaws.{source-there}
 use Rattle.memory.proofs.MemoryLaws.{touch-ranged, written}
 use borrow.Author.Needs.{needs}
-use Rattle.memory.proofs.store.write.Statement.{statement}
-use Rattle.memory.proofs.store.write.Tie as tie
+use Rattle.effects.proofs.store.write.Statement.{statement}
+use Rattle.effects.proofs.store.write.Tie as tie
 
 abbrev worldIn : tie.Start → World
 worldIn s = worldOf (s .args .machine) (s .args .pool .now) (s .args .table .now)

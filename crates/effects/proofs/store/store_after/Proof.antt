@@ -9,10 +9,10 @@ use Rattle.areas.proofs.WalkLaws.{settled}
 use Rattle.state.specs.declared.sandbox.Sandbox.{Sandbox}
 use Rattle.state.specs.World.{World, worldOf, sandboxAt, closedSandbox}
 use Rattle.state.proofs.SharesLaws.{zeroSandbox}
 use Rattle.memory.proofs.MemoryLaws.{mapped, unmapped, copied, rewound, left-alone}
 use borrow.Author.Needs.{needs}
-use Rattle.memory.proofs.store.store_after.Statement.{statement}
-use Rattle.memory.proofs.store.store_after.Tie as tie
+use Rattle.effects.proofs.store.store_after.Statement.{statement}
+use Rattle.effects.proofs.store.store_after.Tie as tie
 
 -- ---- what is handed in
 

@@ -21,12 +21,12 @@ use Rattle.rules.proofs.FitLaws.{page-small}
 use Rattle.content.specs.Content.{sourceOf, pageUnder}
 use Rattle.content.proofs.ReadingLaws.{source-there}
 use Rattle.reuse.specs.Reuse.{GaveUp}
 use Rattle.memory.specs.Parts.{ownFront, Asked}
 use Rattle.memory.proofs.SpareLaws.{gives, frame-there}
 use Rattle.memory.proofs.MemoryLaws.{touch-kept, touch-made}
 use borrow.Author.Needs.{needs}
-use Rattle.memory.proofs.store.touch.Statement.{statement}
-use Rattle.memory.proofs.store.touch.Tie as tie
+use Rattle.effects.proofs.store.touch.Statement.{statement}
+use Rattle.effects.proofs.store.touch.Tie as tie
 
 -- ---- what is handed in
 

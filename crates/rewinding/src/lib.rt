@@ -1,0 +1,6 @@
+// Rewinding: what a rewind makes of the store, page by page.
+// It promises: the store after it is the `rewindTo` of table/specs/Store, with the fronts that memory/specs/Memory keeps (`keepsFront`) and the
+// snapshot's bytes. It works in proportion to the fronts there are.
+// It stands on `filling` for the fronts, on `memory` for the definitions and their laws, on `content` for the bytes of a page without a back, and on
+// `rules` for what well formed areas are asked.
+pub mod store;
