@@ -16,7 +16,7 @@ use reuse::map;
 use reuse::unheld_frame;
 use rewinding::store::rewind;
 use state::sandbox::Machine;
-use state::sandbox::kept_marks;
+use totals::kept_marks;
 
 // The store and the runs after an accepted request.
 pub fn store_after(

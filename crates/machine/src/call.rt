@@ -18,7 +18,7 @@ use interface::request::Request;
 use rules::after::sandbox_after;
 use soundness::sound::sound;
 use state::sandbox::Machine;
-use state::sandbox::shares;
+use totals::shares;
 
 // A state, and what the call answers.
 pub struct Reply {

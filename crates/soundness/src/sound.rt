@@ -22,7 +22,7 @@ use interface::page::Slot;
 use packing::formed::well_formed;
 use state::sandbox::Machine;
 use state::sandbox::Sandbox;
-use state::sandbox::shares;
+use totals::shares;
 
 // Whether the lent lengths are right and the state is sound. Whatever numbers it holds, nothing overflows and no index is out of range.
 pub fn sound(m: Machine, pool: &[u8], table: &[u16], image: &[u8]) -> bool

@@ -14,7 +14,7 @@ ghost use Rattle.state.specs.Test.{runsOk};
 use frames::Held;
 use runs::Runs;
 use state::sandbox::Sandbox;
-use state::sandbox::kept_marks;
+use totals::kept_marks;
 
 // Whether kept frames "are held and zero, belong to one run and no entry".
 pub(crate) fn spare_ok(sandboxes: [Sandbox; 4], held: Held, pool: &[u8], frames: u8) -> bool

@@ -1,17 +1,11 @@
 // A sandbox, and the four of them with the held marks.
 ghost use mathlib.Core.Path.{_≡_};
-ghost use Prim.Native.Nat.{_≤_};
-ghost use lib.ListN.{getD};
-ghost use Rattle.basics.specs.Ranges.{sum};
 ghost use Rattle.interface.specs.Slots.{chargeOf};
-ghost use Rattle.runs.specs.Row.{row};
-ghost use Rattle.kept.specs.Test.{keptTo};
 ghost use Rattle.areas.specs.Areas.{slots};
 ghost use Rattle.areas.specs.Walk.{Formed};
 ghost use Rattle.state.specs.World.{closedSandbox, freshMachine, withOpened, withShare, withPresent, withTaken, withSnapshot, withRuns, copyOf};
 use areas::area::Areas;
 use frames::Held;
-use marks::Marks;
 use runs::Runs;
 
 // What is kept for a sandbox: whether it is open, its share, its areas, whether a snapshot was taken, the snapshot's areas, and the runs of kept frames.
@@ -126,33 +120,4 @@ impl Sandbox {
         }
         2 * snapshot.mapped_pages() + present.uncommitted_pages()
     }
-}
-
-// "the shares together"
-pub fn shares(sandboxes: [Sandbox; 4]) -> u16
-    ensures { λ r. ⌜ r ≡ sum (λ s. getD sandboxes s closedSandbox .share) 4 ⌝ }
-    ensures small { λ r. ⌜ r ≤ 1020 ⌝ }
-{
-    let first = sandboxes[0];
-    let second = sandboxes[1];
-    let third = sandboxes[2];
-    let fourth = sandboxes[3];
-    first.share as u16 + second.share as u16 + third.share as u16 + fourth.share as u16
-}
-
-// The frames that the runs of all sandboxes keep.
-pub fn kept_marks(sandboxes: [Sandbox; 4]) -> Marks
-    ensures { λ r. ⌜ r ≡ keptTo (λ s. row (getD sandboxes s closedSandbox .runs)) 4 ⌝ }
-{
-    let mut found = Marks {
-        good: true,
-        held: Held::none(),
-    };
-    for s in 0..4u8 {
-        let k = s as usize;
-        let b = sandboxes[k];
-        let runs = b.runs;
-        found = kept::add_runs(found, runs);
-    }
-    found
 }

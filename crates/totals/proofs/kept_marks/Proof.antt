@@ -9,12 +9,12 @@ use Rattle.basics.proofs.ListLaws.{getD-any}
 use Rattle.frames.specs.declared.Held.{Held}
 use Rattle.runs.specs.Row.{row}
 use Rattle.kept.specs.Test.{keptTo}
 use Rattle.state.specs.declared.sandbox.Sandbox.{Sandbox}
 use Rattle.state.specs.World.{closedSandbox}
 use Rattle.state.proofs.SharesLaws.{zeroSandbox}
 use Rattle.kept.proofs.TestLaws.{kept-more}
-use Rattle.state.proofs.sandbox.kept_marks.Statement.{statement}
-use Rattle.state.proofs.sandbox.kept_marks.Tie as tie
+use Rattle.totals.proofs.kept_marks.Statement.{statement}
+use Rattle.totals.proofs.kept_marks.Tie as tie
 
 -- the runs of each sandbox
 abbrev rows : List Sandbox → ℕ → ℕ → Held

@@ -2,12 +2,12 @@ use native.Mathlib.Omega.{arith}
 use mathlib.Core.Path.{_≡_}
 use lib.ListN.{length}
 use Rattle.basics.proofs.TestLaws.{length-mapped}
 use Rattle.state.proofs.SharesLaws.{shares-four, zeroSandbox}
 use borrow.Author.Needs.{needs}
-use Rattle.state.proofs.sandbox.shares.Statement.{statement}
-use Rattle.state.proofs.sandbox.shares.Tie as tie
-use Rattle.state.proofs.sandbox.shares.Reads as reads
-use Rattle.state.proofs.sandbox.shares.Lts as lts
+use Rattle.totals.proofs.shares.Statement.{statement}
+use Rattle.totals.proofs.shares.Tie as tie
+use Rattle.totals.proofs.shares.Reads as reads
+use Rattle.totals.proofs.shares.Lts as lts
 
 four : (c : tie.Start) → length (c .args .t1) ≡ 4
 four c = search length-mapped
