@@ -2,9 +2,10 @@
 //! and the player of its roll.
 //!
 //! Sentences in quotation marks are the document's, or those of the requests that added call 10,
-//! let unmap pass over gaps and keep the frames of a finished request; MACHINE and a number is a
-//! clause of docs/MACHINE.md, which states all of them whole. The machine knows no frames: where
-//! a program holds a frame, it keeps a front or a back mark on a page, or counts it in a run.
+//! let unmap pass over gaps, keep the frames of a finished request and write a snapshot as a roll;
+//! MACHINE and a number is a clause of docs/MACHINE.md, which states them whole. The machine knows
+//! no frames: where a program holds a frame, it keeps a front or a back mark on a page, or counts
+//! it in a run.
 //!
 //! Read in this order:
 //! - `page`: one page, and how pages run together into areas;
@@ -13,11 +14,16 @@
 //! - `request`: the limits of the parameters (refusal 6);
 //! - `machine`: four sandboxes, and the refusals in their order;
 //! - `roll`: lines of calls, lines of replies, and the player;
+//! - `archive`: a snapshot as a roll that rebuilds it;
 //! - `fault`, `faulty`, `faulty_compare`, `faulty_gaps` and `faulty_runs`: wrong machines, which a
-//!   test must tell from the right one.
+//!   test must tell from the right one; `archive_fault` and `faulty_archive`: wrong writers of
+//!   archives.
 
+mod archive;
+mod archive_fault;
 mod fault;
 mod faulty;
+mod faulty_archive;
 mod faulty_compare;
 mod faulty_gaps;
 mod faulty_runs;
@@ -28,8 +34,11 @@ mod roll;
 mod runs;
 mod sandbox;
 
+pub use archive::{snapshots_agree, Archive, ARCHIVE_LINES};
+pub use archive_fault::ArchiveFault;
 pub use fault::Fault;
 pub use faulty::Faulty;
+pub use faulty_archive::wrong_archive;
 pub use machine::{Answering, Machine, Refusal, Reply, CODES, FRAMES, IMAGE_PAGES, SANDBOXES};
 pub use page::{areas_of, count_areas, Backing, Page, Pages, PAGES, PAGE_BYTES};
 pub use request::{Place, Request, ADDRESSES};

@@ -34,6 +34,8 @@ pub enum Refusal {
     NoWriteRight = 12,
     TooFewFrames = 13,
     TooManyAreas = 14,
+    /// "output memory shorter than the roll": of an archive, and of no call.
+    OutputTooShort = 15,
 }
 
 /// MACHINE 4.2 and 6.1: Number and value of an answer: "A refusal answers its number and
