@@ -7,12 +7,14 @@
 //! - `mood`: what a whole roll tends to;
 //! - `put_back`: calls that undo what was changed since the snapshot;
 //! - `gaps`: ranges that meet unmapped pages;
+//! - `building`: areas of each kind, before a snapshot;
 //! - `request`: areas mapped, written and rewound, again and again;
 //! - `spoil`: calls at and past the limits, and malformed lines;
 //! - `case`: a roll with its image and its number of frames;
 //! - `shrink`: a smaller case that still fails;
 //! - `pair`: two lists alike but for what came between a snapshot and a rewind.
 
+mod building;
 mod case;
 mod gaps;
 mod mood;

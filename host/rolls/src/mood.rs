@@ -16,6 +16,8 @@ pub(crate) struct Mood {
     pub share: usize,
     /// Percentage of calls that are of requests: map, write, rewind, again and again.
     pub requests: usize,
+    /// Percentage of calls before a snapshot that give it areas of each kind.
+    pub building: usize,
 }
 
 impl Mood {
@@ -26,8 +28,16 @@ impl Mood {
             image: prng.pick(&[0, 30, 60, 90]),
             lowest_gap: prng.pick(&[20, 50, 80]),
             share: prng.pick(&[3, 8, 16, 32, 64, 128]),
-            requests: prng.weighted(&[(15, 0), (2, 75), (3, 90)]),
+            requests: 0,
+            building: 0,
         };
+        let kinds = [(12, (0, 0)), (3, (0, 92)), (2, (75, 0)), (3, (90, 0))];
+        (mood.requests, mood.building) = prng.weighted(&kinds);
+        if mood.building > 0 {
+            // Enough lines for each sandbox, and pages for eight areas twice.
+            mood.sandboxes = prng.weighted(&[(4, 1), (3, 2), (1, 4)]);
+            mood.share = prng.pick(&[24, 40, 128]);
+        }
         if mood.requests > 0 {
             // Enough lines for each sandbox, and shares that kept frames can fill.
             mood.sandboxes = prng.weighted(&[(6, 1), (2, 2), (1, 4)]);

@@ -3,6 +3,7 @@
 //! Calls drawn blindly would nearly all be refused. Here most are accepted, or are
 //! refused by one of the later rows of the table.
 
+use crate::building::call_of_building;
 use crate::gaps::{around, over_gaps, unmapped_or_inside};
 use crate::mood::Mood;
 use crate::prng::Prng;
@@ -85,6 +86,11 @@ impl Steering {
                 return call;
             }
         }
+        if self.mood.building > 0 && self.prng.chance(self.mood.building) {
+            if let Some(call) = call_of_building(&mut self.prng, machine, number) {
+                return call;
+            }
+        }
         if let Some((_, page)) = self.gone.take_if(|(gone_from, _)| *gone_from == number) {
             match (self.prng.below(10), &sandbox.copy) {
                 (0..3, _) => return self.map_at(machine, number, page, 1),
@@ -161,7 +167,9 @@ impl Steering {
 
     fn open(&mut self, machine: &Machine, number: usize) -> Call {
         let left = machine.frames().saturating_sub(machine.shares());
-        let small = self.prng.within(1..=self.mood.share).min(left);
+        // Room for many areas where they are wanted.
+        let least = if self.mood.building > 0 { self.mood.share / 2 } else { 1 };
+        let small = self.prng.within(least..=self.mood.share).min(left);
         let share =
             self.prng.weighted(&[(14, small), (5, left / 2), (3, left), (1, left + 1), (1, 128)]);
         new_call(1, number, [share, 0, 0, 0, 0])

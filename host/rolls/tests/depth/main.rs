@@ -1,5 +1,6 @@
 //! How deep the random rolls reach: a roll that never gets anywhere tells nothing.
 
+mod archive;
 mod compare;
 mod gaps;
 mod runs;
