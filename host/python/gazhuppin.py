@@ -1,6 +1,6 @@
 """The proved machine of rewinding sandboxes, for Python.
 
-The archive that `rt staticlib gazhuppin` writes becomes a shared object by one command, in the project's root:
+The static library that `rt staticlib gazhuppin` writes becomes a shared object by one command, in the project's root:
 
     gcc -shared -o target/staticlib/libgazhuppin.so -Wl,--whole-archive target/staticlib/libgazhuppin.a -Wl,--no-whole-archive
 
@@ -21,6 +21,11 @@ It is looked for there, or where the environment's GAZHUPPIN_SO says. Nothing el
     7
     >>> machine.compare(0) is None
     True
+    >>> print(machine.archive(0).decode(), end="")
+         1     0     8     0     0     0     0
+         2     0     0     2     0     0     3
+         6     0     5     7     0     0     0
+         7     0     0     0     0     0     0
 
 What is proved of the machine, and what that supposes, stands in docs/CLAIMS.md.
 """
@@ -36,6 +41,8 @@ MOST_FRAMES = 128
 TABLE_ENTRIES = 512
 PAGES = 64
 REPLY_BYTES = 19
+LINE_BYTES = 43
+MOST_ARCHIVE_LINES = 16402
 
 
 class Rights(enum.IntEnum):
@@ -46,7 +53,7 @@ class Rights(enum.IntEnum):
 
 
 class Refusal(enum.IntEnum):
-    """Why a call is refused: the rows of document 01's table "Turned back"."""
+    """Why a call is refused: the rows of document 01's table "Turned back". Row 15 is of archives, and no call is refused so."""
 
     MALFORMED = 1
     NO_SUCH_CALL = 2
@@ -62,6 +69,7 @@ class Refusal(enum.IntEnum):
     NOT_WRITABLE = 12
     SHARE_EXCEEDED = 13
     TOO_MANY_AREAS = 14
+    OUTPUT_TOO_SHORT = 15
 
 
 class Refused(Exception):
@@ -96,6 +104,8 @@ def _library():
     library.gazhuppin_start.restype = ctypes.c_uint32
     library.gazhuppin_call.argtypes = lent + [ctypes.c_uint16] * 7
     library.gazhuppin_call.restype = _Told
+    library.gazhuppin_archive.argtypes = lent + [ctypes.c_uint16, _BYTES, _SIZE]
+    library.gazhuppin_archive.restype = _Told
     return library
 
 
@@ -213,6 +223,15 @@ class Machine:
         page = self.answer(10, sandbox)
         # The machine says 64 there, which is no page.
         return None if page == PAGES else page
+
+    def archive(self, sandbox):
+        """The sandbox's snapshot as a roll that rebuilds it: lines of 43 bytes, which `play` accepts with the same image and as many frames. It is no
+        call, and changes nothing."""
+        out = _Lent(ctypes.c_uint8, LINE_BYTES * MOST_ARCHIVE_LINES)
+        told = _LIBRARY.gazhuppin_archive(*self._lent, _number(sandbox), *_pairs(out))
+        if told.number != 0:
+            raise Refused(Refusal(told.number))
+        return ctypes.string_at(out.array, LINE_BYTES * told.value)
 
     @property
     def state(self):

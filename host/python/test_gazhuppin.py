@@ -122,6 +122,31 @@ class Calls(unittest.TestCase):
         machine.rewind(0)
         self.assertIsNone(machine.compare(0))
 
+    def test_archive(self):
+        image = bytes([7]) * 512
+        machine = Machine(image, frames=16)
+        for sandbox in (0, 3, 4, 65535):
+            self.refused(Refusal.NOT_OPEN, machine.archive, sandbox)
+        machine.open(1, 8)
+        machine.map(1, 2, at=5, image_page=0)
+        machine.write(1, address(6, 255), 0)
+        machine.protect(1, 5, 1, Rights.READ)
+        self.refused(Refusal.NO_SNAPSHOT, machine.archive, 1)
+        machine.snapshot(1)
+        machine.write(1, address(6, 0), 9)
+        memory = (machine.state, machine.pool, machine.table)
+        roll = machine.archive(1)
+        lines = [[1, 1, 8, 0, 0, 0, 0], [2, 1, 5, 1, 1, 0, 3], [2, 1, 6, 1, 1, 1, 3], [6, 1, 1791, 0, 0, 0, 0], [4, 1, 5, 1, 1, 0, 0], [7, 1, 0, 0, 0, 0, 0]]
+        self.assertEqual([list(map(int, line.split())) for line in roll.splitlines()], lines)
+        self.assertEqual((machine.state, machine.pool, machine.table), memory)
+        rebuilt = Machine(image, frames=16)
+        for line in lines:
+            rebuilt.answer(*line)
+        self.assertEqual((rebuilt.archive(1), rebuilt.read(1, address(6, 255)), rebuilt.compare(1)), (roll, 0, None))
+        self.assertEqual({reply[6:12] for reply in gazhuppin.play(roll, image, frames=16).splitlines()}, {b"     0"})
+        self.assertRaises(ValueError, machine.archive, -1)
+        self.assertRaises(ValueError, machine.archive, 65536)
+
     def test_a_refused_call_changes_nothing(self):
         machine = Machine(frames=4)
         machine.open(0, 4)

@@ -32,7 +32,7 @@ static void write_byte(uint16_t address, uint32_t byte) {
 
 int main(void) {
     if (gazhuppin_state_bytes() != sizeof state) {
-        printf("this header does not belong to the archive\n");
+        printf("this header does not belong to the library\n");
         return 1;
     }
     if (gazhuppin_start(state, sizeof state, pool, sizeof pool, table, GAZHUPPIN_TABLE_ENTRIES,

@@ -1,7 +1,8 @@
 /* The proved machine of rewinding sandboxes, for x86-64 and the System V calling convention.
  *
  * gazhuppin_start and gazhuppin_call make one call at a time on a machine that the caller keeps;
- * gazhuppin_play plays a whole roll of calls from a start.
+ * gazhuppin_archive writes a snapshot of it as a roll that rebuilds it; gazhuppin_play plays a
+ * whole roll of calls from a start.
  *
  * Link libgazhuppin.a; of the C library it needs memcpy, memmove and memset. The functions use
  * only the memory that the caller lends for the time of the call, and a few KiB of stack: they
@@ -30,6 +31,7 @@ extern "C" {
 #define GAZHUPPIN_MOST_PAGES 64     /* an image has 0 to 64 pages */
 #define GAZHUPPIN_TABLE_ENTRIES 512 /* a table has exactly these */
 #define GAZHUPPIN_STATE_BYTES 932   /* a state has exactly these; see gazhuppin_state_bytes */
+#define GAZHUPPIN_MOST_ARCHIVE_LINES 16402 /* lines of the longest archive of a snapshot */
 
 /* The codes of the calls, with their parameters p1 to p5. Parameters that a call does not name
  * must be 0. Its value is 0 where none is named. A sandbox has pages 0 to 63 of 256 bytes, so
@@ -73,22 +75,23 @@ enum gazhuppin_refusal {
     GAZHUPPIN_OUTSIDE_LIMITS = 6,   /* a parameter outside its limits, pages past page 63, image
                                        pages past the image, an unused parameter not 0 */
     GAZHUPPIN_SNAPSHOT_TAKEN = 7,   /* a second snapshot */
-    GAZHUPPIN_NO_SNAPSHOT = 8,      /* rewind or compare without a snapshot */
+    GAZHUPPIN_NO_SNAPSHOT = 8,      /* rewind, compare or an archive without a snapshot */
     GAZHUPPIN_NOT_MAPPED = 9,       /* protect, read or write meets an unmapped page */
     GAZHUPPIN_ALREADY_MAPPED = 10,  /* map at a named page meets a mapped page */
     GAZHUPPIN_NO_GAP = 11,          /* map at the lowest gap, and none is long enough */
     GAZHUPPIN_NOT_WRITABLE = 12,    /* write to a page without the write right */
     GAZHUPPIN_SHARE_EXCEEDED = 13,  /* shares above the pool, or the charge above the share */
-    GAZHUPPIN_TOO_MANY_AREAS = 14   /* more than 8 areas would result */
+    GAZHUPPIN_TOO_MANY_AREAS = 14,  /* more than 8 areas would result */
+    GAZHUPPIN_OUTPUT_TOO_SHORT = 15 /* out is shorter than the archive; never answered to a call */
 };
 
-/* What a call answers. */
+/* What a call answers, or gazhuppin_archive. */
 struct gazhuppin_told {
     uint32_t number; /* 0, or the refusal's number */
     uint32_t value;  /* 0 where the call is refused */
 };
 
-/* How many bytes a state has: GAZHUPPIN_STATE_BYTES of the header that belongs to the archive.
+/* How many bytes a state has: GAZHUPPIN_STATE_BYTES of the header that belongs to the library.
  * States are not promised to stay the same from one version of the library to another. */
 size_t gazhuppin_state_bytes(void);
 
@@ -134,6 +137,36 @@ struct gazhuppin_told gazhuppin_call(uint8_t *state, size_t state_bytes,
                                      uint16_t code, uint16_t sandbox,
                                      uint16_t p1, uint16_t p2, uint16_t p3,
                                      uint16_t p4, uint16_t p5);
+
+/* Writes the archive of a sandbox's snapshot: a roll that rebuilds it.
+ *
+ * It is no call: it has no code, no line of a roll asks for it, and it changes nothing but out.
+ *
+ * state, pool, table, image: as in gazhuppin_call, but only read. No pointer may be NULL.
+ * sandbox: any number may be given.
+ * out:   out_bytes bytes, which overlap none of the others. 43 * GAZHUPPIN_MOST_ARCHIVE_LINES
+ *        always suffice. The lines are written to its start, and bytes after them are left as
+ *        they are.
+ *
+ * The lines, 43 bytes each and every one with this sandbox's number: an open with its share; for
+ * each area of the snapshot, in page order, a map at its first page with rights 3; for each byte
+ * of the snapshot that differs from its page's zero or image byte, in address order, a write; for
+ * each area with rights 1, in page order, a protect; a snapshot.
+ *
+ * Returns number 0 and, as value, the number of lines; or a refusal's number and value 0, with
+ * every byte of out left as it was: 3 where a length is wrong, the bytes are no state's or the
+ * state is unsound; 4 where the sandbox is above 3 or not open; 8 where it has no snapshot; 15
+ * where out is shorter than the lines. Where several apply, the lowest is answered.
+ *
+ * Played from a start with the same image and a pool as long, every line is accepted, and the
+ * sandbox's snapshot and present pages are then the written snapshot's, in mappings, rights and
+ * bytes. Its archive is the same again. */
+struct gazhuppin_told gazhuppin_archive(const uint8_t *state, size_t state_bytes,
+                                        const uint8_t *pool, size_t pool_bytes,
+                                        const uint16_t *table, size_t table_entries,
+                                        const uint8_t *image, size_t image_bytes,
+                                        uint16_t sandbox,
+                                        uint8_t *out, size_t out_bytes);
 
 /* How many lines a roll has.
  *

@@ -1,4 +1,4 @@
-//! The functions of the archive, as `include/gazhuppin.h` declares them: a slice crosses
+//! The functions of the proved library, as `include/gazhuppin.h` declares them: a slice crosses
 //! as a pointer and a length.
 
 use crate::Told;
@@ -44,5 +44,18 @@ unsafe extern "C" {
         p3: u16,
         p4: u16,
         p5: u16,
+    ) -> Told;
+    pub fn gazhuppin_archive(
+        state: *const u8,
+        state_bytes: usize,
+        pool: *const u8,
+        pool_bytes: usize,
+        table: *const u16,
+        table_entries: usize,
+        image: *const u8,
+        image_bytes: usize,
+        sandbox: u16,
+        out: *mut u8,
+        out_bytes: usize,
     ) -> Told;
 }

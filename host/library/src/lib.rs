@@ -2,6 +2,8 @@
 //!
 //! - `Machine` owns its memory and has a method for each call;
 //! - `start` and `call` make a start and one call over memory that the caller lends;
+//! - `Machine::archive`, and `archive` over lent memory, write a snapshot as a roll that rebuilds
+//!   it;
 //! - `play` plays a roll from a start over lent memory; `play_fresh` makes the memory and
 //!   gives it back with the replies.
 //!
@@ -23,6 +25,7 @@
 //! # Ok::<(), gazhuppin::Refusal>(())
 //! ```
 
+mod archive;
 mod c;
 mod call;
 mod lent;
@@ -30,6 +33,7 @@ mod machine;
 mod refusal;
 mod roll;
 
+pub use archive::archive;
 pub use call::{Address, Backing, Call, Place, Rights};
 pub use lent::{call, start, state_bytes};
 pub use machine::Machine;
@@ -38,6 +42,9 @@ pub use roll::{OutTooShort, Played, lines, play, play_fresh};
 
 /// A line of a roll, with its line feed.
 pub const LINE_BYTES: usize = 43;
+/// The longest archive of a snapshot has this many lines: an open, 8 maps, a write for each of
+/// 16,384 bytes, 8 protects and a snapshot.
+pub const MOST_ARCHIVE_LINES: usize = 16_402;
 /// A reply, with its line feed.
 pub const REPLY_BYTES: usize = 19;
 /// A frame of the pool, and a page of the image.

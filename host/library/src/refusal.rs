@@ -2,7 +2,8 @@
 
 use std::fmt;
 
-/// The rows of document 01's table "Turned back"; the discriminant is the number answered.
+/// The rows of document 01's table "Turned back", and row 15, which request A9 adds; the
+/// discriminant is the number answered.
 ///
 /// A refused call changes nothing. Where several rows apply, the lowest is answered.
 ///
@@ -29,7 +30,7 @@ pub enum Refusal {
     OutsideLimits = 6,
     /// The sandbox's snapshot was already taken.
     SnapshotTaken = 7,
-    /// Rewind or compare without a snapshot.
+    /// Rewind, compare or an archive without a snapshot.
     NoSnapshot = 8,
     /// Protect, read or write meets an unmapped page. (Unmap passes over it.)
     NotMapped = 9,
@@ -43,6 +44,8 @@ pub enum Refusal {
     ShareExceeded = 13,
     /// More than 8 areas would result.
     TooManyAreas = 14,
+    /// The memory for an archive is shorter than its lines. A call is never refused so.
+    OutputTooShort = 15,
 }
 
 impl Refusal {
@@ -50,9 +53,9 @@ impl Refusal {
     ///
     /// ```
     /// use gazhuppin::Refusal;
-    /// assert!(Refusal::ALL.iter().map(|refusal| refusal.number()).eq(1..=14));
+    /// assert!(Refusal::ALL.iter().map(|refusal| refusal.number()).eq(1..=15));
     /// ```
-    pub const ALL: [Refusal; 14] = [
+    pub const ALL: [Refusal; 15] = [
         Refusal::Malformed,
         Refusal::NoSuchCall,
         Refusal::Unsound,
@@ -67,6 +70,7 @@ impl Refusal {
         Refusal::NotWritable,
         Refusal::ShareExceeded,
         Refusal::TooManyAreas,
+        Refusal::OutputTooShort,
     ];
 
     /// The number that document 01 gives it.
@@ -78,12 +82,12 @@ impl Refusal {
         self as u32
     }
 
-    /// The refusal of a number; `None` for 0, which is no refusal, and for numbers above 14.
+    /// The refusal of a number; `None` for 0, which is no refusal, and for numbers above 15.
     ///
     /// ```
     /// use gazhuppin::Refusal;
     /// assert_eq!(Refusal::of(12), Some(Refusal::NotWritable));
-    /// assert_eq!((Refusal::of(0), Refusal::of(15)), (None, None));
+    /// assert_eq!((Refusal::of(0), Refusal::of(16)), (None, None));
     /// ```
     pub fn of(number: u32) -> Option<Refusal> {
         Refusal::ALL.into_iter().find(|refusal| refusal.number() == number)
@@ -105,6 +109,7 @@ impl Refusal {
             Refusal::NotWritable => "the page may not be written",
             Refusal::ShareExceeded => "the pool or the share does not suffice",
             Refusal::TooManyAreas => "more than 8 areas would result",
+            Refusal::OutputTooShort => "the output is shorter than the archive",
         }
     }
 }
@@ -135,7 +140,7 @@ impl Told {
     /// The value, or the refusal.
     ///
     /// # Panics
-    /// If the number is above 14, which no call answers.
+    /// If the number is above 15, which neither a call nor an archive answers.
     ///
     /// ```
     /// assert_eq!(gazhuppin::Told { number: 0, value: 255 }.result(), Ok(255));
@@ -143,7 +148,7 @@ impl Told {
     pub fn result(self) -> Result<u32, Refusal> {
         match self.number {
             0 => Ok(self.value),
-            number => Err(Refusal::of(number).expect("the machine answers 0 to 14")),
+            number => Err(Refusal::of(number).expect("the machine answers 0 to 15")),
         }
     }
 }

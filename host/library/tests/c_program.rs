@@ -1,4 +1,5 @@
-//! The C program of `examples/` that plays a roll, the header, and the archive's symbols.
+//! The C programs of `examples/` that play a roll and write an archive, the header, and the
+//! library's symbols.
 
 mod common;
 
@@ -16,6 +17,18 @@ fn the_c_example_plays_the_documents_roll() {
         let expected = fs::read_to_string(examples.join(name).with_extension("answers"));
         assert_eq!(played, expected.expect("answers"), "{name}");
     }
+}
+
+/// Its roll, which it has played itself, is accepted by the model too, and is its own archive.
+#[test]
+fn the_c_example_writes_an_archive() {
+    let roll = printed(&mut Command::new(c_example("archive")));
+    let expected = fs::read_to_string(here().join("examples/archive.printed"));
+    assert_eq!(roll, expected.expect("what is printed"));
+    let mut machine = model::Machine::fresh(&[], 16);
+    let replies = model::play_on(roll.as_bytes(), &mut machine);
+    assert!(replies.chunks(19).all(|reply| reply[6..12] == *b"     0"));
+    assert_eq!(machine.archived(2).expect("a snapshot").text(), roll.as_bytes());
 }
 
 /// The header needs nothing included before it, and serves for C++ too.
@@ -37,8 +50,8 @@ fn the_header_compiles_by_itself() {
 
 /// What the header says: nothing from the heap, and no state between calls.
 #[test]
-fn the_archive_needs_no_heap_and_has_no_state() {
-    let listed = printed(Command::new("nm").arg(env!("GAZHUPPIN_ARCHIVE")));
+fn the_library_needs_no_heap_and_has_no_state() {
+    let listed = printed(Command::new("nm").arg(env!("GAZHUPPIN_STATIC")));
     let of_kind = |kinds: &str| {
         let symbols = listed.lines().map(|line| line.split_whitespace().rev().take(2));
         let mut names: Vec<&str> = symbols
@@ -49,7 +62,7 @@ fn the_archive_needs_no_heap_and_has_no_state() {
         names.sort();
         names
     };
-    let functions = ["call", "lines", "play", "start", "state_bytes"];
+    let functions = ["archive", "call", "lines", "play", "start", "state_bytes"];
     assert_eq!(of_kind("T"), functions.map(|name| format!("gazhuppin_{name}")));
     let needed = of_kind("U");
     assert!(needed.iter().all(|name| ["memcpy", "memmove", "memset"].contains(name)), "{needed:?}");
@@ -57,7 +70,7 @@ fn the_archive_needs_no_heap_and_has_no_state() {
     assert_eq!(of_kind("bBdDC"), [""; 0]);
 }
 
-/// The header's numbers are those of the archive and of this crate.
+/// The header's numbers are those of the library and of this crate.
 #[test]
 fn the_headers_numbers() {
     let header = fs::read_to_string(here().join("include/gazhuppin.h")).expect("the header");
@@ -70,6 +83,9 @@ fn the_headers_numbers() {
     assert_eq!(defined("GAZHUPPIN_TABLE_ENTRIES"), gazhuppin::TABLE_ENTRIES);
     assert_eq!(defined("GAZHUPPIN_FRAME_BYTES"), gazhuppin::FRAME_BYTES);
     assert_eq!(defined("GAZHUPPIN_MOST_FRAMES"), gazhuppin::MOST_FRAMES);
+    assert_eq!(defined("GAZHUPPIN_LINE_BYTES"), gazhuppin::LINE_BYTES);
+    assert_eq!(defined("GAZHUPPIN_MOST_ARCHIVE_LINES"), gazhuppin::MOST_ARCHIVE_LINES);
+    assert_eq!(gazhuppin::MOST_ARCHIVE_LINES, model::ARCHIVE_LINES);
     assert_eq!(defined("GAZHUPPIN_LOWEST_GAP"), usize::from(gazhuppin::PAGES));
     assert_eq!(defined("GAZHUPPIN_CLEAN"), usize::from(gazhuppin::PAGES));
     let calls = ["OPEN", "MAP", "UNMAP", "PROTECT", "READ", "WRITE", "SNAPSHOT", "REWIND"];

@@ -27,7 +27,7 @@ fn shared_object() -> PathBuf {
     let object = made("libgazhuppin.so");
     let mut words = COMMAND.split_whitespace().map(|word| match word {
         "target/staticlib/libgazhuppin.so" => object.clone(),
-        "target/staticlib/libgazhuppin.a" => PathBuf::from(env!("GAZHUPPIN_ARCHIVE")),
+        "target/staticlib/libgazhuppin.a" => PathBuf::from(env!("GAZHUPPIN_STATIC")),
         _ => PathBuf::from(word),
     });
     printed(Command::new(words.next().expect("gcc")).args(words));
@@ -39,7 +39,7 @@ fn the_python_module() {
     let folder = here().join("../python");
     let module = fs::read_to_string(folder.join("gazhuppin.py")).expect("the module");
     assert!(module.contains(COMMAND), "the module names another command");
-    // Built in any case: the archive has to serve for a shared object.
+    // Built in any case: the library has to serve for a shared object.
     let object = shared_object();
     if !python_is_here() {
         return;

@@ -42,7 +42,7 @@ pub fn c_example(name: &str) -> PathBuf {
         .arg(here().join("examples").join(name).with_extension("c"))
         .arg("-I")
         .arg(here().join("include"))
-        .arg(env!("GAZHUPPIN_ARCHIVE"));
+        .arg(env!("GAZHUPPIN_STATIC"));
     printed(&mut gcc);
     program
 }
