@@ -1,5 +1,7 @@
-//! Which calls were accepted and which refusals were met.
+//! Which calls and archives were accepted, and which refusals were met.
 
+use crate::archives::Archives;
+use crate::Compared;
 use gazhuppin::REPLY_BYTES;
 use model::{parse_line, CODES, LINE_BYTES};
 use rolls::Case;
@@ -22,7 +24,7 @@ const NAMES: [&str; 12] = [
 ];
 const MALFORMED: usize = 0;
 const UNKNOWN: usize = 1;
-/// Number 0, accepted, and refusals 1 to 14.
+/// Number 0, accepted, and refusals 1 to 14: no call answers 15.
 const NUMBERS: usize = 15;
 
 #[derive(Clone, Default, Debug)]
@@ -33,11 +35,14 @@ pub struct Coverage {
     /// Frames of the pools, and bytes of the images.
     pub pools: BTreeSet<usize>,
     pub images: BTreeSet<usize>,
+    pub archives: Archives,
 }
 
 impl Coverage {
-    /// Count the replies to a case's roll.
-    pub fn add(&mut self, case: &Case, replies: &[u8]) {
+    /// Count the replies to a case's roll, and the archives that it leaves.
+    pub fn add(&mut self, case: &Case, compared: &Compared) {
+        let replies = &compared.played.replies;
+        self.archives.join(&compared.archives);
         self.rolls += 1;
         self.pools.insert(case.frames);
         self.images.insert(case.image.len());
@@ -55,6 +60,7 @@ impl Coverage {
     pub fn join(&mut self, other: &Coverage) {
         self.rolls += other.rolls;
         self.lines += other.lines;
+        self.archives.join(&other.archives);
         self.pools.extend(&other.pools);
         self.images.extend(&other.images);
         for (row, others) in self.answers.iter_mut().zip(&other.answers) {
@@ -97,6 +103,14 @@ impl fmt::Display for Coverage {
             row[1..].iter().try_for_each(|count| write!(to, " {count:>7}"))?;
         }
         write!(to, "\n{:<10} {:>9}", "all", self.of_number(0))?;
-        (1..NUMBERS).try_for_each(|number| write!(to, " {:>7}", self.of_number(number as u16)))
+        (1..NUMBERS).try_for_each(|number| write!(to, " {:>7}", self.of_number(number as u16)))?;
+        let [written, unsound, closed, none, short] =
+            [0, 3, 4, 8, 15].map(|number| self.archives.answered(number));
+        write!(
+            to,
+            "\narchives: {written} written, {unsound} refused 3, {closed} refused 4, {none} refused 8, \
+             {short} refused 15; {} lines played",
+            self.archives.lines
+        )
     }
 }

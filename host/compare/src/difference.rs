@@ -56,6 +56,20 @@ pub enum Difference {
     Changed,
     /// A difference that shows at a line, counted from 1; line 0 is the start.
     AtLine { line: usize, difference: Box<Difference> },
+    /// A difference of a sandbox's archive, in output of so many bytes.
+    Archive { sandbox: u16, room: usize, difference: Box<Difference> },
+    /// A line of an archive, counted from 1, that is another.
+    ArchiveLine { line: usize, program: String, model: String },
+    /// A byte of the output behind the lines, or of a refused archive.
+    Output { at: usize, program: u8, model: u8 },
+    /// An archive changed state, pool or table.
+    ArchiveChanged,
+    /// A difference that shows where a sandbox's archive is played.
+    Replay { sandbox: u16, difference: Box<Difference> },
+    /// A line of the archive, counted from 1, that is refused.
+    ReplayRefused { line: usize },
+    /// The pages, the snapshot or the share that the archive rebuilds are not those written.
+    NotRebuilt,
 }
 
 impl Difference {
@@ -142,6 +156,23 @@ impl fmt::Display for Difference {
             }
             Difference::AtLine { line, difference } => {
                 write!(to, "line {line}, a call at a time: {difference}")
+            }
+            Difference::Archive { sandbox, room, difference } => {
+                write!(to, "the archive of sandbox {sandbox}, in {room} bytes: {difference}")
+            }
+            Difference::ArchiveLine { line, program, model } => {
+                write!(to, "line {line} is {program}, the model's {model}")
+            }
+            Difference::Output { at, program, model } => {
+                write!(to, "byte {at} of the output is {program}, the model's {model}")
+            }
+            Difference::ArchiveChanged => write!(to, "an archive changed memory"),
+            Difference::Replay { sandbox, difference } => {
+                write!(to, "the archive of sandbox {sandbox}, played: {difference}")
+            }
+            Difference::ReplayRefused { line } => write!(to, "line {line} is refused"),
+            Difference::NotRebuilt => {
+                write!(to, "the pages, the snapshot or the share are not those that were written")
             }
         }
     }

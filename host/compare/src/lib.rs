@@ -1,5 +1,5 @@
-//! The proved machine against the plain machine: every reply of a roll, and state, pool
-//! and table after every line.
+//! The proved machine against the plain machine: every reply of a roll, state, pool and table
+//! after every line, and the archives of the snapshots that it leaves.
 //!
 //! - `difference`: what can differ, in words;
 //! - `check`: replies and memory of a program against the plain machine;
@@ -7,6 +7,7 @@
 //! - `row`: the places for kept runs; `frames`: which frames a call moves;
 //! - `layout`: the state in bytes; `state`: from the plain machine to the state, and back;
 //! - `stepwise`: a case played a call at a time, in step with the plain machine;
+//! - `archives`: archives against the plain machine's, and played again;
 //! - `sound`: what makes a state unsound, clause by clause;
 //! - `run`: many random rolls over all cores, and a failing one shrunk;
 //! - `coverage`: which calls were accepted and which refusals were met;
@@ -15,6 +16,7 @@
 //!   shows;
 //! - `mutants`: wrong machines, and the roll that tells each of them.
 
+mod archives;
 mod check;
 mod coverage;
 mod difference;
@@ -31,6 +33,7 @@ mod stepwise;
 mod with_frames;
 mod with_runs;
 
+pub use archives::{check_archives, check_writer, Archives};
 pub use check::{check, check_entries, Expected};
 pub use coverage::Coverage;
 pub use difference::{Difference, Place, Side};
@@ -41,7 +44,7 @@ pub use played::{play, Lengths};
 pub use run::{run, Failure};
 pub use sound::{unsound_clauses, Clause};
 pub use state::{machine_of, state_of};
-pub use stepwise::{check_state, in_step, Kept};
+pub use stepwise::{check_state, in_step, Kept, Stepped};
 pub use with_frames::{MemoryFault, WithFrames};
 
 use gazhuppin::Played;
@@ -52,11 +55,23 @@ pub fn compare(case: &Case) -> Result<(), Difference> {
     compare_with(case, Lengths::of(case)).map(|_| ())
 }
 
-/// The same with lent memory of these lengths, right or wrong: the roll is played a call
-/// at a time, and as a whole. Gives what the whole roll left.
+/// The same with lent memory of these lengths, right or wrong. Gives what the whole roll left.
 pub fn compare_with(case: &Case, lengths: Lengths) -> Result<Played, Difference> {
-    let expected = in_step(case, lengths)?;
+    compare_all(case, lengths).map(|compared| compared.played)
+}
+
+/// What was found to be the plain machine's.
+pub struct Compared {
+    pub played: Played,
+    pub archives: Archives,
+}
+
+/// The roll is played a call at a time, and as a whole; then the archives of all sandboxes are
+/// written, and played.
+pub fn compare_all(case: &Case, lengths: Lengths) -> Result<Compared, Difference> {
+    let Stepped { expected, kept } = in_step(case, lengths)?;
     let played = play(case, lengths);
     check(&played, &expected)?;
-    Ok(played)
+    let archives = check_archives(&kept, &expected.machine, &case.image)?;
+    Ok(Compared { played, archives })
 }

@@ -1,6 +1,7 @@
 //! `compare [ROLLS] [SEED]` compares the proved machine with the plain one on so many
-//! random rolls, from this seed on, a call at a time and as whole rolls. `compare --mutants` prints which roll tells each
-//! wrong machine, as Markdown.
+//! random rolls, from this seed on, a call at a time and as whole rolls, and the archives of the
+//! snapshots that they leave. `compare --mutants` prints which roll tells each wrong machine, as
+//! Markdown.
 
 use compare::{run, table, tell, Mutant};
 use std::process::ExitCode;

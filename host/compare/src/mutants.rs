@@ -1,10 +1,13 @@
 //! Wrong machines, and the roll that tells each of them.
 
+use crate::archives::check_writer;
 use crate::check::{check, Expected};
 use crate::difference::Difference;
 use crate::played::{play, Lengths};
+use crate::stepwise::Kept;
 use crate::with_frames::{MemoryFault, WithFrames};
-use model::{parse_line, play_on, Fault, Faulty, LINE_BYTES};
+use model::{parse_line, play_on, Answering, ArchiveFault, Fault, Faulty, Machine};
+use model::{LINES, LINE_BYTES, SANDBOXES};
 use rolls::{shrink, Case, PLAYER_FRAMES};
 use std::fmt;
 
@@ -15,12 +18,15 @@ pub enum Mutant {
     /// The plain machine with frames, wrong in its memory, is compared with the right
     /// plain machine.
     Memory(MemoryFault),
+    /// The archives of the proved machine are compared with those of a wrong writer.
+    Archive(ArchiveFault),
 }
 
 impl Mutant {
     pub fn all() -> impl Iterator<Item = Mutant> {
         let machines = Fault::ALL.into_iter().map(Mutant::Machine);
-        machines.chain(MemoryFault::ALL.into_iter().map(Mutant::Memory))
+        let memories = MemoryFault::ALL.into_iter().map(Mutant::Memory);
+        machines.chain(memories).chain(ArchiveFault::ALL.into_iter().map(Mutant::Archive))
     }
 
     /// What the comparison says of the mutant on this case; nothing if it is not told.
@@ -38,6 +44,18 @@ impl Mutant {
                 // Numbers of frames and ages of runs show only from one call to the next.
                 whole.and_then(|()| WithFrames::in_step(case, fault)).err()
             }
+            Mutant::Archive(fault) => {
+                let mut kept = Kept::filled(lengths);
+                let mut machine = Machine::fresh(&case.image, case.frames);
+                kept.start(&case.image);
+                for call in case.roll.chunks(LINE_BYTES).take(LINES).filter_map(parse_line) {
+                    kept.call(&case.image, &call);
+                    machine.answer(&call);
+                }
+                let written =
+                    |sandbox| check_writer(&kept, &machine, &case.image, sandbox, fault).err();
+                (0..=SANDBOXES as u16).find_map(written)
+            }
         }
     }
 }
@@ -47,6 +65,7 @@ impl fmt::Display for Mutant {
         match self {
             Mutant::Machine(fault) => write!(to, "{fault:?}"),
             Mutant::Memory(fault) => write!(to, "{fault:?}"),
+            Mutant::Archive(fault) => write!(to, "{fault:?}"),
         }
     }
 }
@@ -70,7 +89,7 @@ pub fn tell(mutant: Mutant, seeds: u64) -> Option<Told> {
     let seed_by_replies = match mutant {
         Mutant::Machine(_) => (seed..seeds).find(|&seed| by_reply(told(&Case::random(seed)))),
         // It answers as the right machine does.
-        Mutant::Memory(_) => None,
+        Mutant::Memory(_) | Mutant::Archive(_) => None,
     };
     let shrunk = shrink(&Case::random(seed), |case| told(case).is_some());
     let difference = told(&shrunk)?;

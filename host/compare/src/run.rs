@@ -2,7 +2,7 @@
 
 use crate::coverage::Coverage;
 use crate::difference::Difference;
-use crate::{compare, compare_with, Lengths};
+use crate::{compare, compare_all, Lengths};
 use rolls::{shrink, Case};
 use std::fmt;
 use std::sync::atomic::{AtomicU64, Ordering};
@@ -46,8 +46,8 @@ pub fn run(first: u64, rolls: u64, lines: usize) -> Result<Coverage, Box<Failure
                 return Ok(coverage);
             }
             let (seed, case) = (first + at, Case::of_lines(first + at, lines));
-            match compare_with(&case, Lengths::of(&case)) {
-                Ok(played) => coverage.add(&case, &played.replies),
+            match compare_all(&case, Lengths::of(&case)) {
+                Ok(compared) => coverage.add(&case, &compared),
                 Err(_) => {
                     // One failure is enough: the other threads stop too.
                     next.store(rolls, Ordering::Relaxed);

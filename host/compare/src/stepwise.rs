@@ -47,6 +47,11 @@ impl Kept {
         Told { number, value: 0 }
     }
 
+    /// The archive of a sandbox's snapshot, written to this output.
+    pub fn archive(&self, image: &[u8], sandbox: u16, out: &mut [u8]) -> Told {
+        gazhuppin::archive(&self.state, &self.pool, &self.table, image, sandbox, out)
+    }
+
     pub fn call(&mut self, image: &[u8], call: &model::Call) -> Told {
         let model::Call { code, sandbox, parameters } = *call;
         let call = Call { code, sandbox, parameters };
@@ -54,9 +59,17 @@ impl Kept {
     }
 }
 
-/// What the plain machine answers and keeps, if the proved machine answers and keeps the
-/// same at every line.
-pub fn in_step(case: &Case, lengths: Lengths) -> Result<Expected, Difference> {
+/// A case played a call at a time by both machines.
+pub struct Stepped {
+    /// What the plain machine answers and keeps.
+    pub expected: Expected,
+    /// What the proved machine keeps after the last line.
+    pub kept: Kept,
+}
+
+/// What both machines keep, if the proved machine answers and keeps the same as the plain one at
+/// every line.
+pub fn in_step(case: &Case, lengths: Lengths) -> Result<Stepped, Difference> {
     let mut machine = Machine::fresh(&case.image, lengths.frames());
     let mut kept = Kept::filled(lengths);
     let mut before = kept.clone();
@@ -82,7 +95,7 @@ pub fn in_step(case: &Case, lengths: Lengths) -> Result<Expected, Difference> {
         };
         replies.extend(reply_line(index + 1, number, value));
     }
-    Ok(Expected { replies, machine })
+    Ok(Stepped { expected: Expected { replies, machine }, kept })
 }
 
 /// The program's memory, what the plain machine keeps, and the frames in step with both.
@@ -118,7 +131,7 @@ impl Step<'_> {
     }
 }
 
-fn check_told(told: Told, (number, value): model::Reply) -> Result<(), Difference> {
+pub(crate) fn check_told(told: Told, (number, value): model::Reply) -> Result<(), Difference> {
     let same = told == Told { number: u32::from(number), value };
     require(same, || Difference::Answer {
         program: (told.number, told.value),

@@ -1,7 +1,7 @@
 //! Damaged memory: 1 to 3 bytes of state, pool or table are changed between two calls of a
 //! random roll. The next call is refused, 2 or 3, and changes nothing; or the damage made
 //! another sound state, and the call is answered and done as the plain machine does it from
-//! there.
+//! there. So are archives.
 
 use compare::layout::State;
 use compare::{check_entries, check_rows, check_state, check_table, machine_of, state_of};
@@ -21,6 +21,8 @@ struct Seen {
     /// Of those before: a clause about kept frames is broken, and the runs are others.
     kept_unsound: usize,
     kept_otherwise: usize,
+    /// Archives written from another sound state.
+    archives: usize,
 }
 
 impl Seen {
@@ -83,6 +85,9 @@ fn check(whole: &Kept, damaged: &Kept, image: &[u8], call: &Call, seen: &mut See
     let Kept { state, pool, table } = damaged;
     let broken = unsound_clauses(state, pool, table, image);
     if !broken.is_empty() {
+        let mut out = [0x5a; 90];
+        let archived = damaged.archive(image, call.sandbox, &mut out);
+        assert_eq!((archived.number, archived.value, out), (3, 0, [0x5a; 90]), "{broken:?}");
         let number = if CODES.contains(&call.code) { 3 } else { 2 };
         assert_eq!((told.number, told.value), (number, 0), "{broken:?}");
         assert!(after == *damaged, "a refused call changed something: {broken:?}");
@@ -95,6 +100,7 @@ fn check(whole: &Kept, damaged: &Kept, image: &[u8], call: &Call, seen: &mut See
     let mut frames = Frames::of(state, table);
     let state = State::of(state).expect("sound bytes are a state's");
     let mut machine = machine_of(&state, pool, table, image);
+    seen.archives += usize::from(check_archive(damaged, &machine, image, call.sandbox));
     let named = usize::from(call.sandbox).min(SANDBOXES - 1);
     let before = machine.sandbox(named).clone();
     let (number, value) = machine.answer(call);
@@ -112,6 +118,18 @@ fn check(whole: &Kept, damaged: &Kept, image: &[u8], call: &Call, seen: &mut See
     let named = check_entries(&after.pool, &after.table, &machine).expect("the entries");
     check_unnamed(damaged, &after, &named);
     seen.sound_accepted += 1;
+}
+
+/// The archive is the plain machine's; whether one was written.
+fn check_archive(damaged: &Kept, machine: &Machine, image: &[u8], sandbox: u16) -> bool {
+    let roll = machine.archived(sandbox).map_or(0, |archive| archive.text().len());
+    let mut out = vec![0x5a; roll + 1];
+    let mut expected = out.clone();
+    let (number, value) = machine.archive(sandbox, &mut expected);
+    let told = damaged.archive(image, sandbox, &mut out);
+    assert_eq!((told.number, told.value), (u32::from(number), value));
+    assert!(out == expected, "the archive of sandbox {sandbox}");
+    number == 0
 }
 
 /// A frame that no entry names was cleared if one named it before, else it is as it was,
@@ -154,4 +172,5 @@ fn damaged_memory_is_refused_or_another_sound_state() {
     let enough = [no_state, unsound, sound_accepted, sound_refused].map(|count| count >= 1_000);
     assert_eq!(enough, [true; 4], "{seen:?}");
     assert!(seen.kept_unsound >= 1_000 && seen.kept_otherwise >= 1_000, "{seen:?}");
+    assert!(seen.archives >= 1_000, "{seen:?}");
 }

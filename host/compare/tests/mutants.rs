@@ -1,7 +1,7 @@
-//! The comparison tells every wrong machine, and no right one.
+//! The comparison tells every wrong machine and every wrong writer of archives, and no right one.
 
 use compare::{check, compare, table, tell, Expected, Lengths, MemoryFault, Mutant, WithFrames};
-use model::Fault;
+use model::{ArchiveFault, Fault};
 use rolls::Case;
 use std::path::Path;
 
@@ -13,6 +13,7 @@ fn every_fault_is_told_as_docs_mutants_has_it() {
         let near_runs = match mutant {
             Mutant::Machine(fault) => fault.is_near_runs(),
             Mutant::Memory(fault) => fault.is_near_runs(),
+            Mutant::Archive(_) => false,
         };
         let most = if near_runs { 36 } else { 12 };
         assert!(told.lines() <= most, "{mutant}: {} lines", told.lines());
@@ -34,6 +35,7 @@ fn no_roll_tells_a_machine_without_fault() {
         let case = Case::random(seed);
         assert_eq!(Mutant::Machine(Fault::None).difference(&case), None, "seed {seed}");
         assert_eq!(Mutant::Memory(MemoryFault::None).difference(&case), None, "seed {seed}");
+        assert_eq!(Mutant::Archive(ArchiveFault::None).difference(&case), None, "seed {seed}");
     }
 }
 

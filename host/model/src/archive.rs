@@ -35,9 +35,11 @@ impl Archive {
             let (kind, image_page) = backing_fields(copy[area.start].backing);
             line(2, number, [area.start, area.len(), kind, image_page, 3])
         });
-        let written = (0..ADDRESSES).filter(|&at| {
+        let mapped = (0..PAGES).filter(|&at| copy[at].mapped);
+        let addresses = mapped.flat_map(|page| page * PAGE_BYTES..(page + 1) * PAGE_BYTES);
+        let written = addresses.filter(|&at| {
             let page = &copy[at / PAGE_BYTES];
-            page.mapped && byte_of(page, at) != backing_byte(page, at, image)
+            byte_of(page, at) != backing_byte(page, at, image)
         });
         let writes = written.map(|at| {
             let byte = usize::from(byte_of(&copy[at / PAGE_BYTES], at));
