@@ -1,7 +1,7 @@
 //! The rolls of `examples/`, whose answers were written from the documents: the model gives the
 //! same. (`../test-examples` and the tests of `library` play them on the proved machine.)
 
-use model::{play, play_on, Fault, Faulty, LINE_BYTES};
+use model::{play, play_on, wrong_archive, ArchiveFault, Fault, Faulty, Machine, LINE_BYTES};
 use std::fs;
 use std::path::{Path, PathBuf};
 
@@ -15,7 +15,7 @@ fn example_rolls() -> Vec<PathBuf> {
 #[test]
 fn the_model_answers_as_the_examples_say() {
     let rolls = example_rolls();
-    assert!(rolls.len() >= 21, "only {} examples", rolls.len());
+    assert!(rolls.len() >= 24, "only {} examples", rolls.len());
     for roll in rolls {
         let image = fs::read(roll.with_extension("image")).ok();
         let played = play(&fs::read(&roll).expect("the roll"), image.as_deref(), 128);
@@ -61,6 +61,57 @@ fn kept_runs_tells_every_slip_of_keeping_frames() {
             _ => "kept-runs",
         };
         assert!(telling_line(example, fault).is_some(), "{fault:?}");
+    }
+}
+
+/// The examples that show an archive: the machine after the roll, the sandbox, the archive.
+fn example_archives() -> Vec<(Machine, u16, Vec<u8>)> {
+    let rolls = example_rolls().into_iter();
+    let with_archive = rolls.filter_map(|roll| {
+        let archive = fs::read(roll.with_extension("archive")).ok()?;
+        let image = fs::read(roll.with_extension("image")).unwrap_or_default();
+        let mut machine = Machine::fresh(&image, 128);
+        play_on(&fs::read(&roll).expect("the roll"), &mut machine);
+        let sandbox = model::parse_line(&archive[..LINE_BYTES]).expect("a line").sandbox;
+        Some((machine, sandbox, archive))
+    });
+    with_archive.collect()
+}
+
+#[test]
+fn the_model_writes_the_archives_that_the_examples_show() {
+    let archives = example_archives();
+    assert!(archives.len() >= 3, "only {} archives", archives.len());
+    for (machine, sandbox, archive) in archives {
+        let written = machine.archived(sandbox).expect("a snapshot").text();
+        let [written, expected] = [&written, &archive].map(|text| String::from_utf8_lossy(text));
+        assert_eq!(written, expected);
+    }
+}
+
+/// The examples tell every wrong writer, but for those whose slip is in output of another length
+/// or in a refusal that the examples do not have.
+#[test]
+fn the_archives_tell_every_slip_in_their_lines() {
+    use ArchiveFault::*;
+    let elsewhere = [
+        ClosedLacksSnapshot,
+        SandboxModuloFour,
+        ArchivesWithoutSnapshot,
+        AnswersFifteenFirst,
+        ClearsPastLines,
+        TouchedBeforeFifteen,
+        FifteenClearsOutput,
+        TakesOneByteShort,
+    ];
+    let archives = example_archives();
+    for fault in ArchiveFault::ALL {
+        let told = archives.iter().any(|(machine, sandbox, archive)| {
+            let mut out = vec![b'x'; archive.len()];
+            let reply = wrong_archive(fault, machine, *sandbox, &mut out);
+            (reply, &out) != ((0, (archive.len() / LINE_BYTES) as u32), archive)
+        });
+        assert_eq!(told, !elsewhere.contains(&fault), "{fault:?}");
     }
 }
 
