@@ -5,11 +5,12 @@
 //!   `copying`: whole copies;
 //! - `roll` and `states`: the calls that are measured, and the states before them;
 //! - `work` and `meter`: what is measured, and instructions and times of it;
-//! - `calls`, `mixed`, `rewind`, `snapshot`, `frames`, `rounds`, `stepwise`, `compare`, `kept`:
-//!   the tables;
+//! - `calls`, `mixed`, `rewind`, `snapshot`, `frames`, `rounds`, `stepwise`, `compare`, `kept`,
+//!   `archive`: the tables;
 //! - `reach`: what is reached and what is not;
 //! - `table`, `svg` and `document`: how they are written.
 
+mod archive;
 pub mod calls;
 mod compare;
 pub mod copying;
@@ -36,7 +37,7 @@ mod work;
 use table::Table;
 
 /// The tables of docs/BENCHMARK.md.
-pub const TABLES: [Table; 12] = [
+pub const TABLES: [Table; 13] = [
     calls::TABLE,
     mixed::TABLE,
     rewind::TABLE,
@@ -49,4 +50,5 @@ pub const TABLES: [Table; 12] = [
     kept::maps::TABLE,
     kept::soundness::TABLE,
     kept::requests::TABLE,
+    archive::TABLE,
 ];

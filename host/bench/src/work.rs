@@ -1,5 +1,5 @@
 //! What is measured: a roll played by one of the machines, or its calls made one at a time,
-//! or one step of the copying machine, or a bare copy or comparison.
+//! or an archive written, or one step of the copying machine, or a bare copy or comparison.
 
 use crate::copying::Copying;
 use crate::roll::text;
@@ -23,6 +23,52 @@ pub enum Player {
     KeepingNothing,
 }
 
+/// Which machine writes an archive.
+#[derive(Clone, Copy, PartialEq, Eq, Debug)]
+pub enum Writer {
+    Proved,
+    Unproved,
+}
+
+/// A machine as some calls leave it, ready to write archives.
+#[derive(Clone, Debug)]
+pub enum Left {
+    Proved(gazhuppin::Machine),
+    Unproved(Box<unproved::Left>),
+}
+
+impl Writer {
+    /// The machine after these calls, over the common image.
+    pub fn left(self, calls: &[model::Call]) -> Left {
+        let image = crate::roll::image();
+        if self == Writer::Unproved {
+            let left = unproved::Left::after(&text(calls), &image, FRAMES);
+            return Left::Unproved(Box::new(left));
+        }
+        let mut machine = gazhuppin::Machine::start(image, FRAMES).expect("right lengths");
+        for &model::Call { code, sandbox, parameters } in calls {
+            let told = machine.answer(&gazhuppin::Call { code, sandbox, parameters });
+            assert!(told.is_ok(), "a measured call is refused");
+        }
+        Left::Proved(machine)
+    }
+}
+
+impl Left {
+    /// A sandbox's archive, to the start of `out`: number and value.
+    pub fn archive(&mut self, sandbox: u16, out: &mut [u8]) -> (u32, u32) {
+        match self {
+            Left::Unproved(machine) => machine.archive(sandbox, out),
+            Left::Proved(machine) => {
+                let (state, pool, table) = (machine.state(), machine.pool(), machine.table());
+                let image = machine.image();
+                let told = gazhuppin::archive(state, pool, table, image, sandbox, out);
+                (told.number, told.value)
+            }
+        }
+    }
+}
+
 /// A piece of work. Each can be done again and again, and is the same each time.
 #[derive(Clone, Debug)]
 pub enum Work {
@@ -35,6 +81,12 @@ pub enum Work {
     Calls {
         calls: Vec<gazhuppin::Call>,
         image: Vec<u8>,
+    },
+    /// A sandbox's archive, in output of so many bytes.
+    Archive {
+        left: Left,
+        sandbox: u16,
+        room: usize,
     },
     /// The copying machine's snapshot: all 64 pages and their mappings.
     CopyingSnapshot,
@@ -90,6 +142,12 @@ impl Work {
                         let told = gazhuppin::call(&mut state, &mut pool, &mut table, image, call);
                         black_box(told);
                     }
+                })
+            }
+            Work::Archive { left, sandbox, room } => {
+                let (mut machine, mut out) = (left.clone(), vec![0; *room]);
+                Box::new(move || {
+                    black_box(machine.archive(*sandbox, black_box(&mut out)));
                 })
             }
             Work::CopyingSnapshot => {

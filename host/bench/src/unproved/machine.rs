@@ -13,6 +13,7 @@ use super::sandbox::Sandbox;
 /// it; without, it frees all fronts, so that each has to be taken again. With `KEEPS_RUNS` it
 /// keeps the frames of a finished request, as request A3 has it; without, there are no runs, and
 /// nothing is done for them.
+#[derive(Clone, Debug)]
 pub struct Machine<const KEEPS_FRONTS: bool, const KEEPS_RUNS: bool> {
     pub sandboxes: [Sandbox; 4],
     /// The frames that entries name; kept ones are marked in their runs alone.

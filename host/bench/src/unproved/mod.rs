@@ -9,8 +9,10 @@
 //! - `sandbox` and `soundness`: what is kept, and the test of it;
 //! - `rules`, `machine`, `rewind` and `compare`: what is refused, and what an accepted call
 //!   does;
-//! - `text` and `roll`: the lines, and the player.
+//! - `text` and `roll`: the lines, and the player;
+//! - `archive`: a snapshot as a roll that rebuilds it.
 
+mod archive;
 mod areas;
 mod compare;
 mod held;
@@ -30,4 +32,5 @@ mod soundness;
 mod spoiled;
 mod text;
 
+pub use archive::Left;
 pub use roll::{play, play_dropping, play_keeping_nothing};

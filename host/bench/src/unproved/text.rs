@@ -6,7 +6,7 @@ pub const LINE_BYTES: usize = 43;
 pub const REPLY_BYTES: usize = 19;
 /// "Lines after the 65,535th are not read."
 pub const MOST_LINES: usize = 65_535;
-const COLUMNS: usize = 6;
+pub const COLUMNS: usize = 6;
 
 /// How many lines a roll of so many bytes has, a short rest among them.
 pub fn lines_of(bytes: usize) -> usize {
@@ -54,7 +54,7 @@ pub fn print_reply(out: &mut [u8], line: u32, number: u32, value: u32) {
 }
 
 /// A number right-justified over blanks.
-fn print_field(out: &mut [u8], number: u32) {
+pub fn print_field(out: &mut [u8], number: u32) {
     out.fill(b' ');
     let mut rest = number;
     for byte in out.iter_mut().rev() {
