@@ -1,0 +1,87 @@
+-- The roll that the code writes is the archive roll of the machine's snapshot.
+use Prim.Native.Nat.{ℕ, zero, suc, _+_, _*_, _/_, _%_, _<_}
+use mathlib.Core.Path.{_≡_, refl, sym, ap, ap₂, _∙_}
+use mathlib.Core.Bool.{true, false}
+use mathlib.Core.List.{List, [], _++_, append-assoc, append-nil}
+use native.Mathlib.Omega.{arith}
+use Rattle.basics.proofs.TestLaws.{by-cases}
+use Rattle.interface.specs.Slots.{isMapped, backingAt}
+use Rattle.table.specs.Store.{contents}
+use Rattle.areas.specs.Areas.{slots}
+use Rattle.areas.specs.Walk.{Formed}
+use Rattle.state.specs.declared.sandbox.Sandbox.{Sandbox}
+use Rattle.state.specs.World.{World, sandboxAt}
+use Rattle.plain.specs.Machine.{Pages}
+use Rattle.archive.specs.Archive.{joined, only, opening, maps, differs, writeAt, writes, protects, closing, archive}
+use Rattle.replay.specs.Snapshot.{snapshotPage, snapshotOf, archiveOf}
+use Rattle.segments.specs.ByPages.{byteLine, backPage, pageLines, writesOf}
+use Rattle.archiving.specs.Whole.{rollOf}
+use Rattle.segments.proofs.AreaLaws.{maps-by-areas, protects-by-areas}
+
+joined-below : {A : Type 0} (x y : ℕ → List A) (n : ℕ) → ((i : ℕ) → i < n → x i ≡ y i) → joined x n ≡ joined y n
+unfolding joined
+joined-below x y zero h = refl
+joined-below x y (suc n) h = ap₂ _++_ (joined-below x y n (λ i l. h i (omega arith))) (h n (omega arith))
+
+joined-none : {A : Type 0} (f : ℕ → List A) (n : ℕ) → ((i : ℕ) → i < n → f i ≡ []) → joined f n ≡ []
+unfolding joined
+joined-none f zero h = refl
+joined-none f (suc n) h = rw (joined-none f n (λ i l. h i (omega arith)), h n (omega arith))
+
+-- the next n behind the first a
+joined-split : {A : Type 0} (f : ℕ → List A) (a n : ℕ) → joined f (a + n) ≡ joined f a ++ joined (λ i. f (a + i)) n
+unfolding joined
+joined-split f a zero = let e : a + zero ≡ a = omega arith in rw e (sym (append-nil (joined f a)))
+joined-split f a (suc n) =
+    let e : a + suc n ≡ suc (a + n) = omega arith in
+    rw (e, joined-split f a n) (append-assoc (joined f a) (joined (λ i. f (a + i)) n) (f (a + n)))
+
+-- by addresses is by pages and places
+pub joined-pages : {A : Type 0} (f : ℕ → List A) (n : ℕ) → joined f (n * 256) ≡ joined (λ i. joined (λ j. f (i * 256 + j)) 256) n
+unfolding joined
+joined-pages f zero = refl
+joined-pages f (suc n) =
+    let e : suc n * 256 ≡ n * 256 + 256 = omega arith in
+    rw e (joined-split f (n * 256) 256 ∙ ap (λ l. l ++ joined (λ j. f (n * 256 + j)) 256) (joined-pages f n))
+
+five : {A : Type 0} (a b c d e : List A) → (((a ++ b) ++ c) ++ d) ++ e ≡ a ++ (b ++ (c ++ (d ++ e)))
+five a b c d e = simp append-assoc
+
+module _ (image : List ℕ) (w : World) (s : ℕ) where
+  abbrev b : Sandbox
+  b = sandboxAt w s
+
+  abbrev d : Pages
+  d = snapshotOf image w s
+
+  -- the page that the code looks at is the snapshot's
+  page-same : (i : ℕ) → backPage image (b .snapshot) (w .store .pool) (w .store .table) s i ≡ snapshotPage image (w .store) b s i
+  unfolding snapshotPage contents
+  page-same i = refl
+
+  line-same : (i j a : ℕ) → i ≡ a / 256 → j ≡ a % 256 → a ≡ i * 256 + j → isMapped (slots (b .snapshot) i) ≡ true
+      → only (differs image d (a / 256) (a % 256)) (writeAt s d a) ≡ byteLine image (backingAt (slots (b .snapshot) i)) s i (backPage image (b .snapshot) (w .store .pool) (w .store .table) s i) j
+  line-same i j a x y z m = rw (← x, ← y, m, z, page-same i)
+
+  line-none : (i j a : ℕ) → i ≡ a / 256 → j ≡ a % 256 → isMapped (slots (b .snapshot) i) ≡ false → only (differs image d (a / 256) (a % 256)) (writeAt s d a) ≡ []
+  line-none i j a x y m = rw (← x, m)
+
+  page-lines : (i : ℕ) → joined (λ j. only (differs image d ((i * 256 + j) / 256) ((i * 256 + j) % 256)) (writeAt s d (i * 256 + j))) 256 ≡ pageLines image (b .snapshot) (w .store .pool) (w .store .table) s i
+  page-lines i =
+      by-cases (isMapped (slots (b .snapshot) i))
+      (λ m. joined-below _ (byteLine image (backingAt (slots (b .snapshot) i)) s i (backPage image (b .snapshot) (w .store .pool) (w .store .table) s i)) 256
+      (λ j l. line-same i j (i * 256 + j) (omega arith) (omega arith) refl m) ∙ rw m)
+      (λ m. joined-none _ 256 (λ j l. line-none i j (i * 256 + j) (omega arith) (omega arith) m) ∙ rw m)
+
+  pub writes-by-pages : writes s image d ≡ writesOf image (b .snapshot) (w .store .pool) (w .store .table) s 64
+  unfolding writes
+  writes-by-pages =
+      joined-pages (λ a. only (differs image d (a / 256) (a % 256)) (writeAt s d a)) 64
+      ∙ joined-below (λ i. joined (λ j. only (differs image d ((i * 256 + j) / 256) ((i * 256 + j) % 256)) (writeAt s d (i * 256 + j))) 256)
+      (pageLines image (b .snapshot) (w .store .pool) (w .store .table) s) 64 (λ i l. page-lines i)
+
+  pub roll-is : Formed (b .snapshot) → rollOf image (b .snapshot) (w .store .pool) (w .store .table) s (b .share) ≡ archiveOf image w s
+  unfolding rollOf archive
+  roll-is F =
+      rw (← maps-by-areas (b .snapshot) F s, ← protects-by-areas (b .snapshot) F s, ← writes-by-pages)
+      (five (opening s (b .share)) (maps s (slots (b .snapshot))) (writes s image d) (protects s (slots (b .snapshot))) (closing s))
