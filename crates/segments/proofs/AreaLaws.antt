@@ -18,7 +18,7 @@ use Rattle.interface.specs.Slots.{Slots, isMapped, rightsAt, backingAt, advance
 use Rattle.areas.specs.declared.area.Area.{Area}
 use Rattle.areas.specs.declared.area.Areas.{Areas}
 use Rattle.areas.specs.Areas.{none, attributesOf, slotOf, slots}
-use Rattle.areas.specs.Pack.{goesOn}
+use Rattle.areas.specs.Formed.{goesOn}
 use Rattle.areas.specs.Walk.{Formed}
 use Rattle.areas.proofs.SlotLaws.{slot-hit}
 use Rattle.areas.proofs.WalkLaws.{endOf, order, between}

@@ -1,24 +1,24 @@
 use borrow.Author.Needs.{needs}
-use Rattle.segments.proofs.areas_part.map_line.Statement.{statement}
-use Rattle.segments.proofs.areas_part.map_line.Tie as tie
+use Rattle.segments.proofs.maps.map_line.Statement.{statement}
+use Rattle.segments.proofs.maps.map_line.Tie as tie
 
--- src/areas_part.rt:36:13
+-- src/maps.rt:36:13
 cast-t5 : tie.Need-cast-t5
 cast-t5 c = search needs
 
--- src/areas_part.rt:37:13
+-- src/maps.rt:37:13
 cast-t6 : tie.Need-cast-t6
 cast-t6 c = search needs
 
--- src/areas_part.rt:38:13
+-- src/maps.rt:38:13
 kind-of-requires : tie.Need-kind-of-requires
 kind-of-requires c κs = search needs
 
--- src/areas_part.rt:39:13
+-- src/maps.rt:39:13
 first-image-requires : tie.Need-first-image-requires
 first-image-requires c κs = search needs
 
--- src/areas_part.rt:29:1
+-- src/maps.rt:29:1
 returns : tie.Need-returns
 returns c =
     rw (c .first-image .ensures, c .before .kind-of .ensures)

@@ -1,4 +1,4 @@
-// The lines for the snapshot's bytes.
+// The writes of a snapshot's bytes.
 ghost use mathlib.Core.Path.{_≡_};
 ghost use Prim.Native.Nat.{ℕ, _+_, _*_, _≤_, _<_};
 ghost use lib.ListN.{length};
@@ -12,7 +12,7 @@ ghost use Rattle.plain.specs.Machine.{backingByte};
 ghost use Rattle.interface.specs.Requests.{requestOf, Write};
 ghost use Rattle.printing.specs.Put.{put, Room};
 ghost use Rattle.segments.specs.ByPages.{bytesOf, pageLines, writesOf};
-use crate::line::put_if;
+use printing::line::put_if;
 use areas::area::Areas;
 use areas::slot::backing_at;
 use areas::slot::is_mapped;

@@ -7,50 +7,50 @@ use borrow.Author.Tests.{not-false, not-true}
 use native.Mathlib.Omega.{arith}
 use mathlib.Core.Path.{sym, ap, _∙_}
 use borrow.Author.Needs.{needs}
-use Rattle.segments.proofs.bytes_part.put_page.Statement.{statement}
-use Rattle.segments.proofs.bytes_part.put_page.Tie as tie
+use Rattle.segments.proofs.writes.put_page.Statement.{statement}
+use Rattle.segments.proofs.writes.put_page.Tie as tie
 
--- src/bytes_part.rt:73:9
+-- src/writes.rt:73:9
 back-requires : tie.Need-back-requires
 back-requires c κs = search needs
 
--- src/bytes_part.rt:75:9
+-- src/writes.rt:75:9
 returns : tie.Need-returns
 returns c =
     let s = c .before .before .before .before .before .before in
     put-nothing (s .args .writes) (s .args .out .now) (s .args .at) _ (unbacked-none (s .args .image .now) (s .args .areas) (s .args .pool .now) (s .args .table .now) (s .args .s) (s .args .page .0) (sym (c .before .back .ensures) ∙ c .if1 .taken))
 
--- src/bytes_part.rt:77:9
+-- src/writes.rt:77:9
 slot-requires : tie.Need-slot-requires
 slot-requires c κs = search needs
 
--- src/bytes_part.rt:78:9
+-- src/writes.rt:78:9
 is-mapped-requires : tie.Need-is-mapped-requires
 is-mapped-requires c κs = search needs
 
--- src/bytes_part.rt:79:9
+-- src/writes.rt:79:9
 returns-2 : tie.Need-returns-2
 returns-2 c =
     let s = c .before .before .before .before .before .before .before .before .before in
     put-nothing (s .args .writes) (s .args .out .now) (s .args .at) _
     (unmapped-none (s .args .image .now) (s .args .areas) (s .args .pool .now) (s .args .table .now) (s .args .s) (s .args .page .0) (ap isMapped (sym (c .before .before .slot .ensures)) ∙ sym (c .before .is-mapped .ensures) ∙ not-true _ (c .if2 .taken)))
 
--- src/bytes_part.rt:81:46
+-- src/writes.rt:81:46
 backing-at-requires : tie.Need-backing-at-requires
 backing-at-requires c κs = search needs
 
--- src/bytes_part.rt:81:65
+-- src/writes.rt:81:65
 sub-put-bytes : tie.Need-sub-put-bytes
 sub-put-bytes c = search needs
 
--- src/bytes_part.rt:81:64
+-- src/writes.rt:81:64
 cast-put-bytes : tie.Need-cast-put-bytes
 cast-put-bytes c =
     let s = c .before .before .before .before .before .before .before .before .before .before .before in
     let few = s .pre .1 .1 .1 .1 .0 .few (backOf (s .args .s) (s .args .page .0)) in
     record { fits = omega (arith, few, c .before .before .before .before .before .before .back .ensures) }
 
--- src/bytes_part.rt:81:5
+-- src/writes.rt:81:5
 put-bytes-requires : tie.Need-put-bytes-requires
 put-bytes-requires c κs =
     let s = c .before .before .before .before .before .before .before .before .before .before .before in
@@ -72,11 +72,11 @@ put-bytes-requires c κs =
       ),
     )
 
--- src/bytes_part.rt:52:1
+-- src/writes.rt:52:1
 same-length : tie.Need-same-length
 same-length c = search needs
 
--- src/bytes_part.rt:52:1
+-- src/writes.rt:52:1
 returns-3 : tie.Need-returns-3
 returns-3 c =
     let s = c .before .before .before .before .before .before .before .before .before .before .before .before .before .before in

@@ -9,8 +9,8 @@ use lib.ListN.{length}
 use Rattle.pages.specs.Parts.{frame}
 use Rattle.printing.specs.Put.{put}
 use Rattle.segments.specs.ByPages.{byteLine, bytesOf}
-use Rattle.segments.proofs.bytes_part.put_bytes.Statement.{statement}
-use Rattle.segments.proofs.bytes_part.put_bytes.Tie as tie
+use Rattle.segments.proofs.writes.put_bytes.Statement.{statement}
+use Rattle.segments.proofs.writes.put_bytes.Tie as tie
 
 abbrev Inv-loop : tie.InvT-loop
 Inv-loop pool image out₀ at s page backing f writes start n₀ j₀ out n j =
@@ -19,38 +19,38 @@ Inv-loop pool image out₀ at s page backing f writes start n₀ j₀ out n j =
 abbrev μ-loop : tie.MeasureT-loop
 μ-loop pool image out₀ at s page backing f writes start n₀ j₀ out n j = 256 - j
 
--- src/bytes_part.rt:105:17
+-- src/writes.rt:105:17
 mul-start : tie.Need-mul-start Inv-loop μ-loop
 mul-start c = search needs
 
--- src/bytes_part.rt:107:5
+-- src/writes.rt:107:5
 loop-holds : tie.Need-loop-holds Inv-loop μ-loop
 loop-holds c =
     let s = c .before .before .before in
     let z = put-start (s .args .writes) (s .args .out .now) (s .args .at) (byteLine (s .args .image .now) (s .args .backing) (s .args .s) (s .args .page .0) (frame 256 (s .args .pool .now) (s .args .f))) in
     (omega arith, refl, z .0, z .1)
 
--- src/bytes_part.rt:108:29
+-- src/writes.rt:108:29
 cast-place : tie.Need-cast-place Inv-loop μ-loop
 cast-place c = search needs
 
--- src/bytes_part.rt:108:21
+-- src/writes.rt:108:21
 add-place : tie.Need-add-place Inv-loop μ-loop
 add-place c = search needs
 
--- src/bytes_part.rt:109:20
+-- src/writes.rt:109:20
 shared-slice-read-byte : tie.Need-shared-slice-read-byte Inv-loop μ-loop
 shared-slice-read-byte c = search needs
 
--- src/bytes_part.rt:110:13
+-- src/writes.rt:110:13
 source-byte-requires : tie.Need-source-byte-requires Inv-loop μ-loop
 source-byte-requires c κs = search needs
 
--- src/bytes_part.rt:111:28
+-- src/writes.rt:111:28
 write-line-requires : tie.Need-write-line-requires Inv-loop μ-loop
 write-line-requires c κs = search needs
 
--- src/bytes_part.rt:111:9
+-- src/writes.rt:111:9
 put-if-requires : tie.Need-put-if-requires Inv-loop μ-loop
 put-if-requires c κs =
     let s = c .before .before .before .before .before .before .before .before .before in
@@ -61,15 +61,15 @@ put-if-requires c κs =
           (byte-line (s .args .image .now) (s .args .pool .now) (s .args .backing) (s .args .s) (s .args .page .0) (s .args .f) (l .j) _ _ (c .before .before .before .before .loop-test .taken) (c .before .before .source-byte .ensures) (c .write-line .ensures)),
     )
 
--- src/bytes_part.rt:107:9
+-- src/writes.rt:107:9
 add-j : tie.Need-add-j Inv-loop μ-loop
 add-j c = search needs
 
--- src/bytes_part.rt:107:5
+-- src/writes.rt:107:5
 loop-less : tie.Need-loop-less Inv-loop μ-loop
 loop-less c = search needs
 
--- src/bytes_part.rt:107:5
+-- src/writes.rt:107:5
 loop-again : tie.Need-loop-again Inv-loop μ-loop
 loop-again c =
     let s = c .before .before .before .before .before .before .before .before .before .before .before .before in
@@ -80,11 +80,11 @@ loop-again c =
     (put-if .result) (put-if .last .0) (l .inv .3) (put-if .ensures .0) (put-if .ensures .1) in
     (omega (arith, c .before .before .before .before .before .before .before .loop-test .taken), z .0, z .1, z .2)
 
--- src/bytes_part.rt:85:1
+-- src/writes.rt:85:1
 same-length : tie.Need-same-length Inv-loop μ-loop
 same-length c = search needs
 
--- src/bytes_part.rt:85:1
+-- src/writes.rt:85:1
 returns : tie.Need-returns Inv-loop μ-loop
 returns c =
     let s = c .before .before .before .before .before in

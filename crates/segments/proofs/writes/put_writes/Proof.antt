@@ -8,8 +8,8 @@ use Prim.Native.Nat.{_+_, _-_, _≤_}
 use lib.ListN.{length}
 use Rattle.printing.specs.Put.{put}
 use Rattle.segments.specs.ByPages.{pageLines, writesOf}
-use Rattle.segments.proofs.bytes_part.put_writes.Statement.{statement}
-use Rattle.segments.proofs.bytes_part.put_writes.Tie as tie
+use Rattle.segments.proofs.writes.put_writes.Statement.{statement}
+use Rattle.segments.proofs.writes.put_writes.Tie as tie
 
 abbrev Inv-loop : tie.InvT-loop
 Inv-loop pool table image out₀ at s areas writes n₀ i₀ out n i =
@@ -18,14 +18,14 @@ Inv-loop pool table image out₀ at s areas writes n₀ i₀ out n i =
 abbrev μ-loop : tie.MeasureT-loop
 μ-loop pool table image out₀ at s areas writes n₀ i₀ out n i = 64 - i
 
--- src/bytes_part.rt:45:5
+-- src/writes.rt:45:5
 loop-holds : tie.Need-loop-holds Inv-loop μ-loop
 loop-holds c =
     let s = c .before .before .before .before in
     let z = put-start (s .args .writes) (s .args .out .now) (s .args .at) (pageLines (s .args .image .now) (s .args .areas) (s .args .pool .now) (s .args .table .now) (s .args .s)) in
     (omega arith, refl, z .0, z .1)
 
--- src/bytes_part.rt:46:9
+-- src/writes.rt:46:9
 put-page-requires : tie.Need-put-page-requires Inv-loop μ-loop
 put-page-requires c κs =
     let s = c .before .before .before .before .before .before .before in
@@ -50,15 +50,15 @@ put-page-requires c κs =
       ),
     )
 
--- src/bytes_part.rt:45:9
+-- src/writes.rt:45:9
 add-i : tie.Need-add-i Inv-loop μ-loop
 add-i c = search needs
 
--- src/bytes_part.rt:45:5
+-- src/writes.rt:45:5
 loop-less : tie.Need-loop-less Inv-loop μ-loop
 loop-less c = search needs
 
--- src/bytes_part.rt:45:5
+-- src/writes.rt:45:5
 loop-again : tie.Need-loop-again Inv-loop μ-loop
 loop-again c =
     let s = c .before .before .before .before .before .before .before .before .before .before in
@@ -68,11 +68,11 @@ loop-again c =
     (page .result) (page .last .1 .1 .1 .0) (l .inv .3) (page .ensures .0) (page .ensures .1) in
     (omega (arith, c .before .before .before .before .loop-test .taken), z .0, z .1, z .2)
 
--- src/bytes_part.rt:25:1
+-- src/writes.rt:25:1
 same-length : tie.Need-same-length Inv-loop μ-loop
 same-length c = search needs
 
--- src/bytes_part.rt:25:1
+-- src/writes.rt:25:1
 returns : tie.Need-returns Inv-loop μ-loop
 returns c =
     let s = c .before .before .before .before .before .before in

@@ -1,0 +1,4 @@
+-- In reading order.
+pub mod ByAreasLaws
+pub mod AreaLaws
+pub mod ByPagesLaws
