@@ -13,7 +13,8 @@ use Rattle.state.specs.declared.sandbox.Sandbox.{Sandbox}
 use Rattle.state.specs.World.{World, sandboxAt}
 use Rattle.plain.specs.Machine.{Pages}
 use Rattle.archive.specs.Archive.{joined, only, opening, maps, differs, writeAt, writes, protects, closing, archive}
-use Rattle.replay.specs.Snapshot.{snapshotPage, snapshotOf, archiveOf}
+use Rattle.content.specs.Content.{copyRead}
+use Rattle.replay.specs.Snapshot.{snapshotOf, archiveOf}
 use Rattle.segments.specs.ByPages.{byteLine, backPage, pageLines, writesOf}
 use Rattle.archiving.specs.Whole.{rollOf}
 use Rattle.segments.proofs.AreaLaws.{maps-by-areas, protects-by-areas}
@@ -55,8 +56,8 @@ module _ (image : List ℕ) (w : World) (s : ℕ) where
   d = snapshotOf image w s
 
   -- the page that the code looks at is the snapshot's
-  page-same : (i : ℕ) → backPage image (b .snapshot) (w .store .pool) (w .store .table) s i ≡ snapshotPage image (w .store) b s i
-  unfolding snapshotPage contents
+  page-same : (i : ℕ) → backPage image (b .snapshot) (w .store .pool) (w .store .table) s i ≡ copyRead image (w .store) b s i
+  unfolding copyRead contents
   page-same i = refl
 
   line-same : (i j a : ℕ) → i ≡ a / 256 → j ≡ a % 256 → a ≡ i * 256 + j → isMapped (slots (b .snapshot) i) ≡ true

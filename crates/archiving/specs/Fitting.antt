@@ -1,18 +1,18 @@
--- A roll in output memory that it fits, or none.
+-- A roll in output memory, where it fits.
 use Prim.Native.Nat.{ℕ, _*_}
-use mathlib.Core.List.{List, _++_}
+use mathlib.Core.List.{List}
 use lib.Dec.{ltb}
-use lib.ListN.{length, drop}
+use lib.ListN.{length}
 use Rattle.basics.specs.Choice.{_when_else_}
+use Rattle.interface.specs.declared.answer.Answer.{Answer}
 use Rattle.interface.specs.declared.request.Request.{Request}
-use Rattle.archive.specs.Text.{printedRoll}
-use Rattle.archiving.specs.declared.whole.Filed.{Filed}
-use Rattle.archiving.specs.declared.whole.Filed.the-variants.{Lines, Short}
+use Rattle.interface.specs.Answers.{answered}
+use Rattle.archive.specs.Written.{Written, writtenAs}
 
--- "The answer is the number of lines"; "15, output memory shorter than the roll"
-unfoldable pub fittingAnswer : List ℕ → List Request → Filed
-fittingAnswer out roll = Short when ltb (length out) (length roll * 43) else Lines (length roll)
+-- an answer, and the output memory that is left
+abbrev pub left : Answer → List ℕ → Written
+left answer out = record { answer = answered answer; out = out }
 
--- "output memory past them is untouched", and all of it where the roll does not fit
-unfoldable pub fittingText : List ℕ → List Request → List ℕ
-fittingText out roll = out when ltb (length out) (length roll * 43) else printedRoll roll ++ drop (length roll * 43) out
+-- "15, output memory shorter than the roll"; else the roll is written
+unfoldable pub fitted : List Request → List ℕ → Written
+fitted roll out = writtenAs (15 when ltb (length out) (length roll * 43) else 0) roll out

@@ -1,4 +1,4 @@
-// The whole roll, counted or written; and the function that answers for it.
+// The whole roll: counted, or written; and written only where it fits.
 ghost use mathlib.Core.Path.{_≡_};
 ghost use Prim.Native.Nat.{ℕ, _+_, _*_, _≤_, _<_};
 ghost use lib.ListN.{length};
@@ -10,13 +10,15 @@ ghost use Rattle.areas.specs.Areas.{slots, Near};
 ghost use Rattle.content.specs.Content.{sourceOf};
 ghost use Rattle.printing.specs.Put.{put, Room};
 ghost use Rattle.archiving.specs.Whole.{rollOf};
-ghost use Rattle.archiving.specs.Fitting.{fittingAnswer, fittingText};
-use crate::areas_part::put_maps;
-use crate::areas_part::put_protects;
-use crate::bytes_part::put_writes;
-use crate::line::put_line;
+ghost use Rattle.archiving.specs.Fitting.{left, fitted};
 use areas::area::Areas;
+use interface::answer::Answer;
+use interface::answer::Refusal;
 use interface::request::Request;
+use printing::line::put_line;
+use segments::maps::put_maps;
+use segments::protects::put_protects;
+use segments::writes::put_writes;
 
 // The roll of a snapshot with these areas, of sandbox s with this share; answers the number of its lines.
 pub fn put_roll(
@@ -59,15 +61,6 @@ fn bare_line(code: u16, s: u8, p1: u16) -> Request
     }
 }
 
-// What the archive is answered: the number of lines, or why there are none.
-pub enum Filed {
-    Lines(u32),
-    Unsound,
-    NotOpen,
-    NoSnapshot,
-    Short,
-}
-
 // The roll is counted first, and written only where it fits: "any refusal leaves all output memory untouched".
 pub fn put_fitting(
     pool: &[u8],
@@ -77,18 +70,18 @@ pub fn put_fitting(
     s: u8,
     share: u8,
     areas: Areas,
-) -> Filed
+) -> Answer
     requires { ⌜ s < 4 ⌝ }
     requires { ⌜ Near (areas .list) ⌝ }
     requires { ⌜ Ranged 256 (now pool) (now table) ⌝ }
     requires { ⌜ ((i : ℕ) → sourceEnd (sourceOf (backingAt (slots areas i))) * 256 ≤ length (now image)) ⌝ }
-    ensures { λ r. ⌜ r ≡ fittingAnswer (now (out .entry)) (rollOf (now (image .entry)) areas (now (pool .entry)) (now (table .entry)) s share) ⌝ }
-    ensures { λ r. ⌜ now (out .exit) ≡ fittingText (now (out .entry)) (rollOf (now (image .entry)) areas (now (pool .entry)) (now (table .entry)) s share) ⌝ }
+    ensures { λ r. ⌜ left r (now (out .exit)) ≡ fitted
+        (rollOf (now (image .entry)) areas (now (pool .entry)) (now (table .entry)) s share) (now (out .entry)) ⌝ }
 {
     let lines = put_roll(pool, table, image, out, s, share, areas, false);
     if out.len() < lines as usize * 43 {
-        return Filed::Short;
+        return Answer::Refused(Refusal::OutputTooShort);
     }
     put_roll(pool, table, image, out, s, share, areas, true);
-    Filed::Lines(lines)
+    Answer::Value(lines)
 }

@@ -1,13 +1,12 @@
 use Rattle.archiving.proofs.ArchivedLaws.{refused-3, refused-4, refused-closed, refused-8, filed}
 use Rattle.archiving.proofs.RollLaws.{roll-is}
-use Rattle.machine.proofs.CallLaws.{sound-of-test}
-use Rattle.memory.proofs.MemoryLaws.{source-there}
+use Rattle.content.proofs.ReadingLaws.{source-there}
 use Rattle.table.proofs.FiledLaws.{filed-ranged}
 use Rattle.areas.proofs.FormedLaws.{near}
 use Rattle.areas.specs.Walk.{Formed}
 use Rattle.state.proofs.SharesLaws.{zeroSandbox}
 use Rattle.state.specs.Test.{soundb}
-use Rattle.state.specs.Sound.{Sound}
+use Rattle.state.proofs.TestLaws.{Tested, tested}
 use Rattle.state.specs.World.{worldOf, sandboxAt, framesOf, pagesIn, closedSandbox}
 use Rattle.basics.proofs.ListLaws.{getD-any}
 use Rattle.basics.proofs.TestLaws.{length-mapped}
@@ -18,14 +17,14 @@ use Prim.Native.Nat.{_≤_}
 use mathlib.Core.Bool.{true}
 use mathlib.Core.Path.{_≡_, sym, _∙_}
 use borrow.Author.Needs.{needs}
-use Rattle.archiving.proofs.file.write_archive.Statement.{statement}
-use Rattle.archiving.proofs.file.write_archive.Tie as tie
+use Rattle.archiving.proofs.write_archive.Statement.{statement}
+use Rattle.archiving.proofs.write_archive.Tie as tie
 
 four : (c : tie.Start) → length (c .args .machine .sandboxes) ≡ 4
 four c = search length-mapped
 
-sound-here : (c : tie.Start) → soundb (c .args .image .now) (worldOf (c .args .machine) (c .args .pool .now) (c .args .table .now)) ≡ true → Sound (c .args .image .now) (worldOf (c .args .machine) (c .args .pool .now) (c .args .table .now))
-sound-here c e = sound-of-test (c .args .image .now) (worldOf (c .args .machine) (c .args .pool .now) (c .args .table .now)) (four c) e
+sound-here : (c : tie.Start) → soundb (c .args .image .now) (worldOf (c .args .machine) (c .args .pool .now) (c .args .table .now)) ≡ true → Tested (c .args .image .now) (worldOf (c .args .machine) (c .args .pool .now) (c .args .table .now))
+sound-here c e = tested (c .args .image .now) (worldOf (c .args .machine) (c .args .pool .now) (c .args .table .now)) e
 
 -- the sandbox that the array holds is that of the world
 same-sandbox : (c : tie.Start) → c .args .sandbox ≤ 3 → getD (c .args .machine .sandboxes) (c .args .sandbox) zeroSandbox ≡ getD (c .args .machine .sandboxes) (c .args .sandbox) closedSandbox
@@ -104,8 +103,8 @@ returns-5 c =
     let same = same-sandbox s row in
     let S = sound-here s (sym (c .before .before .before .before .before .before .before .before .before .before .before .before .before .sound .ensures) ∙ not-false (c .before .before .before .before .before .before .before .before .before .before .before .before .before .sound .result) (c .before .before .before .before .before .before .before .before .before .before .before .before .if1 .left)) in
     let F : Formed (sandboxAt (worldOf (s .args .machine) (s .args .pool .now) (s .args .table .now)) (s .args .sandbox) .snapshot) = record { images = pagesIn (length (s .args .image .now)); few = S .images; formed = S .each (s .args .sandbox) (omega arith) .snapshot } in
-    filed (s .args .image .now) (worldOf (s .args .machine) (s .args .pool .now) (s .args .table .now)) (s .args .sandbox) (s .args .out .now) (sym (c .before .before .before .before .before .before .before .before .before .before .before .before .before .sound .ensures) ∙ not-false (c .before .before .before .before .before .before .before .before .before .before .before .before .before .sound .result) (c .before .before .before .before .before .before .before .before .before .before .before .before .if1 .left)) row (rw (← same) (not-false _ (c .before .before .before .before .before .before .before .if3 .left))) (rw (← same) (not-false _ (c .before .before .before .before .before .if4 .left))) _ _ _
-    (rw same (roll-is (s .args .image .now) (worldOf (s .args .machine) (s .args .pool .now) (s .args .table .now)) (s .args .sandbox) F)) (c .before .before .put-fitting .ensures .0) (c .before .before .put-fitting .ensures .1)
+    filed (s .args .image .now) (worldOf (s .args .machine) (s .args .pool .now) (s .args .table .now)) (s .args .sandbox) (s .args .out .now) (sym (c .before .before .before .before .before .before .before .before .before .before .before .before .before .sound .ensures) ∙ not-false (c .before .before .before .before .before .before .before .before .before .before .before .before .before .sound .result) (c .before .before .before .before .before .before .before .before .before .before .before .before .if1 .left)) row (rw (← same) (not-false _ (c .before .before .before .before .before .before .before .if3 .left))) (rw (← same) (not-false _ (c .before .before .before .before .before .if4 .left))) (c .before .before .put-fitting .result) _ _
+    (rw same (roll-is (s .args .image .now) (worldOf (s .args .machine) (s .args .pool .now) (s .args .table .now)) (s .args .sandbox) F)) (c .before .before .put-fitting .ensures)
 
 pub write-archive-spec : {M : Type 1} → statement M
 write-archive-spec =

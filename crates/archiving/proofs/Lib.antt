@@ -1,0 +1,5 @@
+-- In reading order.
+pub mod WholeLaws
+pub mod FittingLaws
+pub mod RollLaws
+pub mod ArchivedLaws

@@ -1,0 +1,46 @@
+// The archive roll of a sandbox's snapshot, written into lent output: "A roll for the archive box".
+// It promises: whatever is lent, answer and output are those of `written` (`replay`, specs/Snapshot). A refusal leaves every byte of the output; else the roll
+// stands at its start, and what is past it stays. State, pool, table and image are only read.
+// It stands on `segments` and `printing` for the lines, on `soundness` for the test of the state, and on `replay` for what is promised.
+ghost use mathlib.Core.Path.{_≡_};
+ghost use Rattle.state.specs.World.{worldOf};
+ghost use Rattle.replay.specs.Snapshot.{written};
+ghost use Rattle.archiving.specs.Fitting.{left};
+use crate::whole::put_fitting;
+use interface::answer::Answer;
+use interface::answer::Refusal;
+use soundness::sound::sound;
+use state::sandbox::Machine;
+
+pub mod whole;
+
+// "The answer is the number of lines; output memory past them is untouched. .. any refusal leaves all output memory untouched."
+pub fn write_archive(
+    machine: Machine,
+    pool: &[u8],
+    table: &[u16],
+    image: &[u8],
+    sandbox: u16,
+    out: &mut [u8],
+) -> Answer
+    ensures { λ r. ⌜ left r (now (out .exit)) ≡ written (now (image .entry)) (worldOf machine (now (pool .entry)) (now (table .entry))) sandbox
+        (now (out .entry)) ⌝ }
+{
+    if !sound(machine, pool, table, image) {
+        return Answer::Refused(Refusal::Unsound);
+    }
+    if 3 < sandbox {
+        return Answer::Refused(Refusal::NotOpen);
+    }
+    let sandboxes = machine.sandboxes;
+    let k = sandbox as usize;
+    let b = sandboxes[k];
+    if !b.opened {
+        return Answer::Refused(Refusal::NotOpen);
+    }
+    if !b.taken {
+        return Answer::Refused(Refusal::NoSnapshot);
+    }
+    let areas = b.snapshot;
+    put_fitting(pool, table, image, out, sandbox as u8, b.share, areas)
+}
