@@ -4,6 +4,8 @@ ghost use mathlib.Core.Path.{_≡_};
 ghost use Rattle.interface.specs.Requests.{requestOf};
 ghost use Rattle.layout.specs.Layout.{stateSize};
 ghost use Rattle.stepwise.specs.Calls.{handed, startNumber, startHands, Called};
+ghost use Rattle.filing.specs.Filed.{left, filed};
+use filing::archive_over;
 use interface::request::Request;
 use layout::size::Size;
 use stepwise::Told;
@@ -67,4 +69,21 @@ pub extern "C" fn gazhuppin_call(
             p5: p5,
         },
     )
+}
+
+// Writes the archive roll of a sandbox's snapshot into `out`, and answers the number of its lines. State, pool, table and image are only read; a refusal leaves
+// every byte of `out`, and so does a roll those past its lines.
+#[no_mangle]
+pub extern "C" fn gazhuppin_archive(
+    state: &[u8],
+    pool: &[u8],
+    table: &[u16],
+    image: &[u8],
+    sandbox: u16,
+    out: &mut [u8],
+) -> Told
+    ensures { λ r. ⌜ left r (now (out .exit)) ≡ filed (now (image .entry)) (handed (now (state .entry)) (now (pool .entry)) (now (table .entry))) sandbox
+        (now (out .entry)) ⌝ }
+{
+    archive_over(state, pool, table, image, sandbox, out)
 }

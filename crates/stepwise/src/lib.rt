@@ -23,7 +23,8 @@ pub struct Told {
 }
 
 impl Told {
-    fn by(answer: Answer) -> Told
+    // An answer's number and value.
+    pub fn by(answer: Answer) -> Told
         ensures { λ r. ⌜ r ≡ toldBy answer ⌝ }
     {
         Told {
