@@ -12,6 +12,12 @@ pub struct Request {
 }
 
 impl Request {
+    // The codes of the calls that an archive roll makes: "The calls", numbered as there.
+    pub const OPEN: u16 = 1;
+    pub const MAP: u16 = 2;
+    pub const PROTECT: u16 = 4;
+    pub const WRITE: u16 = 6;
+    pub const SNAPSHOT: u16 = 7;
     // "Four sandboxes stand in a row, numbered 0 to 3."
     pub const SANDBOXES: usize = 4;
     // "map: p1 first page, or 64 for the lowest gap that fits"
