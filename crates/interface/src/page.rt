@@ -31,6 +31,12 @@ pub struct Attributes {
     pub backing: Backing,
 }
 
+impl Attributes {
+    // "It has rights, 1 for read or 3 for read and write"
+    pub const READ: u8 = 1;
+    pub const READ_WRITE: u8 = 3;
+}
+
 // What stands at a page.
 pub enum Slot {
     Unmapped,
