@@ -49,9 +49,9 @@ use Rattle.reader.proofs.next.Met as next-thm
 use Rattle.reader.proofs.skip.Symbol as skip-def
 use Rattle.reader.proofs.skip.Symbol.{name as #reader·skip}
 use Rattle.reader.proofs.skip.Met as skip-thm
-use Rattle.playing.proofs.reply.Symbol as reply-def
-use Rattle.playing.proofs.reply.Symbol.{name as #playing·reply}
-use Rattle.playing.proofs.reply.Met as reply-thm
+use Rattle.replying.proofs.reply.Symbol as reply-def
+use Rattle.replying.proofs.reply.Symbol.{name as #replying·reply}
+use Rattle.replying.proofs.reply.Met as reply-thm
 use Rattle.playing.proofs.play_lines.Key.{name as #playing·play-lines}
 use Rattle.playing.proofs.play_lines as play-lines
 use Rattle.playing.proofs.play_lines.Statement as stated
@@ -66,7 +66,7 @@ module _ (P : Passed) (ok : Fits P) (is : Is M.the-row (P .args .0) (M′.lowere
     (slice (roll P) ∷ []))
     {M₁ : Type 1} (𝓤 : URA M₁) (H : Heap 𝓤) (A : Atoms 𝓤) (W : Given 𝓤 H A) (mem : Memory → SProp 𝓤) (run : Routine → Fun 𝓤) (𝓣 : Tables 𝓤 H)
     (known-new : Triple 𝓤 (𝓣 .C #reader·new) (New 𝓤 H A mem run)) (known-next : Triple 𝓤 (𝓣 .C #reader·next) (Next 𝓤 H A mem run))
-    (known-skip : Triple 𝓤 (𝓣 .C #reader·skip) (Skip 𝓤 H A mem run)) (known-reply : Triple 𝓤 (𝓣 .C #playing·reply) (Reply 𝓤 H A mem run)) where
+    (known-skip : Triple 𝓤 (𝓣 .C #reader·skip) (Skip 𝓤 H A mem run)) (known-reply : Triple 𝓤 (𝓣 .C #replying·reply) (Reply 𝓤 H A mem run)) where
   walk : ent 𝓤 (onEntry 𝓤 H A play-lines.signature (P .κs) (P .qs) (P .args) (vals P ok is)) (WpFn 𝓤 H (𝓣 .C)
       (𝓣 .Λ) code.function (passed P ok is image-is roll-is) (Post P ok is 𝓤 H A W mem run))
   unfolding start
@@ -98,7 +98,7 @@ module _ (P : Passed) (ok : Fits P) (is : Is M.the-row (P .args .0) (M′.lowere
 
 module _ {M₁ : Type 1} (𝓤 : URA M₁) (H : Heap 𝓤) (A : Atoms 𝓤) (W : Given 𝓤 H A) (mem : Memory → SProp 𝓤) (run : Routine → Fun 𝓤) (𝓣 : Tables 𝓤 H)
     (known-new : Triple 𝓤 (𝓣 .C #reader·new) (New 𝓤 H A mem run)) (known-next : Triple 𝓤 (𝓣 .C #reader·next) (Next 𝓤 H A mem run))
-    (known-skip : Triple 𝓤 (𝓣 .C #reader·skip) (Skip 𝓤 H A mem run)) (known-reply : Triple 𝓤 (𝓣 .C #playing·reply) (Reply 𝓤 H A mem run)) where
+    (known-skip : Triple 𝓤 (𝓣 .C #reader·skip) (Skip 𝓤 H A mem run)) (known-reply : Triple 𝓤 (𝓣 .C #replying·reply) (Reply 𝓤 H A mem run)) where
   play-lines-walks : Walks 𝓤 H A play-lines.ended stayed (WpFn 𝓤 H (𝓣 .C) (𝓣 .Λ) code.function) (play-lines.clauses 𝓤 H A mem run)
   play-lines-walks = walked 𝓤 H A play-lines.ended stayed (play-lines.clauses 𝓤 H A mem run) (WpFn 𝓤 H (𝓣 .C) (𝓣 .Λ) code.function)
       (λ κs. ((λ m. M′.lowered m ∷ []), (slice-vals, (slice-vals, (slice-vals, (slice-vals, (uint-vals w32, (slice-vals, (uint-vals w64, tt)))))))))
@@ -162,4 +162,4 @@ play-lines-spec 𝓤 H 𝓜 𝓖 𝓡 =
     (cited 𝓤 H (New 𝓤 H (𝓖 .A) (𝓜 .mem) (𝓡 .run)) 𝓜 𝓡 code.env #reader·new new-def.routine code.calls-reader·new (new-thm.met 𝓤 H 𝓜 𝓖 𝓡))
     (cited 𝓤 H (Next 𝓤 H (𝓖 .A) (𝓜 .mem) (𝓡 .run)) 𝓜 𝓡 code.env #reader·next next-def.routine code.calls-reader·next (next-thm.met 𝓤 H 𝓜 𝓖 𝓡))
     (cited 𝓤 H (Skip 𝓤 H (𝓖 .A) (𝓜 .mem) (𝓡 .run)) 𝓜 𝓡 code.env #reader·skip skip-def.routine code.calls-reader·skip (skip-thm.met 𝓤 H 𝓜 𝓖 𝓡))
-    (cited 𝓤 H (Reply 𝓤 H (𝓖 .A) (𝓜 .mem) (𝓡 .run)) 𝓜 𝓡 code.env #playing·reply reply-def.routine code.calls-playing·reply (reply-thm.met 𝓤 H 𝓜 𝓖 𝓡)))
+    (cited 𝓤 H (Reply 𝓤 H (𝓖 .A) (𝓜 .mem) (𝓡 .run)) 𝓜 𝓡 code.env #replying·reply reply-def.routine code.calls-replying·reply (reply-thm.met 𝓤 H 𝓜 𝓖 𝓡)))

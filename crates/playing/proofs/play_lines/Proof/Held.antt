@@ -51,7 +51,7 @@ use Rattle.reader.proofs.skip as skip
 use Rattle.reader.proofs.skip.Symbol.{name as #reader·skip}
 use Rattle.roll.specs.Play.{Played}
 use Rattle.playing.proofs.Again.{Owned}
-use Rattle.playing.proofs.reply as reply
+use Rattle.replying.proofs.reply as reply
 use Rattle.playing.proofs.play_lines as play-lines
 
 -- what `play_lines` is passed: the lifetimes of pool, table, image, roll and out, a share of each one's token, and the arguments

@@ -42,7 +42,7 @@ use Rattle.state.proofs.sandbox.Machine.Laws as M′
 use Rattle.reader.proofs.Reader.Laws as T′
 use Rattle.reader.proofs.next.Symbol.{name as #reader·next}
 use Rattle.reader.proofs.skip.Symbol.{name as #reader·skip}
-use Rattle.playing.proofs.reply.Symbol.{name as #playing·reply}
+use Rattle.replying.proofs.reply.Symbol.{name as #replying·reply}
 use Rattle.playing.proofs.play_lines.Code.Mir as body
 use Rattle.playing.proofs.play_lines.Proof.Held.{Passed, Next, Skip, Reply, Fits, Turn, Held, Read, nexted, Moved, skipped, Replied as RepliedAt, mach}
 use Rattle.playing.proofs.play_lines.Proof.Held.{slice, pool₀, table₀, image, roll, first, out₀, n, κi, κr}
@@ -118,7 +118,7 @@ module _ (P : Passed) (ok : Fits P) (is : Is M.the-row (P .args .0) (M′.lowere
     typed-reader j fits = (tt, (typed-slice (named 3) (κr P) (roll P) roll-is .1, (record { fits = fits }, tt)))
 
     module _ (known-next : Triple 𝓤 (C #reader·next) (Next 𝓤 H A mem run))
-        (known-skip : Triple 𝓤 (C #reader·skip) (Skip 𝓤 H A mem run)) (known-reply : Triple 𝓤 (C #playing·reply) (Reply 𝓤 H A mem run)) where
+        (known-skip : Triple 𝓤 (C #reader·skip) (Skip 𝓤 H A mem run)) (known-reply : Triple 𝓤 (C #replying·reply) (Reply 𝓤 H A mem run)) where
       module _ (l₀ l₁ l₂ l₃ l₄ l₅ l₆ l₇ l₈ l₉ l₁₀ l₁₁ l₁₂ l₁₃ l₁₄ l₁₅ l₁₆ l₁₇ l₁₈ l₁₉ l₂₀ l₂₁ l₂₂ : ℕ) where
         abbrev pub En : Env 𝓤 H
         En = (machineTy, l₀) ∷ (machineTy, l₁) ∷ (ref-u8 (named 0), l₂) ∷ (ref-u16 (named 1), l₃) ∷ (shr (named 2), l₄) ∷ (shr (named 3), l₅)
@@ -182,7 +182,7 @@ module _ (P : Passed) (ok : Fits P) (is : Is M.the-row (P .args .0) (M′.lowere
             assigns ! (addr ! (from ! (fld ! refl (hop ! (look-in ! 31 (sub ! 0 refl (whole !))) (stop !))))) (from ! (stop !)) (init ! 5 refl (tt, tt)) $
             assigns ! (agg ! (and-then ! (load ! (from ! (stop !)) (look ! 5 refl)) (and-then ! (load ! (from ! (fld ! refl (stop !)))
             (look-in ! 31 (sub ! 1 refl (whole !)))) (no-more !)))) (from ! (stop !)) (init ! 3 refl (tt, (tt, (record { fits = ok .out-room .0 }, tt)))) $
-            use1 W (later (raw (C #playing·reply (call.vals P ok 𝓤 H A W mem run C fm (x .line) (x .turn) less v is-line)
+            use1 W (later (raw (C #replying·reply (call.vals P ok 𝓤 H A W mem run C fm (x .line) (x .turn) less v is-line)
             (λ w. mean 𝓤 H A (RepliedAt P 𝓤 H A (x .line) w))))) (replied P ok 𝓤 H A W mem run C fm (x .line) (x .turn) less v is-line known-reply) $
             await ! tt $
             calls ! fm (RepliedAt P 𝓤 H A (x .line))

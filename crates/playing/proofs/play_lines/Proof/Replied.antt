@@ -42,8 +42,8 @@ use Rattle.state.proofs.sandbox.Machine as M
 use Rattle.state.proofs.sandbox.Machine.Laws as M′
 use Rattle.playing.proofs.Again.{at, Owned, Lent, lends, backs}
 use Rattle.roll.proofs.PlayLaws.{played-on}
-use Rattle.playing.proofs.reply as reply
-use Rattle.playing.proofs.reply.Symbol.{name as #playing·reply}
+use Rattle.replying.proofs.reply as reply
+use Rattle.replying.proofs.reply.Symbol.{name as #replying·reply}
 use Rattle.roll.specs.Play.{Replied as ReplySaid}
 use Rattle.playing.proofs.play_lines.Proof.Held.{Passed, Fits, Turn, Held, Image, Token, Own, Roll, Roll-token, Reply, Replied, called, slice, pool₀}
 use Rattle.playing.proofs.play_lines.Proof.Held.{table₀, image, roll, first, out₀, n, κi}
@@ -200,8 +200,8 @@ module _ (P : Passed) (ok : Fits P) {M₁ : Type 1} (𝓤 : URA M₁) (H : Heap 
               (worldOf r (zs .1 .0) (zs .1 .1 .0)) k (first P) (t .played) said;
         }
 
-  pub replied : Triple 𝓤 (C #playing·reply) (Reply 𝓤 H A mem run) → ent 𝓤 (⋆ 𝓤 H A (Held P 𝓤 k t))
-      (H .⇛ (C #playing·reply vals (λ w. mean 𝓤 H A (Replied P 𝓤 H A k w))))
+  pub replied : Triple 𝓤 (C #replying·reply) (Reply 𝓤 H A mem run) → ent 𝓤 (⋆ 𝓤 H A (Held P 𝓤 k t))
+      (H .⇛ (C #replying·reply vals (λ w. mean 𝓤 H A (Replied P 𝓤 H A k w))))
   replied known =
       qed W (Held P 𝓤 k t) ∵ updating ! $ lft-new ! tt (λ ν.
       move ! (3 ∷ 4 ∷ []) $ lends ! tt u8 (pool₀ P) (named 0) (named 0) (P .κs .0) (ν ∷ []) (P .qs .0) (t .pool) (t .pool-length) (λ p.
@@ -212,5 +212,5 @@ module _ (P : Passed) (ok : Fits P) {M₁ : Type 1} (𝓤 : URA M₁) (H : Heap 
       move ! (8 ∷ 6 ∷ 4 ∷ 2 ∷ 11 ∷ 0 ∷ 7 ∷ 5 ∷ 3 ∷ 1 ∷ 12 ∷ 9 ∷ 10 ∷ []) $
       by ! (via 𝓤 (sep 𝓤 (⋆ 𝓤 H A (Handed ν p s o)) (⋆ 𝓤 H A (Kept ν p s o))) (⊢++ 𝓤 H A (Handed ν p s o) (Kept ν p s o))
       (via 𝓤 (sep 𝓤 (Reply 𝓤 H A mem run .pre (to-reply ν p s o)) (⋆ 𝓤 H A (Kept ν p s o))) (monoL 𝓤 (⋆ 𝓤 H A (Kept ν p s o)) (goes-reply ν p s o))
-      (called P 𝓤 H A W mem run C fm #playing·reply (Reply 𝓤 H A mem run) known (to-reply ν p s o) (⋆ 𝓤 H A (Kept ν p s o))
+      (called P 𝓤 H A W mem run C fm #replying·reply (Reply 𝓤 H A mem run) known (to-reply ν p s o) (⋆ 𝓤 H A (Kept ν p s o))
       (λ w. mean 𝓤 H A (Replied P 𝓤 H A k w)) (after-reply ν p s o))))))))

@@ -1,6 +1,6 @@
 use borrow.Author.Needs.{needs}
-use Rattle.playing.proofs.print.Statement.{statement}
-use Rattle.playing.proofs.print.Tie as tie
+use Rattle.replying.proofs.print.Statement.{statement}
+use Rattle.replying.proofs.print.Tie as tie
 
 number-requires : tie.Need-number-requires
 number-requires c κs = search needs

@@ -5,8 +5,8 @@ use Rattle.machine.specs.Parts.{outcomeOf}
 use Rattle.roll.specs.Play.{malformed, Turned}
 use Rattle.roll.proofs.SmallLaws.{value-small}
 use borrow.Author.Needs.{needs}
-use Rattle.playing.proofs.turn.Statement.{statement}
-use Rattle.playing.proofs.turn.Tie as tie
+use Rattle.replying.proofs.turn.Statement.{statement}
+use Rattle.replying.proofs.turn.Tie as tie
 
 enum-known-line : tie.Need-enum-known-line
 enum-known-line c = search needs

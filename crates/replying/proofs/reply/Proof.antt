@@ -6,8 +6,8 @@ use borrow.Author.Needs.{needs}
 use Rattle.interface.specs.Answers.{answered}
 use Rattle.roll.proofs.PlayLaws.{part-is}
 use Rattle.roll.proofs.SmallLaws.{fits-line}
-use Rattle.playing.proofs.reply.Statement.{statement}
-use Rattle.playing.proofs.reply.Tie as tie
+use Rattle.replying.proofs.reply.Statement.{statement}
+use Rattle.replying.proofs.reply.Tie as tie
 
 turn-requires : tie.Need-turn-requires
 turn-requires c κs = search needs
