@@ -1,3 +1,2 @@
-pub mod ImageLaws
 pub mod ConversationLaws
 pub mod RepliesLaws

@@ -8,7 +8,7 @@ use Rattle.lines.specs.Lines.{linesOf}
 use Rattle.roll.proofs.RepliesLaws.{replies-are-plain, replies-are-refusals}
 use Rattle.player.specs.Conversation.{rollOf, repliesOf}
 use Rattle.player.specs.Replies.{SaysPlain, SaysRefusals, UnreadableIsRefused}
-use Rattle.player.proofs.ImageLaws.{unreadable-is-wrong}
+use Rattle.image_file.proofs.ImageLaws.{unreadable-is-wrong}
 
 -- nothing stands behind them
 nothing-behind : (roll xs : List ℕ) → xs ++ drop (linesOf (length roll) * 19) [] ≡ xs

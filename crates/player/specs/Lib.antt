@@ -1,4 +1,3 @@
 -- In reading order.
-pub mod Image
 pub mod Conversation
 pub mod Replies

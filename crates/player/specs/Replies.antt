@@ -7,8 +7,8 @@ use lib.ListN.{length}
 use Rattle.state.specs.World.{lengthsOk}
 use Rattle.state.specs.Start.{startedBy}
 use Rattle.roll.specs.Replies.{lent, plainReplies, refusedReplies}
-use Rattle.player.specs.declared.Found.the-variants.{Unreadable}
-use Rattle.player.specs.Image.{imageBytes}
+use Rattle.image_file.specs.declared.Found.the-variants.{Unreadable}
+use Rattle.image_file.specs.Image.{imageBytes}
 use Rattle.player.specs.Conversation.{rollOf, repliesOf, Talked}
 
 -- where each length is right: the plain machine's to all that was read, "with the image and the pool's number of frames"

@@ -2,14 +2,15 @@
 // It answers each line as soon as the line has come, so that a program can talk with it. It promises that what it reads, one line after the other, is one roll
 // played from a start, and that what it hands on to be written is that roll's replies (`Talked`); so they are the plain machine's, or the refusals of a wrong
 // length (specs/Replies).
-// It stands on `playing` and on the kit's `io`, `os` and `libc`; which bytes these read and write nothing proves.
+// It stands on `playing`, on `image_file` for the image, and on the kit's `io`, `os` and `libc`; which bytes these read and write nothing proves.
 ghost use mathlib.Core.Path.{_≡_};
 ghost use Prim.Native.Nat.{_≤_};
 ghost use lib.ListN.{length};
 ghost use Rattle.state.specs.World.{worldOf};
 ghost use Rattle.state.specs.Start.{startedBy};
-ghost use Rattle.player.specs.Image.{imageBytes};
 ghost use Rattle.player.specs.Conversation.{turnOf, goesOn, Answers, Talked};
+use image_file::image_bytes;
+use image_file::load;
 use lines::Line;
 use lines::lines_of;
 use playing::play;
@@ -79,47 +80,6 @@ fn turn(
         written: written,
         more: written & (got == Line::BYTES),
     }
-}
-
-// What became of `image.bin`.
-enum Found {
-    Missing,
-    Whole(usize),
-    Unreadable,
-}
-
-// How many bytes the image has: "missing: empty"; one that cannot be read whole has a wrong length.
-fn image_bytes(found: Found) -> usize
-    ensures { λ r. ⌜ r ≡ imageBytes found ⌝ }
-{
-    match found {
-        Found::Missing => 0,
-        Found::Whole(bytes) => bytes,
-        Found::Unreadable => 16_385,
-    }
-}
-
-// Reads the image, of which a byte more than 64 pages is enough to tell that it has too many. A short read is the file's end, or a read that failed: one more
-// read tells which, and where a file's end cannot be read at all, as a folder's, the image is not whole.
-fn load(image: &mut [u8]) -> Found
-    requires { ⌜ length (now image) ≡ 16385 ⌝ }
-    ensures { λ r. ⌜ imageBytes r ≤ length (now (image .exit)) ⌝ }
-{
-    let fd = os::open_read(&[b'i', b'm', b'a', b'g', b'e', b'.', b'b', b'i', b'n']);
-    if fd < 0 {
-        if os::errno() == libc::ENOENT {
-            return Found::Missing;
-        }
-        return Found::Unreadable;
-    }
-    let bytes = io::read_full(fd, image);
-    let mut more = [0u8; 1];
-    let after = libc::read(fd, &mut more);
-    libc::close(fd);
-    if after != 0 {
-        return Found::Unreadable;
-    }
-    Found::Whole(bytes)
 }
 
 // Says on standard error that a reply could not be written, and why.

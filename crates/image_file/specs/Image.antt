@@ -3,8 +3,8 @@ use mathlib.Core.Path.{_≡_}
 use mathlib.Core.Bool.{false}
 use Prim.Native.Nat.{ℕ}
 use Rattle.state.specs.World.{lengthsOk}
-use Rattle.player.specs.declared.Found.{Found}
-use Rattle.player.specs.declared.Found.the-variants.{Missing, Whole, Unreadable}
+use Rattle.image_file.specs.declared.Found.{Found}
+use Rattle.image_file.specs.declared.Found.the-variants.{Missing, Whole, Unreadable}
 
 -- "missing: empty; not whole pages or above 64: a wrong length": a file that is there and cannot be read whole has a wrong length too, a byte above 64 pages
 abbrev pub imageBytes : Found → ℕ

@@ -3,7 +3,7 @@ use mathlib.Core.Path.{_≡_, refl}
 use mathlib.Core.Bool.{Bool, true, false, _&&_}
 use lib.Dec.{eqb}
 use Rattle.state.specs.World.{wholePages}
-use Rattle.player.specs.Image.{UnreadableIsWrong}
+use Rattle.image_file.specs.Image.{UnreadableIsWrong}
 
 last-fails : (a b : Bool) → (a && (b && false)) ≡ false
 last-fails true true = refl
