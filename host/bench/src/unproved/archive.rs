@@ -91,10 +91,10 @@ impl Archived<'_> {
             put(2, [u16::from(area.first.0), u16::from(area.pages), kind, image_page, 3]);
         }
         for (page, bytes, under) in areas.iter().flat_map(|area| self.changed(area)) {
-            let first = u16::from(page.0) * PAGE_BYTES as u16;
-            for ((address, byte), under) in (first..).zip(bytes).zip(under) {
+            let first = usize::from(page.0) * PAGE_BYTES;
+            for (offset, (byte, under)) in bytes.iter().zip(under).enumerate() {
                 if byte != under {
-                    put(6, [address, u16::from(*byte), 0, 0, 0]);
+                    put(6, [(first + offset) as u16, u16::from(*byte), 0, 0, 0]);
                 }
             }
         }
