@@ -138,3 +138,61 @@ fn check_replay(written: &Kept, case: &Case, sandbox: u16) -> Result<(), Differe
     let lines = (case.roll.len() / LINE_BYTES) as u32;
     check_output(told, &again, (0, lines), &case.roll)
 }
+
+#[cfg(test)]
+mod tests {
+    use super::*;
+    use model::{call_line, Call};
+
+    /// Short lines of sandbox 0, as text.
+    fn text(lines: &[&[u16]]) -> Vec<u8> {
+        let line = |numbers: &&[u16]| {
+            let mut fields = [0; 7];
+            fields[..numbers.len()].copy_from_slice(numbers);
+            let [code, sandbox, p1, p2, p3, p4, p5] = fields;
+            call_line(&Call { code, sandbox, parameters: [p1, p2, p3, p4, p5] })
+        };
+        lines.iter().flat_map(line).collect()
+    }
+
+    /// What is said of a roll that is taken for the archive of two written pages, share 8.
+    fn replayed(lines: &[&[u16]]) -> Result<(), Difference> {
+        let roll = text(&[&[1, 0, 8], &[2, 0, 3, 2, 0, 0, 3], &[6, 0, 768, 5], &[7, 0]]);
+        let written = Case { roll, image: Vec::new(), frames: 16 };
+        let written = in_step(&written, Lengths::of(&written)).expect("no difference").kept;
+        let case = Case { roll: text(lines), image: Vec::new(), frames: 16 };
+        check_replay(&written, &case, 0)
+    }
+
+    const OPEN: &[u16] = &[1, 0, 8];
+    const MAP: &[u16] = &[2, 0, 3, 2, 0, 0, 3];
+    const WRITE: &[u16] = &[6, 0, 768, 5];
+    const SNAPSHOT: &[u16] = &[7, 0];
+
+    #[test]
+    fn a_replay_is_told_from_a_wrong_one() {
+        assert_eq!(replayed(&[OPEN, MAP, WRITE, SNAPSHOT]), Ok(()));
+        let refused = replayed(&[OPEN, WRITE, MAP, SNAPSHOT]);
+        assert_eq!(refused, Err(Difference::ReplayRefused { line: 2 }));
+        // Another byte, other rights, a page less, another share, and pages changed since.
+        let others: [&[&[u16]]; 6] = [
+            &[OPEN, MAP, SNAPSHOT],
+            &[OPEN, MAP, &[6, 0, 768, 6], SNAPSHOT],
+            &[OPEN, MAP, WRITE, &[4, 0, 4, 1, 1], SNAPSHOT],
+            &[OPEN, &[2, 0, 3, 1, 0, 0, 3], WRITE, SNAPSHOT],
+            &[&[1, 0, 9], MAP, WRITE, SNAPSHOT],
+            &[OPEN, MAP, WRITE, SNAPSHOT, &[6, 0, 769, 1]],
+        ];
+        for other in others {
+            assert_eq!(replayed(other), Err(Difference::NotRebuilt), "{other:?}");
+        }
+    }
+
+    /// It rebuilds the same, but its archive is another roll.
+    #[test]
+    fn a_roll_that_is_not_its_own_archive_is_told() {
+        let halves: [&[u16]; 2] = [&[2, 0, 3, 1, 0, 0, 3], &[2, 0, 4, 1, 0, 0, 3]];
+        let told = replayed(&[OPEN, halves[0], halves[1], WRITE, SNAPSHOT]);
+        assert!(matches!(told, Err(Difference::ArchiveLine { line: 2, .. })), "{told:?}");
+    }
+}
