@@ -40,8 +40,8 @@ impl Archives {
 }
 
 /// The archive of each sandbox, 0 to 3, and of the one that is not there, after the calls that
-/// led to both machines: number, value and every byte of the output, a byte short, just enough
-/// and with room beyond. Each one that is written is played.
+/// led to both machines: number, value and every byte of the output, with room beyond,
+/// just enough and a byte short. Each one that is written is played.
 pub fn check_archives(
     kept: &Kept,
     machine: &Machine,
@@ -77,7 +77,8 @@ pub fn check_writer(
 ) -> Result<[(Told, Vec<u8>); 3], Difference> {
     let before = kept.clone();
     let roll = machine.archived(sandbox).map_or(1, |archive| archive.text().len());
-    let rooms = [roll - 1, roll, roll + BEYOND];
+    // With room beyond first: there another line shows as one, and not as a roll too long.
+    let rooms = [roll + BEYOND, roll, roll - 1];
     let mut left = rooms.map(|room| (Told { number: 0, value: 0 }, vec![FILLED; room]));
     for (told, out) in &mut left {
         *told = kept.archive(image, sandbox, out);

@@ -1,7 +1,6 @@
 //! Which calls and archives were accepted, and which refusals were met.
 
 use crate::archives::Archives;
-use crate::Compared;
 use gazhuppin::REPLY_BYTES;
 use model::{parse_line, CODES, LINE_BYTES};
 use rolls::Case;
@@ -40,9 +39,8 @@ pub struct Coverage {
 
 impl Coverage {
     /// Count the replies to a case's roll, and the archives that it leaves.
-    pub fn add(&mut self, case: &Case, compared: &Compared) {
-        let replies = &compared.played.replies;
-        self.archives.join(&compared.archives);
+    pub fn add(&mut self, case: &Case, replies: &[u8], archives: &Archives) {
+        self.archives.join(archives);
         self.rolls += 1;
         self.pools.insert(case.frames);
         self.images.insert(case.image.len());

@@ -50,28 +50,27 @@ pub use with_frames::{MemoryFault, WithFrames};
 use gazhuppin::Played;
 use rolls::Case;
 
-/// Play a case on the proved machine and on the plain one, and compare them.
+/// Play a case on the proved machine and on the plain one, and compare them and their archives.
 pub fn compare(case: &Case) -> Result<(), Difference> {
-    compare_with(case, Lengths::of(case)).map(|_| ())
+    compare_all(case, Lengths::of(case)).map(|_| ())
 }
 
-/// The same with lent memory of these lengths, right or wrong. Gives what the whole roll left.
+/// With lent memory of these lengths, right or wrong: the roll is played a call at a time, and as
+/// a whole. Gives what the whole roll left.
 pub fn compare_with(case: &Case, lengths: Lengths) -> Result<Played, Difference> {
-    compare_all(case, lengths).map(|compared| compared.played)
+    compare_calls(case, lengths).map(|(played, _)| played)
 }
 
-/// What was found to be the plain machine's.
-pub struct Compared {
-    pub played: Played,
-    pub archives: Archives,
-}
-
-/// The roll is played a call at a time, and as a whole; then the archives of all sandboxes are
-/// written, and played.
-pub fn compare_all(case: &Case, lengths: Lengths) -> Result<Compared, Difference> {
-    let Stepped { expected, kept } = in_step(case, lengths)?;
-    let played = play(case, lengths);
-    check(&played, &expected)?;
+/// The same, and then the archives of all sandboxes are written, and played.
+pub fn compare_all(case: &Case, lengths: Lengths) -> Result<(Played, Archives), Difference> {
+    let (played, Stepped { expected, kept }) = compare_calls(case, lengths)?;
     let archives = check_archives(&kept, &expected.machine, &case.image)?;
-    Ok(Compared { played, archives })
+    Ok((played, archives))
+}
+
+fn compare_calls(case: &Case, lengths: Lengths) -> Result<(Played, Stepped), Difference> {
+    let stepped = in_step(case, lengths)?;
+    let played = play(case, lengths);
+    check(&played, &stepped.expected)?;
+    Ok((played, stepped))
 }

@@ -1,12 +1,15 @@
-//! Many random rolls over all cores; a failing one is shrunk.
+//! Many random rolls over all cores, with the archives of some; a failing one is shrunk.
 
 use crate::coverage::Coverage;
 use crate::difference::Difference;
-use crate::{compare, compare_all, Lengths};
+use crate::{compare, compare_all, compare_with, Lengths};
 use rolls::{shrink, Case};
 use std::fmt;
 use std::sync::atomic::{AtomicU64, Ordering};
 use std::thread;
+
+/// Of so many rolls one has its archives written and played: they take their time.
+const ARCHIVES_OF: u64 = 4;
 
 /// A roll on which the machines differ.
 #[derive(Clone, Debug)]
@@ -46,8 +49,13 @@ pub fn run(first: u64, rolls: u64, lines: usize) -> Result<Coverage, Box<Failure
                 return Ok(coverage);
             }
             let (seed, case) = (first + at, Case::of_lines(first + at, lines));
-            match compare_all(&case, Lengths::of(&case)) {
-                Ok(compared) => coverage.add(&case, &compared),
+            let lengths = Lengths::of(&case);
+            let compared = match seed.is_multiple_of(ARCHIVES_OF) {
+                true => compare_all(&case, lengths),
+                false => compare_with(&case, lengths).map(|played| (played, Default::default())),
+            };
+            match compared {
+                Ok((played, archives)) => coverage.add(&case, &played.replies, &archives),
                 Err(_) => {
                     // One failure is enough: the other threads stop too.
                     next.store(rolls, Ordering::Relaxed);

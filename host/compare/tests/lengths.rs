@@ -1,6 +1,6 @@
-//! Lent memory of a wrong length: every call is refused and nothing is touched.
+//! Lent memory of a wrong length: every call and every archive is refused, and nothing is touched.
 
-use compare::{compare_with, Lengths};
+use compare::{compare_all, Lengths};
 use rolls::Case;
 
 /// Cases whose image has a right length.
@@ -10,8 +10,11 @@ fn cases(count: usize) -> impl Iterator<Item = Case> {
 }
 
 fn assert_refused(case: &Case, lengths: Lengths) {
-    let played = compare_with(case, lengths);
-    let played = played.unwrap_or_else(|difference| panic!("{lengths:?}: {difference}"));
+    let compared = compare_all(case, lengths);
+    let compared = compared.unwrap_or_else(|difference| panic!("{lengths:?}: {difference}"));
+    let (played, archives) = compared;
+    // Five sandboxes, each asked for in output of three lengths.
+    assert_eq!(archives.answered(3), 15, "{lengths:?}");
     // Neither accepted nor refused by a later row.
     let replies = played.replies.chunks(19);
     let early = |reply: &[u8]| matches!(&reply[6..12], b"     1" | b"     2" | b"     3");

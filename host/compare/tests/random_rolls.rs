@@ -1,6 +1,6 @@
 //! The proved machine answers and keeps what the plain machine does: answers, state, pool and
 //! table after every line of random rolls, replies, pool and table of the whole rolls, and the
-//! archives of all sandboxes after them.
+//! archives of all sandboxes after every fourth of them.
 
 use compare::{compare, compare_with, run, Failure, Lengths};
 use gazhuppin::{Played, REPLY_BYTES};
@@ -39,11 +39,11 @@ fn random_rolls() {
     // Of archives too, the refusals that they can have, and no others.
     for number in 0..16 {
         let (met, possible) = (coverage.archives.answered(number), [0, 3, 4, 8, 15]);
-        let enough = if possible.contains(&number) { met >= 1_000 } else { met == 0 };
+        let enough = if possible.contains(&number) { met >= 2_000 } else { met == 0 };
         assert!(enough, "{met} archives were answered {number}");
     }
     let played = coverage.archives.lines;
-    assert!(played >= 100_000, "only {played} lines of archives were played");
+    assert!(played >= 40_000, "only {played} lines of archives were played");
     let accepted = coverage.of_number(0);
     assert!(2 * accepted > coverage.lines, "only {accepted} calls were accepted");
     assert!(coverage.pools.iter().copied().eq(1..=128), "{:?}", coverage.pools);
