@@ -1,0 +1,3 @@
+pub mod InputLaws
+pub mod PerformedLaws
+pub mod PrintsLaws

@@ -1,0 +1,4 @@
+-- In reading order.
+pub mod Sandbox
+pub mod Performed
+pub mod Prints

@@ -1,0 +1,32 @@
+-- What the program reads, answers and writes.
+use mathlib.Core.Path.{_≡_}
+use mathlib.Core.List.{List, []}
+use Prim.Native.Nat.{ℕ, _*_}
+use lib.ListN.{length, take}
+use Rattle.interface.specs.declared.answer.Answer.{Answer}
+use Rattle.interface.specs.Answers.{answered, valueOf}
+use Rattle.lines.specs.Lines.{linesOf}
+use Rattle.state.specs.World.{World}
+use Rattle.roll.specs.Play.{Played}
+use Rattle.archive.specs.Written.{Written}
+use Rattle.replay.specs.Snapshot.{written}
+
+-- all that was read is one roll that is played from one world to another, "line number from 1"; the replies are kept nowhere
+pub record RollPlayed (image : List ℕ) (w v : World) : Type 0 where
+  pub roll : List ℕ
+  pub replies : List ℕ
+  pub played : Played image w roll (linesOf (length roll)) 1 [] replies v
+
+-- an answer, and the output that is left
+abbrev pub left : Answer → List ℕ → Written
+left answer out = record { answer = answered answer; out = out }
+
+-- The roll is played from a world, and answer and output are those of the archive roll of what it leaves.
+pub record Performed (image : List ℕ) (w : World) (sandbox : ℕ) (out₀ : List ℕ) (answer : Answer) (out : List ℕ) : Type 0 where
+  pub world : World
+  pub input : RollPlayed image w world
+  pub archived : left answer out ≡ written image world sandbox out₀
+
+-- what is handed on to be written, of an answer and the output: 43 bytes for each line, and none where it is refused
+abbrev pub handedOn : Answer → List ℕ → List ℕ
+handedOn answer out = take (valueOf answer * 43) out

@@ -1,0 +1,118 @@
+// The program for the archive box: plays the roll on standard input with 128 frames and the image from `image.bin`, and writes the archive roll of the snapshot
+// of the sandbox that its argument names. Where that is refused it writes nothing, and says the refusal's number on standard error.
+// It promises that what it reads, one line after the other, is one roll played from a start, and that answer and output are those of the archive roll of what
+// that roll left (`Performed`); so what it hands on to be written is the plain machine's archive roll, or nothing where that is refused (specs/Prints).
+// It stands on `playing` and `archiving`, on `image_file` for the image, and on the kit's `io`, `os` and `libc`; which bytes these read and write nothing proves.
+ghost use mathlib.Core.Path.{_≡_};
+ghost use Prim.Native.Nat.{_*_, _≤_};
+ghost use lib.ListN.{length};
+ghost use Rattle.interface.specs.Answers.{valueOf};
+ghost use Rattle.state.specs.World.{worldOf};
+ghost use Rattle.state.specs.Start.{startedBy};
+ghost use Rattle.archiver.specs.Sandbox.{named};
+ghost use Rattle.archiver.specs.Performed.{RollPlayed, Performed};
+use archiving::write_archive;
+use image_file::image_bytes;
+use image_file::load;
+use interface::answer::Answer;
+use lines::Line;
+use playing::play;
+use soundness::start::start;
+use state::sandbox::Machine;
+
+fn main() {
+    let mut image = [0u8; 16_385];
+    let bytes = image_bytes(load(&mut image));
+    let mut pool = [0u8; 32_768];
+    let mut table = [0u16; 512];
+    let mut out = output();
+    let sandbox = sandbox();
+    let answer = perform(&mut pool, &mut table, &image[..bytes], sandbox, &mut out);
+    let size = size(answer);
+    if !io::write_all(libc::STDOUT_FILENO, &out[..size]) {
+        complain();
+    }
+    say(codes::number(answer));
+}
+
+// Plays the roll from a start, and writes the archive roll of a sandbox of what it leaves into `out`.
+fn perform(pool: &mut [u8], table: &mut [u16], image: &[u8], sandbox: u16, out: &mut [u8]) -> Answer
+    ensures { λ r. ⌜ Performed (now (image .entry)) (startedBy (now (pool .entry)) (now (table .entry)) (now (image .entry))) sandbox (now (out .entry)) r
+        (now (out .exit)) ⌝ }
+    ensures { λ r. ⌜ valueOf r * 43 ≤ length (now (out .exit)) ⌝ }
+{
+    let machine = play_input(pool, table, image);
+    write_archive(machine, pool, table, image, sandbox, out)
+}
+
+// Plays the roll on standard input from a start, line by line; its replies are not printed. "Lines after the 65,535th are not read."
+fn play_input(pool: &mut [u8], table: &mut [u16], image: &[u8]) -> Machine
+    ensures { λ r. ⌜ RollPlayed (now (image .entry)) (startedBy (now (pool .entry)) (now (table .entry)) (now (image .entry)))
+        (worldOf r (now (pool .exit)) (now (table .exit))) ⌝ }
+{
+    let mut machine = start(pool, table, image).machine;
+    let mut number: u32 = 1;
+    while number < 65_536 {
+        let mut line = [0u8; 43];
+        let mut reply = [0u8; 19];
+        let got = io::read_full(libc::STDIN_FILENO, &mut line);
+        machine = play(machine, pool, table, image, &line[..got], number, &mut reply);
+        if got < Line::BYTES {
+            return machine;
+        }
+        number += 1;
+    }
+    machine
+}
+
+// Room for the longest archive roll, 16,402 lines. That the contract tells the length alone keeps proofs from going through the bytes one by one.
+fn output() -> [u8; 705_286]
+    ensures { λ r. ⌜ 705286 ≡ length r ⌝ }
+{
+    [0; 705_286]
+}
+
+// How many bytes of the output are the roll: none where it is refused.
+fn size(answer: Answer) -> usize
+    ensures { λ r. ⌜ r ≡ valueOf answer * 43 ⌝ }
+{
+    codes::value(answer) as usize * Line::BYTES
+}
+
+// The sandbox that the program's argument names.
+fn sandbox() -> u16 {
+    let mut text = [0u8; 1];
+    let bytes = os::arg(1, &mut text);
+    name(bytes, text[0])
+}
+
+// One digit, 0 to 3, names a sandbox; anything else is 4, which none is.
+fn name(bytes: usize, first: u8) -> u16
+    ensures { λ r. ⌜ r ≡ named bytes first ⌝ }
+{
+    if bytes != 1 {
+        return 4;
+    }
+    if first < b'0' {
+        return 4;
+    }
+    if b'3' < first {
+        return 4;
+    }
+    (first - b'0') as u16
+}
+
+// Says a refusal's number on standard error.
+fn say(number: u8) {
+    if number == 0 {
+        return;
+    }
+    io::write_all(libc::STDERR_FILENO, &[b'r', b'e', b'f', b'u', b's', b'a', b'l', b' ']);
+    io::print_decimal(libc::STDERR_FILENO, number as u64);
+    io::write_all(libc::STDERR_FILENO, &[b'\n']);
+}
+
+// Says on standard error that the roll could not be written, and why.
+fn complain() {
+    os::fail(&[b's', b't', b'd', b'o', b'u', b't']);
+}
