@@ -15,7 +15,7 @@ use Rattle.state.specs.World.{World, sandboxAt}
 use Rattle.state.specs.Test.{soundb}
 use Rattle.archive.specs.Written.{writtenAs}
 use Rattle.replay.specs.Snapshot.{archiveOf, archiveNumber, written}
-use Rattle.archiving.specs.Fitting.{left, fitted}
+use Rattle.archiving.specs.Whole.{left, fitted}
 
 module _ (image : List ℕ) (w : World) (s : ℕ) (out : List ℕ) where
   pub refused-3 : soundb image w ≡ false → left (Refused Unsound) out ≡ written image w s out

@@ -1,5 +1,4 @@
 -- In reading order.
 pub mod WholeLaws
-pub mod FittingLaws
 pub mod RollLaws
 pub mod ArchivedLaws

@@ -1,33 +1,39 @@
 -- The roll that the code writes is the archive roll of the machine's snapshot.
-use Prim.Native.Nat.{ℕ, zero, suc, _+_, _*_, _/_, _%_, _<_}
+use Prim.Native.Nat.{ℕ, zero, suc, _+_, _*_, _/_, _%_, _≤_, _<_}
 use mathlib.Core.Path.{_≡_, refl, sym, ap, ap₂, _∙_}
 use mathlib.Core.Bool.{true, false}
 use mathlib.Core.List.{List, [], _++_, append-assoc, append-nil}
 use native.Mathlib.Omega.{arith}
+use lib.ListN.{length}
 use Rattle.basics.proofs.TestLaws.{by-cases}
-use Rattle.interface.specs.Slots.{isMapped, backingAt}
+use Rattle.interface.specs.declared.page.Slot.{Slot}
+use Rattle.interface.specs.declared.request.Request.{Request}
+use Rattle.interface.specs.Slots.{isMapped}
 use Rattle.table.specs.Store.{contents}
+use Rattle.table.proofs.FiledLaws.{filed-ranged}
 use Rattle.areas.specs.Areas.{slots}
+use Rattle.areas.specs.Formed.{WellFormed}
 use Rattle.areas.specs.Walk.{Formed}
+use Rattle.areas.proofs.FormedLaws.{near}
 use Rattle.state.specs.declared.sandbox.Sandbox.{Sandbox}
-use Rattle.state.specs.World.{World, sandboxAt}
+use Rattle.state.specs.World.{World, sandboxAt, framesOf, pagesIn}
+use Rattle.state.specs.Test.{soundb}
+use Rattle.state.proofs.TestLaws.{tested}
 use Rattle.plain.specs.Machine.{Pages}
-use Rattle.archive.specs.Archive.{joined, only, opening, maps, differs, writeAt, writes, protects, closing, archive}
 use Rattle.content.specs.Content.{copyRead}
+use Rattle.content.proofs.ReadingLaws.{source-there}
+use Rattle.archive.specs.Archive.{joined, only, opening, maps, differs, writeAt, writes, protects, closing, archive}
 use Rattle.replay.specs.Snapshot.{snapshotOf, archiveOf}
-use Rattle.segments.specs.ByPages.{byteLine, backPage, pageLines, writesOf}
+use Rattle.segments.specs.declared.Snapshot.{Snapshot}
+use Rattle.segments.specs.ByPages.{byteLine, backPage, writesAt, writesOf, Readable}
 use Rattle.archiving.specs.Whole.{rollOf}
+use Rattle.segments.proofs.ByPagesLaws.{joined-none}
 use Rattle.segments.proofs.AreaLaws.{maps-by-areas, protects-by-areas}
 
 joined-below : {A : Type 0} (x y : ℕ → List A) (n : ℕ) → ((i : ℕ) → i < n → x i ≡ y i) → joined x n ≡ joined y n
 unfolding joined
 joined-below x y zero h = refl
 joined-below x y (suc n) h = ap₂ _++_ (joined-below x y n (λ i l. h i (omega arith))) (h n (omega arith))
-
-joined-none : {A : Type 0} (f : ℕ → List A) (n : ℕ) → ((i : ℕ) → i < n → f i ≡ []) → joined f n ≡ []
-unfolding joined
-joined-none f zero h = refl
-joined-none f (suc n) h = rw (joined-none f n (λ i l. h i (omega arith)), h n (omega arith))
 
 -- the next n behind the first a
 joined-split : {A : Type 0} (f : ℕ → List A) (a n : ℕ) → joined f (a + n) ≡ joined f a ++ joined (λ i. f (a + i)) n
@@ -55,34 +61,65 @@ module _ (image : List ℕ) (w : World) (s : ℕ) where
   abbrev d : Pages
   d = snapshotOf image w s
 
+  -- the snapshot as the code hands it on
+  abbrev pub held : Snapshot
+  held = record { sandbox = s; share = b .share; areas = b .snapshot }
+
+  abbrev slot : ℕ → Slot
+  slot i = slots (b .snapshot) i
+
+  abbrev page : ℕ → List ℕ
+  page i = backPage image (w .store .pool) (w .store .table) s i (slot i)
+
   -- the page that the code looks at is the snapshot's
-  page-same : (i : ℕ) → backPage image (b .snapshot) (w .store .pool) (w .store .table) s i ≡ copyRead image (w .store) b s i
+  page-same : (i : ℕ) → page i ≡ copyRead image (w .store) b s i
   unfolding copyRead contents
   page-same i = refl
 
-  line-same : (i j a : ℕ) → i ≡ a / 256 → j ≡ a % 256 → a ≡ i * 256 + j → isMapped (slots (b .snapshot) i) ≡ true
-      → only (differs image d (a / 256) (a % 256)) (writeAt s d a) ≡ byteLine image (backingAt (slots (b .snapshot) i)) s i (backPage image (b .snapshot) (w .store .pool) (w .store .table) s i) j
+  abbrev line : ℕ → List Request
+  line a = only (differs image d (a / 256) (a % 256)) (writeAt s d a)
+
+  line-same : (i j a : ℕ) → i ≡ a / 256 → j ≡ a % 256 → a ≡ i * 256 + j → isMapped (slot i) ≡ true → line a ≡ byteLine image s i (slot i) (page i) j
   line-same i j a x y z m = rw (← x, ← y, m, z, page-same i)
 
-  line-none : (i j a : ℕ) → i ≡ a / 256 → j ≡ a % 256 → isMapped (slots (b .snapshot) i) ≡ false → only (differs image d (a / 256) (a % 256)) (writeAt s d a) ≡ []
+  line-none : (i j a : ℕ) → i ≡ a / 256 → j ≡ a % 256 → isMapped (slot i) ≡ false → line a ≡ []
   line-none i j a x y m = rw (← x, m)
 
-  page-lines : (i : ℕ) → joined (λ j. only (differs image d ((i * 256 + j) / 256) ((i * 256 + j) % 256)) (writeAt s d (i * 256 + j))) 256 ≡ pageLines image (b .snapshot) (w .store .pool) (w .store .table) s i
+  page-lines : (i : ℕ) → joined (λ j. line (i * 256 + j)) 256 ≡ writesAt image (w .store .pool) (w .store .table) held i
   page-lines i =
-      by-cases (isMapped (slots (b .snapshot) i))
-      (λ m. joined-below _ (byteLine image (backingAt (slots (b .snapshot) i)) s i (backPage image (b .snapshot) (w .store .pool) (w .store .table) s i)) 256
+      by-cases (isMapped (slot i))
+      (λ m. joined-below (λ j. line (i * 256 + j)) (byteLine image s i (slot i) (page i)) 256
       (λ j l. line-same i j (i * 256 + j) (omega arith) (omega arith) refl m) ∙ rw m)
-      (λ m. joined-none _ 256 (λ j l. line-none i j (i * 256 + j) (omega arith) (omega arith) m) ∙ rw m)
+      (λ m. joined-none (λ j. line (i * 256 + j)) 256 (λ j l. line-none i j (i * 256 + j) (omega arith) (omega arith) m) ∙ rw m)
 
-  pub writes-by-pages : writes s image d ≡ writesOf image (b .snapshot) (w .store .pool) (w .store .table) s 64
+  pub writes-by-pages : writes s image d ≡ writesOf image (w .store .pool) (w .store .table) held
   unfolding writes
   writes-by-pages =
-      joined-pages (λ a. only (differs image d (a / 256) (a % 256)) (writeAt s d a)) 64
-      ∙ joined-below (λ i. joined (λ j. only (differs image d ((i * 256 + j) / 256) ((i * 256 + j) % 256)) (writeAt s d (i * 256 + j))) 256)
-      (pageLines image (b .snapshot) (w .store .pool) (w .store .table) s) 64 (λ i l. page-lines i)
+      joined-pages line 64
+      ∙ joined-below (λ i. joined (λ j. line (i * 256 + j)) 256) (writesAt image (w .store .pool) (w .store .table) held) 64 (λ i l. page-lines i)
 
-  pub roll-is : Formed (b .snapshot) → rollOf image (b .snapshot) (w .store .pool) (w .store .table) s (b .share) ≡ archiveOf image w s
+  roll-is : Formed (b .snapshot) → rollOf image (w .store .pool) (w .store .table) held ≡ archiveOf image w s
   unfolding rollOf archive
   roll-is F =
       rw (← maps-by-areas (b .snapshot) F s, ← protects-by-areas (b .snapshot) F s, ← writes-by-pages)
       (five (opening s (b .share)) (maps s (slots (b .snapshot))) (writes s image d) (protects s (slots (b .snapshot))) (closing s))
+
+  -- ---- of a sound state
+
+  module _ (sound : soundb image w ≡ true) (row : s ≤ 3) where
+    well : WellFormed (pagesIn (length image)) (b .snapshot)
+    well = tested image w sound .each s (omega arith) .snapshot
+
+    -- its snapshot's bytes can be read
+    pub readable : Readable image (w .store .pool) (w .store .table) held
+    readable =
+        let t = tested image w sound in
+        record {
+          row = omega arith;
+          near = near (pagesIn (length image)) (b .snapshot) well (t .images);
+          ranged = filed-ranged 256 (framesOf w) (w .store) (t .filed);
+          backed = source-there image (pagesIn (length image)) (b .snapshot) well (t .whole);
+        }
+
+    pub roll-here : rollOf image (w .store .pool) (w .store .table) held ≡ archiveOf image w s
+    roll-here = roll-is (record { images = pagesIn (length image); few = tested image w sound .images; formed = well })

@@ -1,95 +1,113 @@
--- The parts of the roll put one behind the other.
-use Prim.Native.Nat.{ℕ, _+_, _≤_}
-use mathlib.Core.Path.{_≡_, ap, _∙_}
-use mathlib.Core.Bool.{Bool}
-use mathlib.Core.List.{List, [], _∷_, _++_}
+-- The segments of the roll put one behind the other, and the roll put where it fits.
+use Prim.Native.Nat.{ℕ, _+_, _*_, _≤_, _<_}
+use mathlib.Core.Path.{_≡_, refl, ap, _∙_}
+use mathlib.Core.Bool.{true, false, false≢true}
+use mathlib.Core.List.{List, _++_}
 use native.Mathlib.Omega.{arith}
-use lib.ListN.{length, length-append}
+use lib.ListN.{length, drop, length-append}
+use borrow.Author.Tests.{lt-ltb, le-ltb}
+use Rattle.interface.specs.declared.answer.Answer.the-variants.{Value, Refused}
+use Rattle.interface.specs.declared.answer.Refusal.the-variants.{OutputTooShort}
 use Rattle.interface.specs.declared.request.Request.{Request}
-use Rattle.interface.specs.Requests.{requestOf, Open, Snapshot}
-use Rattle.areas.specs.declared.area.Areas.{Areas}
+use Rattle.pages.specs.Parts.{setPart}
 use Rattle.archive.specs.Archive.{opening, closing}
-use Rattle.archive.proofs.TextLaws.{joined-length}
-use Rattle.printing.specs.Put.{put, Room}
-use Rattle.segments.specs.ByAreas.{mapsAt, protectsAt, mapsOf, protectsOf}
+use Rattle.archive.specs.Text.{printedRoll}
+use Rattle.archive.specs.Written.{writtenAs}
+use Rattle.archive.proofs.TextLaws.{length-roll}
+use Rattle.printing.specs.declared.Cursor.{Cursor}
+use Rattle.printing.specs.Put.{lined, Placed, placed, put, Room}
+use Rattle.segments.specs.declared.Snapshot.{Snapshot}
+use Rattle.segments.specs.ByAreas.{mapsOf, protectsOf}
 use Rattle.segments.specs.ByPages.{writesOf}
-use Rattle.archiving.specs.Whole.{rollOf}
-use Rattle.printing.proofs.PutLaws.{put-length, put-more}
-use Rattle.segments.proofs.ByAreasLaws.{maps-few, protects-few}
+use Rattle.segments.proofs.ByAreasLaws.{maps-most, protects-most}
 use Rattle.segments.proofs.ByPagesLaws.{writes-most}
+use Rattle.archiving.specs.Whole.{toMaps, toWrites, toProtects, rollOf, left, fitted}
 
--- so many lines are put, which are these
-pub record At (w : Bool) (out₀ out : List ℕ) (n : ℕ) (l : List Request) : Type 0 where
-  pub line : n ≡ length l
-  pub text : out ≡ put w out₀ 0 l
+-- ---- the segments
 
-module _ (w : Bool) (out₀ out : List ℕ) (n : ℕ) (l x : List Request) (room : Room w out₀ 0 (length (l ++ x))) (a : At w out₀ out n l) where
-  prefix : Room w out₀ 0 (length l)
-  prefix e = omega (arith, room e, length-append l x)
+prefix-room : (to : Cursor) (out : List ℕ) (l x : List Request) → Room to out (l ++ x) → Room to out l
+prefix-room to out l x room = record {
+  few = omega (arith, room .few, length-append l x);
+  fits = λ e. omega (arith, room .fits e, length-append l x);
+}
 
-  pub at-room : Room w out n (length x)
-  at-room e =
-      let same : length out ≡ length out₀ = ap length (a .text) ∙ put-length w out₀ 0 l prefix in
-      omega (arith, room e, length-append l x, a .line)
-
-  pub at-next : (n′ : ℕ) (out′ : List ℕ) → n′ ≡ n + length x → out′ ≡ put w out n x → At w out₀ out′ n′ (l ++ x)
-  at-next n′ out′ e is = record {
-    line = omega (arith, length-append l x, a .line);
-    text =
-        let next : n ≡ 0 + length l = omega (arith, a .line) in
-        is ∙ ap (λ (y : List ℕ). put w y n x) (a .text) ∙ ap (λ (k : ℕ). put w (put w out₀ 0 l) k x) next ∙ put-more w out₀ 0 l x room;
-  }
-
--- of the roll of a snapshot
-module _ (image : List ℕ) (areas : Areas) (pool table : List ℕ) (s share : ℕ) (w : Bool) (out₀ : List ℕ)
-    (room : Room w out₀ 0 (length (rollOf image areas pool table s share))) where
-  abbrev pub part1 : List Request
-  part1 = opening s share
-
-  abbrev pub part2 : List Request
-  part2 = part1 ++ mapsOf s areas 8
-
-  abbrev pub part3 : List Request
-  part3 = part2 ++ writesOf image areas pool table s 64
-
-  abbrev pub part4 : List Request
-  part4 = part3 ++ protectsOf s areas 8
-
-  length-roll : length (rollOf image areas pool table s share) ≡ length part4 + 1
+module _ (image pool table : List ℕ) (b : Snapshot) where
+  -- the first line, 8 maps, a write for each of 16,384 bytes, 8 protects and the last line
+  pub roll-most : length (rollOf image pool table b) ≤ 16402
   unfolding rollOf
-  length-roll = length-append part4 (closing s)
+  roll-most =
+      omega (
+        arith,
+        length-append (toProtects image pool table b) (closing (b .sandbox)),
+        length-append (toWrites image pool table b) (protectsOf b),
+        length-append (toMaps b) (writesOf image pool table b),
+        length-append (opening (b .sandbox) (b .share)) (mapsOf b),
+        maps-most b,
+        writes-most image pool table b,
+        protects-most b,
+      )
 
-  pub room5 : Room w out₀ 0 (length (part4 ++ closing s))
+  pub whole : (to : Cursor) (out : List ℕ) → put to out (toProtects image pool table b ++ closing (b .sandbox)) ≡ put to out (rollOf image pool table b)
   unfolding rollOf
-  room5 = room
+  whole to out = refl
 
-  pub room4 : Room w out₀ 0 (length part4)
-  room4 e = omega (arith, room e, length-roll)
+  -- room for the roll is room for what is put first
+  module _ (to : Cursor) (out : List ℕ) (room : Room to out (rollOf image pool table b)) where
+    pub room-roll : Room to out (toProtects image pool table b ++ closing (b .sandbox))
+    unfolding rollOf
+    room-roll = room
 
-  pub room3 : Room w out₀ 0 (length part3)
-  room3 e = omega (arith, room4 e, length-append part3 (protectsOf s areas 8))
+    pub room-protects : Room to out (toProtects image pool table b)
+    room-protects = prefix-room to out (toProtects image pool table b) (closing (b .sandbox)) room-roll
 
-  pub room2 : Room w out₀ 0 (length part2)
-  room2 e = omega (arith, room3 e, length-append part2 (writesOf image areas pool table s 64))
+    pub room-writes : Room to out (toWrites image pool table b)
+    room-writes = prefix-room to out (toWrites image pool table b) (protectsOf b) room-protects
 
-  pub room1 : Room w out₀ 0 1
-  room1 e = omega (arith, room2 e, length-append part1 (mapsOf s areas 8))
+    pub room-maps : Room to out (toMaps b)
+    room-maps = prefix-room to out (toMaps b) (writesOf image pool table b) room-writes
 
-  pub most2 : length part2 ≤ 9
-  most2 = omega (arith, length-append part1 (mapsOf s areas 8), joined-length (mapsAt s areas) 8 (maps-few s areas))
+    pub room-open : Room to out (opening (b .sandbox) (b .share))
+    room-open = prefix-room to out (opening (b .sandbox) (b .share)) (mapsOf b) room-maps
 
-  pub most3 : length part3 ≤ 16393
-  most3 = omega (arith, most2, length-append part2 (writesOf image areas pool table s 64), writes-most image areas pool table s 64)
+-- ---- counted, and then written where it fits
 
-  pub most4 : length part4 ≤ 16401
-  most4 = omega (arith, most3, length-append part3 (protectsOf s areas 8), joined-length (protectsAt s areas) 8 (protects-few s areas))
+abbrev counting : Cursor
+counting = record { line = 0; writes = false }
 
-  pub at1 : (q : Request) (n : ℕ) (out : List ℕ) → q ≡ requestOf Open s share 0 0 0 0 → n ≡ 0 + 1 → out ≡ put w out₀ 0 (q ∷ []) → At w out₀ out n part1
-  at1 q n out e k is = record { line = omega arith; text = is ∙ ap (λ (x : Request). put w out₀ 0 (x ∷ [])) e }
+abbrev writing : Cursor
+writing = record { line = 0; writes = true }
 
-  pub at5 : (q : Request) (n n′ : ℕ) (out out′ : List ℕ) → At w out₀ out n part4 → q ≡ requestOf Snapshot s 0 0 0 0 0 → n′ ≡ n + 1 → out′ ≡ put w out n (q ∷ [])
-      → (n′ ≡ length (rollOf image areas pool table s share)) × (out′ ≡ put w out₀ 0 (rollOf image areas pool table s share))
-  unfolding rollOf
-  at5 q n n′ out out′ a e k is =
-      let z = at-next w out₀ out n part4 (closing s) room5 a n′ out′ k (is ∙ ap (λ (x : Request). put w out n (x ∷ [])) e) in
-      (z .line, z .text)
+-- lines that are counted need no bytes
+pub count-room : (out : List ℕ) (l : List Request) → length l ≤ 16402 → Room counting out l
+count-room out l most = record { few = omega arith; fits = λ e. absurd (false≢true e) }
+
+module _ (out out₁ : List ℕ) (counted : Cursor) (l : List Request) (is : placed counted out₁ ≡ put counting out l) where
+  -- and touch nothing
+  untouched : out₁ ≡ out
+  unfolding lined
+  untouched = ap (λ (p : Placed). p .out) is
+
+  lines-are : counted .line ≡ length l
+  lines-are = ap (λ (p : Placed). p .cursor .line) is ∙ omega arith
+
+  pub too-long : length out₁ < counted .line * 43 → left (Refused OutputTooShort) out₁ ≡ fitted l out
+  unfolding fitted writtenAs
+  too-long h =
+      let z : length out < length l * 43 = omega (arith, ap length untouched, lines-are) in
+      rw (lt-ltb (length out) (length l * 43) z, untouched)
+
+  module _ (h : counted .line * 43 ≤ length out₁) where
+    pub fits-room : length l ≤ 16402 → Room writing out₁ l
+    fits-room most = record { few = omega arith; fits = λ e. omega (arith, lines-are) }
+
+    -- lines written from the start on
+    at-start : lined writing out₁ l ≡ printedRoll l ++ drop (length l * 43) out
+    unfolding lined setPart
+    at-start = let at : 0 + length (printedRoll l) ≡ length l * 43 = omega (arith, length-roll l) in rw (untouched, at)
+
+    pub fits-in : (to₂ : Cursor) (out₂ : List ℕ) → placed to₂ out₂ ≡ put writing out₁ l → left (Value (counted .line)) out₂ ≡ fitted l out
+    unfolding fitted writtenAs
+    fits-in to₂ out₂ now =
+        let z : length l * 43 ≤ length out = omega (arith, ap length untouched, lines-are) in
+        let text : out₂ ≡ printedRoll l ++ drop (length l * 43) out = ap (λ (p : Placed). p .out) now ∙ at-start in
+        rw (le-ltb (length out) (length l * 43) z, lines-are, text)

@@ -1,3 +1,2 @@
--- In reading order.
+-- The one file.
 pub mod Whole
-pub mod Fitting

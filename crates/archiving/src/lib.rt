@@ -5,10 +5,11 @@
 ghost use mathlib.Core.Path.{_≡_};
 ghost use Rattle.state.specs.World.{worldOf};
 ghost use Rattle.replay.specs.Snapshot.{written};
-ghost use Rattle.archiving.specs.Fitting.{left};
+ghost use Rattle.archiving.specs.Whole.{left};
 use crate::whole::put_fitting;
 use interface::answer::Answer;
 use interface::answer::Refusal;
+use segments::Snapshot;
 use soundness::sound::sound;
 use state::sandbox::Machine;
 
@@ -42,5 +43,10 @@ pub fn write_archive(
         return Answer::Refused(Refusal::NoSnapshot);
     }
     let areas = b.snapshot;
-    put_fitting(pool, table, image, out, sandbox as u8, b.share, areas)
+    let snapshot = Snapshot {
+        sandbox: sandbox as u8,
+        share: b.share,
+        areas: areas,
+    };
+    put_fitting(pool, table, image, snapshot, out)
 }

@@ -1,87 +1,82 @@
 // The whole roll: counted, or written; and written only where it fits.
 ghost use mathlib.Core.Path.{_≡_};
-ghost use Prim.Native.Nat.{ℕ, _+_, _*_, _≤_, _<_};
-ghost use lib.ListN.{length};
 ghost use Rattle.interface.specs.Requests.{requestOf};
-ghost use Rattle.interface.specs.Slots.{backingAt};
-ghost use Rattle.table.specs.Store.{Ranged};
-ghost use Rattle.table.specs.Source.{sourceEnd};
-ghost use Rattle.areas.specs.Areas.{slots, Near};
-ghost use Rattle.content.specs.Content.{sourceOf};
-ghost use Rattle.printing.specs.Put.{put, Room};
-ghost use Rattle.archiving.specs.Whole.{rollOf};
-ghost use Rattle.archiving.specs.Fitting.{left, fitted};
-use areas::area::Areas;
+ghost use Rattle.printing.specs.Put.{placed, put, Room};
+ghost use Rattle.segments.specs.ByPages.{Readable};
+ghost use Rattle.archiving.specs.Whole.{rollOf, left, fitted};
 use interface::answer::Answer;
 use interface::answer::Refusal;
 use interface::request::Request;
-use printing::line::put_line;
+use lines::Line;
+use printing::Cursor;
+use printing::put_line;
+use segments::Snapshot;
 use segments::maps::put_maps;
 use segments::protects::put_protects;
 use segments::writes::put_writes;
 
-// The roll of a snapshot with these areas, of sandbox s with this share; answers the number of its lines.
-pub fn put_roll(
+// "The answer is the number of lines". The roll is counted first, and written only where it fits: "any refusal leaves all output memory untouched".
+pub fn put_fitting(
     pool: &[u8],
     table: &[u16],
     image: &[u8],
+    snapshot: Snapshot,
     out: &mut [u8],
-    s: u8,
-    share: u8,
-    areas: Areas,
-    writes: bool,
-) -> u32
-    requires { ⌜ s < 4 ⌝ }
-    requires { ⌜ Near (areas .list) ⌝ }
-    requires { ⌜ Ranged 256 (now pool) (now table) ⌝ }
-    requires { ⌜ ((i : ℕ) → sourceEnd (sourceOf (backingAt (slots areas i))) * 256 ≤ length (now image)) ⌝ }
-    requires { ⌜ Room writes (now out) 0 (length (rollOf (now image) areas (now pool) (now table) s share)) ⌝ }
-    ensures { λ r. ⌜ r ≡ length (rollOf (now (image .entry)) areas (now (pool .entry)) (now (table .entry)) s share) ⌝ }
-    ensures { λ r. ⌜ now (out .exit) ≡ put writes (now (out .entry)) 0 (rollOf (now (image .entry)) areas (now (pool .entry)) (now (table .entry)) s share) ⌝ }
+) -> Answer
+    requires { ⌜ Readable (now image) (now pool) (now table) snapshot ⌝ }
+    ensures { λ r. ⌜ left r (now (out .exit))
+        ≡ fitted (rollOf (now (image .entry)) (now (pool .entry)) (now (table .entry)) snapshot) (now (out .entry)) ⌝ }
 {
-    let opened = put_line(out, 0, bare_line(1, s, share as u16), writes);
-    let mapped = put_maps(out, opened, s, areas, writes);
-    let written = put_writes(pool, table, image, out, mapped, s, areas, writes);
-    let protected = put_protects(out, written, s, areas, writes);
-    put_line(out, protected, bare_line(7, s, 0), writes)
+    let counting = Cursor {
+        line: 0,
+        writes: false,
+    };
+    let lines = put_roll(pool, table, image, snapshot, out, counting).line;
+    if out.len() < lines as usize * Line::BYTES {
+        return Answer::Refused(Refusal::OutputTooShort);
+    }
+    let writing = Cursor {
+        line: 0,
+        writes: true,
+    };
+    put_roll(pool, table, image, snapshot, out, writing);
+    Answer::Value(lines)
+}
+
+// The roll of a snapshot, segment by segment.
+fn put_roll(
+    pool: &[u8],
+    table: &[u16],
+    image: &[u8],
+    snapshot: Snapshot,
+    out: &mut [u8],
+    to: Cursor,
+) -> Cursor
+    requires { ⌜ Readable (now image) (now pool) (now table) snapshot ⌝ }
+    requires { ⌜ Room to (now out) (rollOf (now image) (now pool) (now table) snapshot) ⌝ }
+    ensures { λ r. ⌜ placed r (now (out .exit)) ≡ put to (now (out .entry))
+        (rollOf (now (image .entry)) (now (pool .entry)) (now (table .entry)) snapshot) ⌝ }
+{
+    let opening = line(Request::OPEN, snapshot.sandbox, snapshot.share);
+    let closing = line(Request::SNAPSHOT, snapshot.sandbox, 0);
+    let opened = put_line(out, to, opening);
+    let mapped = put_maps(snapshot, out, opened);
+    let written = put_writes(pool, table, image, snapshot, out, mapped);
+    let protected = put_protects(snapshot, out, written);
+    put_line(out, protected, closing)
 }
 
 // A line with one parameter at most.
-fn bare_line(code: u16, s: u8, p1: u16) -> Request
-    ensures { λ r. ⌜ r ≡ requestOf code s p1 0 0 0 0 ⌝ }
+fn line(code: u16, sandbox: u8, p1: u8) -> Request
+    ensures { λ r. ⌜ r ≡ requestOf code sandbox p1 0 0 0 0 ⌝ }
 {
     Request {
         code: code,
-        sandbox: s as u16,
-        p1: p1,
+        sandbox: sandbox as u16,
+        p1: p1 as u16,
         p2: 0,
         p3: 0,
         p4: 0,
         p5: 0,
     }
-}
-
-// The roll is counted first, and written only where it fits: "any refusal leaves all output memory untouched".
-pub fn put_fitting(
-    pool: &[u8],
-    table: &[u16],
-    image: &[u8],
-    out: &mut [u8],
-    s: u8,
-    share: u8,
-    areas: Areas,
-) -> Answer
-    requires { ⌜ s < 4 ⌝ }
-    requires { ⌜ Near (areas .list) ⌝ }
-    requires { ⌜ Ranged 256 (now pool) (now table) ⌝ }
-    requires { ⌜ ((i : ℕ) → sourceEnd (sourceOf (backingAt (slots areas i))) * 256 ≤ length (now image)) ⌝ }
-    ensures { λ r. ⌜ left r (now (out .exit)) ≡ fitted
-        (rollOf (now (image .entry)) areas (now (pool .entry)) (now (table .entry)) s share) (now (out .entry)) ⌝ }
-{
-    let lines = put_roll(pool, table, image, out, s, share, areas, false);
-    if out.len() < lines as usize * 43 {
-        return Answer::Refused(Refusal::OutputTooShort);
-    }
-    put_roll(pool, table, image, out, s, share, areas, true);
-    Answer::Value(lines)
 }

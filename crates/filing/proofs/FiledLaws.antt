@@ -11,7 +11,7 @@ use Rattle.state.specs.World.{worldOf}
 use Rattle.layout.specs.Layout.{isState, stateFrom}
 use Rattle.archive.specs.Written.{writtenAs}
 use Rattle.replay.specs.Snapshot.{written}
-use Rattle.archiving.specs.Fitting.{left as leaves}
+use Rattle.archiving.specs.Whole.{left as leaves}
 use Rattle.stepwise.specs.declared.Told.{Told}
 use Rattle.stepwise.specs.Calls.{Handed, toldBy}
 use Rattle.filing.specs.Filed.{left, filed}

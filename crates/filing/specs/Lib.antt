@@ -1,2 +1,3 @@
--- In reading order.
+-- In reading order: the archive over bytes, and what a host gets.
 pub mod Filed
+pub mod HostArchive

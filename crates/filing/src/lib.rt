@@ -1,7 +1,7 @@
 // The archive roll of a sandbox, asked for over a state that the caller keeps as bytes beside its pool and table.
-// It asks nothing of what is lent: a wrong length, bytes that are no state's and an unsound state are refusal 3. State, pool, table and image are only read, and a
-// refusal leaves every byte of the output. It promises (specs/HostArchive) that what a host gets is the plain machine's, and that the roll's calls rebuild the
-// snapshot.
+// It asks nothing of what is lent: a wrong length, bytes that are no state's and an unsound state are refusal 3. State, pool, table and image are only read,
+// and a refusal leaves every byte of the output. It promises (specs/HostArchive) that what a host gets is the plain machine's, and that the roll's calls
+// rebuild the snapshot.
 // It stands on `archiving` for the roll, on `encoding` for the state in bytes, and on `stepwise` for what a host hands over.
 ghost use mathlib.Core.Path.{_≡_};
 ghost use Rattle.stepwise.specs.Calls.{handed};

@@ -32,8 +32,9 @@ pub struct Attributes {
 }
 
 impl Attributes {
-    // "It has rights, 1 for read or 3 for read and write"
+    // "rights, 1 for read"
     pub const READ: u8 = 1;
+    // "or 3 for read and write"
     pub const READ_WRITE: u8 = 3;
 }
 

@@ -12,11 +12,15 @@ pub struct Request {
 }
 
 impl Request {
-    // The codes of the calls that an archive roll makes: "The calls", numbered as there.
+    // Codes of "The calls", those that an archive roll makes: "1. open"
     pub const OPEN: u16 = 1;
+    // "2. map"
     pub const MAP: u16 = 2;
+    // "4. protect"
     pub const PROTECT: u16 = 4;
+    // "6. write"
     pub const WRITE: u16 = 6;
+    // "7. snapshot"
     pub const SNAPSHOT: u16 = 7;
     // "Four sandboxes stand in a row, numbered 0 to 3."
     pub const SANDBOXES: usize = 4;

@@ -1,2 +1,3 @@
 -- In reading order.
+pub mod RequestLaws
 pub mod PutLaws

@@ -24,7 +24,7 @@ use Rattle.areas.proofs.SlotLaws.{slot-hit}
 use Rattle.areas.proofs.WalkLaws.{endOf, order, between}
 use Rattle.archive.specs.Archive.{joined, only, endFrom, pagesFrom, mapAt, maps, protectAt, protects}
 use Rattle.archive.proofs.RunLaws.{end-on, end-here, end-past, none-joins, joins-none, advance-none}
-use Rattle.segments.specs.ByAreas.{mapsAt, protectsAt, mapsOf, protectsOf}
+use Rattle.segments.specs.ByAreas.{mapsAt, protectsAt}
 
 -- ---- neighbouring pages
 
@@ -114,7 +114,8 @@ module _ (s : Areas) (F : Formed s) where
       let off = rw (add-one j) at (F .formed .apart j (omega arith) .longest) in
       rw (slot-in j n (omega arith) (omega (arith, p .some)) (omega arith), slot-in (suc j) (suc n) l (omega arith) (omega (arith, q .some)))
       (apart-pages (at j) (at (suc j)) n (p .some) meets e off))
-      (λ t. let none = between s F n (suc j) (earlier j n (omega arith) (omega (arith, ends, eqb-false (endOf s j) (suc n) t))) (later (suc j) n l (omega arith)) in
+      (λ t. let before : endOf s j ≤ n = omega (arith, ends, eqb-false (endOf s j) (suc n) t) in
+      let none = between s F n (suc j) (earlier j n (omega arith) before) (later (suc j) n l (omega arith)) in
       joins-none (f n) (f (suc n)) (ap isMapped none))
 
   -- each further page of it does
@@ -179,7 +180,8 @@ module _ {A : Type 0} (s : Areas) (F : Formed s) (p g : ℕ → List A)
     pub gathered : joined p page ≡ joined g k
 
   -- nothing starts between them and the next
-  gap-none : (k i page : ℕ) → ((j : ℕ) → j < k → j < s .count → endOf s j ≤ page) → page ≤ i → ((j : ℕ) → k ≤ j → j < s .count → i < getD (s .list) j none .first .0) → p i ≡ []
+  gap-none : (k i page : ℕ) → ((j : ℕ) → j < k → j < s .count → endOf s j ≤ page) → page ≤ i
+      → ((j : ℕ) → k ≤ j → j < s .count → i < getD (s .list) j none .first .0) → p i ≡ []
   gap-none k i page h l a =
       let none = between s F i k (λ j d. go j (decLt j (s .count)) (λ m. h j d m)) a in
       off i (rw none)
@@ -255,15 +257,16 @@ module _ (s : Areas) (F : Formed s) (sandbox : ℕ) where
       let z : getD (s .list) k none .first .0 - getD (s .list) k none .first .0 ≡ 0 = omega arith in
       rw (first-slot k l, z) (advance-none (getD (s .list) k none .backing))
 
-  pub maps-by-areas : maps sandbox (slots s) ≡ mapsOf sandbox s 8
+  pub maps-by-areas : maps sandbox (slots s) ≡ joined (mapsAt sandbox s) 8
   unfolding maps
   maps-by-areas =
       by-areas s F (λ i. only (startsArea (slots s) i) (mapAt sandbox (slots s) i)) (mapsAt sandbox s)
       (λ i e. only-off (startsArea (slots s) i) (mapAt sandbox (slots s) i) e)
-      (λ k l. rw (area-starts s F k l, first-pages k l, first-backing k l, ne-eqb (getD (s .list) k none .pages) 0 (λ e. omega (arith, F .formed .each k l .some))))
+      (λ k l. let some = ne-eqb (getD (s .list) k none .pages) 0 (λ e. omega (arith, F .formed .each k l .some)) in
+      rw (area-starts s F k l, first-pages k l, first-backing k l, some))
       (λ k l. rw (F .formed .rest k l))
 
-  pub protects-by-areas : protects sandbox (slots s) ≡ protectsOf sandbox s 8
+  pub protects-by-areas : protects sandbox (slots s) ≡ joined (protectsAt sandbox s) 8
   unfolding protects
   protects-by-areas =
       by-areas s F (λ i. only (startsArea (slots s) i && eqb (rightsAt (slots s i)) 1) (protectAt sandbox (slots s) i)) (protectsAt sandbox s)

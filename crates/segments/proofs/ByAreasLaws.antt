@@ -1,15 +1,21 @@
--- Laws of the lines of areas.
+-- At most one line for each place of an area.
 use Prim.Native.Nat.{ℕ, _≤_}
 use mathlib.Core.Bool.{not}
 use lib.Dec.{eqb}
 use lib.ListN.{length, getD}
-use Rattle.areas.specs.declared.area.Areas.{Areas}
 use Rattle.areas.specs.Areas.{none}
-use Rattle.archive.proofs.TextLaws.{only-length}
-use Rattle.segments.specs.ByAreas.{mapOf, protectOf, mapsAt, protectsAt}
+use Rattle.archive.proofs.TextLaws.{only-length, joined-length}
+use Rattle.segments.specs.declared.Snapshot.{Snapshot}
+use Rattle.segments.specs.ByAreas.{mapOf, protectOf, mapsAt, protectsAt, mapsOf, protectsOf}
 
-pub maps-few : (s : ℕ) (areas : Areas) (k : ℕ) → length (mapsAt s areas k) ≤ 1
-maps-few s areas k = only-length (not (eqb (getD (areas .list) k none .pages) 0)) (mapOf s (getD (areas .list) k none))
+pub maps-most : (b : Snapshot) → length (mapsOf b) ≤ 8
+maps-most b =
+    joined-length (mapsAt (b .sandbox) (b .areas)) 8 (λ k.
+    let area = getD (b .areas .list) k none in
+    only-length (not (eqb (area .pages) 0)) (mapOf (b .sandbox) area))
 
-pub protects-few : (s : ℕ) (areas : Areas) (k : ℕ) → length (protectsAt s areas k) ≤ 1
-protects-few s areas k = only-length (eqb (getD (areas .list) k none .rights) 1) (protectOf s (getD (areas .list) k none))
+pub protects-most : (b : Snapshot) → length (protectsOf b) ≤ 8
+protects-most b =
+    joined-length (protectsAt (b .sandbox) (b .areas)) 8 (λ k.
+    let area = getD (b .areas .list) k none in
+    only-length (eqb (area .rights) 1) (protectOf (b .sandbox) area))

@@ -1,4 +1,4 @@
--- Laws of the lines of pages.
+-- The lines of a page as the code finds them, and how many there are.
 use Prim.Native.Nat.{ℕ, zero, suc, _+_, _-_, _*_, _≤_, _<_}
 use mathlib.Core.Path.{_≡_, refl, sym, ap, _∙_}
 use mathlib.Core.Bool.{Bool, true, false, not}
@@ -17,65 +17,69 @@ use Rattle.interface.specs.Slots.{isMapped, backingAt}
 use Rattle.pages.specs.Parts.{frame}
 use Rattle.pages.proofs.PartLaws.{frame-at, getD-zeros}
 use Rattle.table.specs.Store.{backOf}
-use Rattle.areas.specs.declared.area.Areas.{Areas}
 use Rattle.areas.specs.Areas.{slots}
 use Rattle.content.specs.Content.{backingPage}
 use Rattle.plain.specs.Machine.{backingByte}
 use Rattle.archive.specs.Archive.{joined, only}
 use Rattle.archive.proofs.TextLaws.{only-length, joined-length}
-use Rattle.segments.specs.ByPages.{byteLine, bytesOf, backPage, pageLines, writesOf}
+use Rattle.segments.specs.declared.Snapshot.{Snapshot}
+use Rattle.segments.specs.ByPages.{byteLine, bytesOf, backPage, pageLines, writesAt, writesOf}
 
-pub byte-line : (image pool : List ℕ) (backing : Backing) (s i f j old : ℕ) (q : Request) → j < 256
-    → old ≡ backingByte image backing j → q ≡ requestOf Write s (i * 256 + j) (getD pool (f * 256 + j) 0) 0 0 0
-    → only (not (eqb (getD pool (f * 256 + j) 0) old)) q ≡ byteLine image backing s i (frame 256 pool f) j
-byte-line image pool backing s i f j old q l e is = rw (e, is, frame-at 256 pool f j l)
+-- ---- a byte
 
-pub bytes-few : (image : List ℕ) (backing : Backing) (s i : ℕ) (page : List ℕ) (j : ℕ) → length (byteLine image backing s i page j) ≤ 1
-bytes-few image backing s i page j = only-length (not (eqb (getD page j 0) (backingByte image backing j))) (requestOf Write s (i * 256 + j) (getD page j 0) 0 0 0)
+-- the line of a byte, from the byte and its backing's as the code reads them
+pub byte-line : (image : List ℕ) (s i : ℕ) (x : Slot) (bytes : List ℕ) (j byte old : ℕ) (backing : Backing) (q : Request)
+    → backing ≡ backingAt x → byte ≡ getD bytes j 0 → old ≡ backingByte image backing j → q ≡ requestOf Write s (i * 256 + j) byte 0 0 0
+    → only (not (eqb byte old)) q ≡ byteLine image s i x bytes j
+byte-line image s i x bytes j byte old backing q b e o is = rw (is, o, e, b)
 
-pub bytes-most : (image : List ℕ) (backing : Backing) (s i : ℕ) (page : List ℕ) (n : ℕ) → length (bytesOf image backing s i page n) ≤ n
-bytes-most image backing s i page n = joined-length (byteLine image backing s i page) n (bytes-few image backing s i page)
+-- ---- a page
 
--- a page of at most 256 lines
-pub page-most : (image : List ℕ) (areas : Areas) (pool table : List ℕ) (s i : ℕ) → length (pageLines image areas pool table s i) ≤ 256
-page-most image areas pool table s i =
-    when-cases (λ (l : List Request). length l ≤ 256) (isMapped (slots areas i))
-    (λ _. bytes-most image (backingAt (slots areas i)) s i (backPage image areas pool table s i) 256) (λ _. omega arith)
-
-pub writes-most : (image : List ℕ) (areas : Areas) (pool table : List ℕ) (s n : ℕ) → length (writesOf image areas pool table s n) ≤ n * 256
-unfolding joined
-writes-most image areas pool table s zero = omega arith
-writes-most image areas pool table s (suc n) =
-    rw (length-append (writesOf image areas pool table s n) (pageLines image areas pool table s n)) (omega (arith, page-most image areas pool table s n, writes-most image areas pool table s n))
-
--- a page that has its backing's bytes has no line
-backing-byte : (image : List ℕ) (b : Backing) (j : ℕ) → j < 256 → getD (backingPage image b) j 0 ≡ backingByte image b j
-backing-byte image Anonymous j l = getD-zeros 256 j
-backing-byte image (Image p) j l = frame-at 256 image (p .0) j l ∙ ap (λ (x : ℕ). getD image x 0) (omega arith)
-
-joined-none : {A : Type 0} (f : ℕ → List A) (n : ℕ) → ((i : ℕ) → i < n → f i ≡ []) → joined f n ≡ []
+pub joined-none : {A : Type 0} (f : ℕ → List A) (n : ℕ) → ((j : ℕ) → j < n → f j ≡ []) → joined f n ≡ []
 unfolding joined
 joined-none f zero h = refl
-joined-none f (suc n) h = rw (joined-none f n (λ i l. h i (omega arith)), h n (omega arith))
+joined-none f (suc n) h = rw (joined-none f n (λ j l. h j (omega arith)), h n (omega arith))
 
-pub unbacked-none : (image : List ℕ) (areas : Areas) (pool table : List ℕ) (s i : ℕ) → getD table (backOf s i) 0 ≡ 0 → pageLines image areas pool table s i ≡ []
-unbacked-none image areas pool table s i e =
-    when-cases (λ (l : List Request). l ≡ []) (isMapped (slots areas i))
-    (λ _. joined-none (byteLine image (backingAt (slots areas i)) s i (backPage image areas pool table s i)) 256
-    (λ j l. let same : getD (backPage image areas pool table s i) j 0 ≡ backingByte image (backingAt (slots areas i)) j = rw e (backing-byte image (backingAt (slots areas i)) j l) in
-    rw (same, eq-eqb (backingByte image (backingAt (slots areas i)) j) (backingByte image (backingAt (slots areas i)) j) refl))) (λ _. refl)
+module _ (image pool table : List ℕ) (s i : ℕ) (x : Slot) where
+  backing-byte : (b : Backing) (j : ℕ) → j < 256 → getD (backingPage image b) j 0 ≡ backingByte image b j
+  backing-byte Anonymous j l = getD-zeros 256 j
+  backing-byte (Image p) j l = frame-at 256 image (p .0) j l ∙ ap (λ (x : ℕ). getD image x 0) (omega arith)
 
-pub unmapped-none : (image : List ℕ) (areas : Areas) (pool table : List ℕ) (s i : ℕ) → isMapped (slots areas i) ≡ false → pageLines image areas pool table s i ≡ []
-unmapped-none image areas pool table s i e = rw e
+  -- a page that has its backing's bytes has no line
+  pub unbacked-none : getD table (backOf s i) 0 ≡ 0 → pageLines image pool table s i x ≡ []
+  unbacked-none e =
+      when-cases (λ (l : List Request). l ≡ []) (isMapped x)
+      (λ _. joined-none (byteLine image s i x (backPage image pool table s i x)) 256
+      (λ j l. let old = backingByte image (backingAt x) j in
+      let same : getD (backPage image pool table s i x) j 0 ≡ old = rw e (backing-byte (backingAt x) j l) in
+      rw (same, eq-eqb old old refl))) (λ _. refl)
 
-pub backed-lines : (image : List ℕ) (areas : Areas) (pool table : List ℕ) (s i f : ℕ) → isMapped (slots areas i) ≡ true → getD table (backOf s i) 0 ≡ suc f
-    → bytesOf image (backingAt (slots areas i)) s i (frame 256 pool f) 256 ≡ pageLines image areas pool table s i
-backed-lines image areas pool table s i f m e = rw (m, e)
+  pub unmapped-none : isMapped x ≡ false → pageLines image pool table s i x ≡ []
+  unmapped-none e = rw e
 
--- the lines of a page as the code finds them
-pub lines-are : (image : List ℕ) (areas : Areas) (pool table : List ℕ) (s i back : ℕ) (slot : Slot) (mapped : Bool) (backing : Backing)
-    → back ≡ getD table (backOf s i) 0 → (back ≡ 0 → ⊥) → slot ≡ slots areas i → mapped ≡ isMapped slot → mapped ≡ true → backing ≡ backingAt slot
-    → bytesOf image backing s i (frame 256 pool (back - 1)) 256 ≡ pageLines image areas pool table s i
-lines-are image areas pool table s i back slot mapped backing b n e m t g =
-    let there : isMapped (slots areas i) ≡ true = ap isMapped (sym e) ∙ sym m ∙ t in
-    rw (g, e) (backed-lines image areas pool table s i (back - 1) there (sym b ∙ omega (arith, n)))
+  -- any other has those of its back frame
+  pub backed-lines : (back f : ℕ) → isMapped x ≡ true → back ≡ getD table (backOf s i) 0 → 0 < back → f ≡ back - 1
+      → bytesOf image s i x (frame 256 pool f) ≡ pageLines image pool table s i x
+  backed-lines back f m e some is =
+      let names : getD table (backOf s i) 0 ≡ suc f = sym e ∙ omega arith in
+      rw (m, names)
+
+  bytes-most : (bytes : List ℕ) → length (bytesOf image s i x bytes) ≤ 256
+  bytes-most bytes =
+      joined-length (byteLine image s i x bytes) 256
+      (λ j. only-length (not (eqb (getD bytes j 0) (backingByte image (backingAt x) j))) (requestOf Write s (i * 256 + j) (getD bytes j 0) 0 0 0))
+
+  page-most : length (pageLines image pool table s i x) ≤ 256
+  page-most = when-cases (λ (l : List Request). length l ≤ 256) (isMapped x) (λ _. bytes-most (backPage image pool table s i x)) (λ _. omega arith)
+
+-- ---- all pages
+
+pages-most : (image pool table : List ℕ) (b : Snapshot) (n : ℕ) → length (joined (writesAt image pool table b) n) ≤ n * 256
+unfolding joined
+pages-most image pool table b zero = omega arith
+pages-most image pool table b (suc n) =
+    rw (length-append (joined (writesAt image pool table b) n) (writesAt image pool table b n))
+    (omega (arith, page-most image pool table (b .sandbox) n (slots (b .areas) n), pages-most image pool table b n))
+
+pub writes-most : (image pool table : List ℕ) (b : Snapshot) → length (writesOf image pool table b) ≤ 16384
+writes-most image pool table b = pages-most image pool table b 64

@@ -1,4 +1,4 @@
--- The maps and protects of a roll, area by area.
+-- The maps and protects of a roll, by the places of the snapshot's areas.
 use Prim.Native.Nat.{ℕ}
 use mathlib.Core.Bool.{not}
 use mathlib.Core.List.{List}
@@ -10,7 +10,9 @@ use Rattle.areas.specs.declared.area.Area.{Area}
 use Rattle.areas.specs.declared.area.Areas.{Areas}
 use Rattle.areas.specs.Areas.{none}
 use Rattle.archive.specs.Archive.{joined, only, kindOf, firstImage}
+use Rattle.segments.specs.declared.Snapshot.{Snapshot}
 
+-- of an area
 abbrev pub mapOf : ℕ → Area → Request
 mapOf s a = requestOf Map s (a .first .0) (a .pages) (kindOf (a .backing)) (firstImage (a .backing)) 3
 
@@ -24,9 +26,9 @@ mapsAt s areas k = only (not (eqb (getD (areas .list) k none .pages) 0)) (mapOf 
 abbrev pub protectsAt : ℕ → Areas → ℕ → List Request
 protectsAt s areas k = only (eqb (getD (areas .list) k none .rights) 1) (protectOf s (getD (areas .list) k none))
 
--- of the first n places
-abbrev pub mapsOf : ℕ → Areas → ℕ → List Request
-mapsOf s areas n = joined (mapsAt s areas) n
+-- of all places
+abbrev pub mapsOf : Snapshot → List Request
+mapsOf b = joined (mapsAt (b .sandbox) (b .areas)) 8
 
-abbrev pub protectsOf : ℕ → Areas → ℕ → List Request
-protectsOf s areas n = joined (protectsAt s areas) n
+abbrev pub protectsOf : Snapshot → List Request
+protectsOf b = joined (protectsAt (b .sandbox) (b .areas)) 8

@@ -1,46 +1,47 @@
-// The maps of a snapshot's areas.
+// "one map a snapshot area in page order, at named pages with rights 3"
 ghost use mathlib.Core.Path.{_≡_};
-ghost use Prim.Native.Nat.{_+_, _*_, _≤_, _<_};
-ghost use lib.ListN.{length};
-ghost use Rattle.printing.specs.Put.{put, Room};
-ghost use Rattle.segments.specs.ByAreas.{mapOf, mapsOf};
 ghost use Rattle.archive.specs.Archive.{kindOf, firstImage};
-use printing::line::put_if;
+ghost use Rattle.printing.specs.Put.{placed, put, Room};
+ghost use Rattle.segments.specs.ByAreas.{mapOf, mapsOf};
+use crate::Snapshot;
 use areas::area::Area;
-use areas::area::Areas;
+use interface::page::Attributes;
 use interface::page::Backing;
 use interface::request::Request;
+use printing::Cursor;
+use printing::put_if;
 
-// "one map a snapshot area in page order, at named pages with rights 3"
-pub fn put_maps(out: &mut [u8], at: u32, s: u8, areas: Areas, writes: bool) -> u32
-    requires { ⌜ at ≤ 90000 ⌝ }
-    requires { ⌜ Room writes (now out) at (length (mapsOf s areas 8)) ⌝ }
-    ensures { λ r. ⌜ r ≡ at + length (mapsOf s areas 8) ⌝ }
-    ensures { λ r. ⌜ now (out .exit) ≡ put writes (now (out .entry)) at (mapsOf s areas 8) ⌝ }
+// The maps of a snapshot; a place without an area has no pages.
+pub fn put_maps(snapshot: Snapshot, out: &mut [u8], to: Cursor) -> Cursor
+    requires { ⌜ Room to (now out) (mapsOf snapshot) ⌝ }
+    ensures { λ r. ⌜ placed r (now (out .exit)) ≡ put to (now (out .entry)) (mapsOf snapshot) ⌝ }
 {
-    let mut n = at;
+    let areas = snapshot.areas;
+    let mut next = to;
     for k in 0..Area::MOST {
         let area = areas.list[k];
-        n = put_if(out, n, map_line(s, area), area.pages != 0, writes);
+        next = put_if(out, next, map_line(snapshot.sandbox, area), area.pages != 0);
     }
-    n
+    next
 }
 
-fn map_line(s: u8, area: Area) -> Request
-    ensures { λ r. ⌜ r ≡ mapOf s area ⌝ }
+// The map of an area.
+fn map_line(sandbox: u8, area: Area) -> Request
+    ensures { λ r. ⌜ r ≡ mapOf sandbox area ⌝ }
 {
     let backing = area.backing;
     Request {
-        code: 2,
-        sandbox: s as u16,
+        code: Request::MAP,
+        sandbox: sandbox as u16,
         p1: area.first.0 as u16,
         p2: area.pages as u16,
         p3: kind_of(backing),
         p4: first_image(backing),
-        p5: 3,
+        p5: Attributes::READ_WRITE as u16,
     }
 }
 
+// "p3 backing, 0 anonymous, 1 image"
 fn kind_of(backing: Backing) -> u16
     ensures { λ r. ⌜ r ≡ kindOf backing ⌝ }
 {
@@ -50,6 +51,7 @@ fn kind_of(backing: Backing) -> u16
     }
 }
 
+// "p4 first image page (0 when anonymous)"
 fn first_image(backing: Backing) -> u16
     ensures { λ r. ⌜ r ≡ firstImage backing ⌝ }
 {

@@ -1,38 +1,43 @@
-// The protects of a snapshot's areas.
-ghost use mathlib.Core.Path.{_≡_};
-ghost use Prim.Native.Nat.{_+_, _*_, _≤_, _<_};
-ghost use lib.ListN.{length};
-ghost use Rattle.printing.specs.Put.{put, Room};
-ghost use Rattle.segments.specs.ByAreas.{protectOf, protectsOf};
-use printing::line::put_if;
-use areas::area::Area;
-use areas::area::Areas;
-use interface::request::Request;
-
 // "a protect for each area with rights 1, in page order"
-pub fn put_protects(out: &mut [u8], at: u32, s: u8, areas: Areas, writes: bool) -> u32
-    requires { ⌜ at ≤ 90000 ⌝ }
-    requires { ⌜ Room writes (now out) at (length (protectsOf s areas 8)) ⌝ }
-    ensures { λ r. ⌜ r ≡ at + length (protectsOf s areas 8) ⌝ }
-    ensures { λ r. ⌜ now (out .exit) ≡ put writes (now (out .entry)) at (protectsOf s areas 8) ⌝ }
+ghost use mathlib.Core.Path.{_≡_};
+ghost use Rattle.printing.specs.Put.{placed, put, Room};
+ghost use Rattle.segments.specs.ByAreas.{protectOf, protectsOf};
+use crate::Snapshot;
+use areas::area::Area;
+use interface::page::Attributes;
+use interface::request::Request;
+use printing::Cursor;
+use printing::put_if;
+
+// The protects of a snapshot; a place without an area has no rights.
+pub fn put_protects(snapshot: Snapshot, out: &mut [u8], to: Cursor) -> Cursor
+    requires { ⌜ Room to (now out) (protectsOf snapshot) ⌝ }
+    ensures { λ r. ⌜ placed r (now (out .exit)) ≡ put to (now (out .entry)) (protectsOf snapshot) ⌝ }
 {
-    let mut n = at;
+    let areas = snapshot.areas;
+    let mut next = to;
     for k in 0..Area::MOST {
         let area = areas.list[k];
-        n = put_if(out, n, protect_line(s, area), area.rights == 1, writes);
+        next = put_if(
+            out,
+            next,
+            protect_line(snapshot.sandbox, area),
+            area.rights == Attributes::READ,
+        );
     }
-    n
+    next
 }
 
-fn protect_line(s: u8, area: Area) -> Request
-    ensures { λ r. ⌜ r ≡ protectOf s area ⌝ }
+// The protect of an area.
+fn protect_line(sandbox: u8, area: Area) -> Request
+    ensures { λ r. ⌜ r ≡ protectOf sandbox area ⌝ }
 {
     Request {
-        code: 4,
-        sandbox: s as u16,
+        code: Request::PROTECT,
+        sandbox: sandbox as u16,
         p1: area.first.0 as u16,
         p2: area.pages as u16,
-        p3: 1,
+        p3: Attributes::READ as u16,
         p4: 0,
         p5: 0,
     }

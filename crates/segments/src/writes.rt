@@ -1,136 +1,129 @@
-// The writes of a snapshot's bytes.
+// "a write for each byte that differs from its page's zero or image byte, in address order"
 ghost use mathlib.Core.Path.{_≡_};
-ghost use Prim.Native.Nat.{ℕ, _+_, _*_, _≤_, _<_};
+ghost use Prim.Native.Nat.{_+_, _*_, _≤_, _<_};
 ghost use lib.ListN.{length};
+ghost use Rattle.interface.specs.Requests.{requestOf, Write};
 ghost use Rattle.interface.specs.Slots.{backingAt};
 ghost use Rattle.pages.specs.Parts.{frame};
 ghost use Rattle.table.specs.Store.{Ranged};
 ghost use Rattle.table.specs.Source.{sourceEnd};
-ghost use Rattle.areas.specs.Areas.{slots, Near};
 ghost use Rattle.content.specs.Content.{sourceOf};
 ghost use Rattle.plain.specs.Machine.{backingByte};
-ghost use Rattle.interface.specs.Requests.{requestOf, Write};
-ghost use Rattle.printing.specs.Put.{put, Room};
-ghost use Rattle.segments.specs.ByPages.{bytesOf, pageLines, writesOf};
-use printing::line::put_if;
+ghost use Rattle.printing.specs.Put.{placed, put, Room};
+ghost use Rattle.segments.specs.ByPages.{bytesOf, pageLines, writesOf, Readable};
+use crate::Snapshot;
 use areas::area::Areas;
 use areas::slot::backing_at;
 use areas::slot::is_mapped;
+use frames::FrameNo;
 use interface::page::Backing;
 use interface::page::PageNo;
+use interface::page::Slot;
 use interface::request::Request;
+use printing::Cursor;
+use printing::put_if;
+use table::entry::frame_of;
 
-// "a write for each byte that differs from its page's zero or image byte, in address order"
+// The writes of a snapshot, page by page.
 pub fn put_writes(
     pool: &[u8],
     table: &[u16],
     image: &[u8],
+    snapshot: Snapshot,
     out: &mut [u8],
-    at: u32,
-    s: u8,
-    areas: Areas,
-    writes: bool,
-) -> u32
-    requires { ⌜ at ≤ 10000 ⌝ }
-    requires { ⌜ s < 4 ⌝ }
-    requires { ⌜ Near (areas .list) ⌝ }
-    requires { ⌜ Ranged 256 (now pool) (now table) ⌝ }
-    requires { ⌜ ((i : ℕ) → sourceEnd (sourceOf (backingAt (slots areas i))) * 256 ≤ length (now image)) ⌝ }
-    requires { ⌜ Room writes (now out) at (length (writesOf (now image) areas (now pool) (now table) s 64)) ⌝ }
-    ensures { λ r. ⌜ r ≡ at + length (writesOf (now (image .entry)) areas (now (pool .entry)) (now (table .entry)) s 64) ⌝ }
-    ensures { λ r. ⌜ now (out .exit) ≡ put writes (now (out .entry)) at (writesOf (now (image .entry)) areas (now (pool .entry)) (now (table .entry)) s 64) ⌝ }
+    to: Cursor,
+) -> Cursor
+    requires { ⌜ Readable (now image) (now pool) (now table) snapshot ⌝ }
+    requires { ⌜ Room to (now out) (writesOf (now image) (now pool) (now table) snapshot) ⌝ }
+    ensures { λ r. ⌜ placed r (now (out .exit)) ≡ put to (now (out .entry))
+        (writesOf (now (image .entry)) (now (pool .entry)) (now (table .entry)) snapshot) ⌝ }
 {
-    let mut n = at;
-    for i in 0..64u8 {
-        n = put_page(pool, table, image, out, n, s, areas, PageNo(i), writes);
+    let areas = snapshot.areas;
+    let mut next = to;
+    for i in 0..Areas::PAGES {
+        let number = PageNo(i);
+        let slot = areas.slot(number);
+        let page = Page {
+            sandbox: snapshot.sandbox,
+            number: number,
+            slot: slot,
+        };
+        next = put_page(pool, table, image, page, out, next);
     }
-    n
+    next
 }
 
-// One page. Without a back it has its backing's bytes, and nothing is looked at.
+// A page of the snapshot: whose it is, its number, and what stands there.
+struct Page {
+    sandbox: u8,
+    number: PageNo,
+    slot: Slot,
+}
+
+// One page. Without a back it has its backing's bytes, and none is looked at.
 fn put_page(
     pool: &[u8],
     table: &[u16],
     image: &[u8],
+    page: Page,
     out: &mut [u8],
-    at: u32,
-    s: u8,
-    areas: Areas,
-    page: PageNo,
-    writes: bool,
-) -> u32
-    requires { ⌜ at ≤ 50000 ⌝ }
-    requires { ⌜ s < 4 ⌝ }
-    requires { ⌜ page .0 < 64 ⌝ }
-    requires { ⌜ Near (areas .list) ⌝ }
+    to: Cursor,
+) -> Cursor
+    requires { ⌜ page .sandbox < 4 ⌝ }
+    requires { ⌜ page .number .0 < 64 ⌝ }
     requires { ⌜ Ranged 256 (now pool) (now table) ⌝ }
-    requires { ⌜ sourceEnd (sourceOf (backingAt (slots areas (page .0)))) * 256 ≤ length (now image) ⌝ }
-    requires { ⌜ Room writes (now out) at (length (pageLines (now image) areas (now pool) (now table) s (page .0))) ⌝ }
-    ensures { λ r. ⌜ r ≡ at + length (pageLines (now (image .entry)) areas (now (pool .entry)) (now (table .entry)) s (page .0)) ⌝ }
-    ensures { λ r. ⌜ now (out .exit) ≡ put writes (now (out .entry)) at (pageLines (now (image .entry)) areas (now (pool .entry)) (now (table .entry)) s (page .0)) ⌝ }
+    requires { ⌜ sourceEnd (sourceOf (backingAt (page .slot))) * 256 ≤ length (now image) ⌝ }
+    requires { ⌜ Room to (now out) (pageLines (now image) (now pool) (now table) (page .sandbox) (page .number .0) (page .slot)) ⌝ }
+    ensures { λ r. ⌜ placed r (now (out .exit)) ≡ put to (now (out .entry))
+        (pageLines (now (image .entry)) (now (pool .entry)) (now (table .entry)) (page .sandbox) (page .number .0) (page .slot)) ⌝ }
 {
-    let back = table::entry::back(table, s, page);
+    let number = page.number;
+    let back = table::entry::back(table, page.sandbox, number);
     if back == 0 {
-        return at;
+        return to;
     }
-    let slot = areas.slot(page);
+    let slot = page.slot;
     if !is_mapped(slot) {
-        return at;
+        return to;
     }
-    put_bytes(
-        pool,
-        image,
-        out,
-        at,
-        s,
-        page,
-        backing_at(slot),
-        (back - 1) as u8,
-        writes,
-    )
+    put_bytes(pool, image, page, frame_of(back), out, to)
 }
 
-// The bytes of a frame, beside those of the backing.
+// The bytes of a page's frame, beside those of its backing.
 fn put_bytes(
     pool: &[u8],
     image: &[u8],
+    page: Page,
+    f: FrameNo,
     out: &mut [u8],
-    at: u32,
-    s: u8,
-    page: PageNo,
-    backing: Backing,
-    f: u8,
-    writes: bool,
-) -> u32
-    requires { ⌜ at ≤ 60000 ⌝ }
-    requires { ⌜ s < 4 ⌝ }
-    requires { ⌜ page .0 < 64 ⌝ }
-    requires { ⌜ f * 256 + 256 ≤ length (now pool) ⌝ }
-    requires { ⌜ sourceEnd (sourceOf backing) * 256 ≤ length (now image) ⌝ }
-    requires { ⌜ Room writes (now out) at (length (bytesOf (now image) backing s (page .0) (frame 256 (now pool) f) 256)) ⌝ }
-    ensures { λ r. ⌜ r ≡ at + length (bytesOf (now (image .entry)) backing s (page .0) (frame 256 (now (pool .entry)) f) 256) ⌝ }
-    ensures { λ r. ⌜ now (out .exit) ≡ put writes (now (out .entry)) at (bytesOf (now (image .entry)) backing s (page .0) (frame 256 (now (pool .entry)) f) 256) ⌝ }
+    to: Cursor,
+) -> Cursor
+    requires { ⌜ f .0 * 256 + 256 ≤ length (now pool) ⌝ }
+    requires { ⌜ sourceEnd (sourceOf (backingAt (page .slot))) * 256 ≤ length (now image) ⌝ }
+    requires { ⌜ Room to (now out) (bytesOf (now image) (page .sandbox) (page .number .0) (page .slot) (frame 256 (now pool) (f .0))) ⌝ }
+    ensures { λ r. ⌜ placed r (now (out .exit)) ≡ put to (now (out .entry))
+        (bytesOf (now (image .entry)) (page .sandbox) (page .number .0) (page .slot) (frame 256 (now (pool .entry)) (f .0))) ⌝ }
 {
-    let start = f as usize * 256;
-    let mut n = at;
-    for j in 0..256u16 {
-        let place = start + j as usize;
-        let byte = pool[place];
-        let old = source_byte(image, backing, j);
-        n = put_if(out, n, write_line(s, page, j, byte), byte != old, writes);
+    let slot = page.slot;
+    let backing = backing_at(slot);
+    let mut next = to;
+    for j in 0..PageNo::BYTES {
+        let offset = j as u8;
+        let byte = pool::read_byte(pool, f, offset);
+        let old = source_byte(image, backing, offset);
+        next = put_if(out, next, write_line(page, offset, byte), byte != old);
     }
-    n
+    next
 }
 
-fn write_line(s: u8, page: PageNo, j: u16, byte: u8) -> Request
-    requires { ⌜ page .0 < 64 ⌝ }
-    requires { ⌜ j < 256 ⌝ }
-    ensures { λ r. ⌜ r ≡ requestOf Write s (page .0 * 256 + j) byte 0 0 0 ⌝ }
+// The write of one byte of a page.
+fn write_line(page: Page, offset: u8, byte: u8) -> Request
+    ensures { λ r. ⌜ r ≡ requestOf Write (page .sandbox) (page .number .0 * 256 + offset) byte 0 0 0 ⌝ }
 {
     Request {
-        code: 6,
-        sandbox: s as u16,
-        p1: page.0 as u16 * 256 + j,
+        code: Request::WRITE,
+        sandbox: page.sandbox as u16,
+        p1: page.number.0 as u16 * PageNo::BYTES as u16 + offset as u16,
         p2: byte as u16,
         p3: 0,
         p4: 0,
@@ -139,15 +132,14 @@ fn write_line(s: u8, page: PageNo, j: u16, byte: u8) -> Request
 }
 
 // "its page's zero or image byte"
-fn source_byte(image: &[u8], backing: Backing, j: u16) -> u8
-    requires { ⌜ j < 256 ⌝ }
+fn source_byte(image: &[u8], backing: Backing, offset: u8) -> u8
     requires { ⌜ sourceEnd (sourceOf backing) * 256 ≤ length (now image) ⌝ }
-    ensures { λ r. ⌜ r ≡ backingByte (now (image .entry)) backing j ⌝ }
+    ensures { λ r. ⌜ r ≡ backingByte (now (image .entry)) backing offset ⌝ }
 {
     match backing {
         Backing::Anonymous => 0,
         Backing::Image(page) => {
-            let place = page.0 as usize * 256 + j as usize;
+            let place = page.0 as usize * PageNo::BYTES + offset as usize;
             image[place]
         }
     }

@@ -92,7 +92,7 @@ module _ (image : List ℕ) (h : Handed) where
       no-three e = omega arith
 
 module _ (image : List ℕ) (h : Handed) (ok : startNumber image h ≡ 0) where
-  lent : Lent (givenBy image h)
+  pub lent : Lent (givenBy image h)
   unfolding lengths
   lent = claim-start (h .pool) (h .table) image (accepted image h ok .0) .0
 

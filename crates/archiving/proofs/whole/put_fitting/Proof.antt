@@ -1,49 +1,58 @@
-use Rattle.archiving.proofs.FittingLaws.{too-long, fits-room, fits-in}
+-- The roll counted, and then written where it fits.
+use Prim.Native.Nat.{_≤_}
+use mathlib.Core.List.{List}
+use lib.ListN.{length}
+use Rattle.interface.specs.declared.request.Request.{Request}
 use Rattle.archiving.specs.Whole.{rollOf}
-use mathlib.Core.Bool.{false≢true}
+use Rattle.archiving.proofs.WholeLaws.{roll-most, count-room, too-long, fits-room, fits-in}
 use borrow.Author.Needs.{needs}
 use Rattle.archiving.proofs.whole.put_fitting.Statement.{statement}
 use Rattle.archiving.proofs.whole.put_fitting.Tie as tie
 
--- src/whole.rt:88:9
+abbrev roll : tie.Start → List Request
+roll c = rollOf (c .args .image .now) (c .args .pool .now) (c .args .table .now) (c .args .snapshot)
+
+most : (c : tie.Start) → length (roll c) ≤ 16402
+most c = roll-most (c .args .image .now) (c .args .pool .now) (c .args .table .now) (c .args .snapshot)
+
 put-roll-requires : tie.Need-put-roll-requires
 put-roll-requires c κs =
-    let s = c .before .before .before .before .before in
-    (s .pre .0, (s .pre .1 .0, (s .pre .1 .1 .0, (s .pre .1 .1 .1, λ e. absurd (false≢true e)))))
+    let start = c .before .before .before .before .before in
+    (start .pre, count-room (start .args .out .now) (roll start) (most start))
 
--- src/whole.rt:89:20
 cast-if1 : tie.Need-cast-if1
 cast-if1 c = search needs
 
--- src/whole.rt:89:20
 mul-if1 : tie.Need-mul-if1
 mul-if1 c = search needs
 
--- src/whole.rt:90:9
 same-length : tie.Need-same-length
 same-length c = search needs
 
--- src/whole.rt:90:9
 returns : tie.Need-returns
 returns c =
-    let s = c .before .before .before .before .before .before .before .before .before in
-    too-long (s .args .out .now) (c .before .before .before .put-roll .last .1 .1 .1 .0) (c .before .before .before .put-roll .result) (rollOf (s .args .image .now) (s .args .areas) (s .args .pool .now) (s .args .table .now) (s .args .s) (s .args .share)) (c .before .before .before .put-roll .ensures .0) (c .before .before .before .put-roll .ensures .1) (c .if1 .taken)
+    let start = c .before .before .before .before .before .before .before .before .before in
+    let counted = c .before .before .before .put-roll in
+    too-long (start .args .out .now) (counted .last .1 .1 .1 .1 .0) (counted .result) (roll start) (counted .ensures) (c .if1 .taken)
 
--- src/whole.rt:92:5
 put-roll-requires-2 : tie.Need-put-roll-requires-2
 put-roll-requires-2 c κs =
-    let s = c .before .before .before .before .before .before .before .before .before .before in
-    (s .pre .0, (s .pre .1 .0, (s .pre .1 .1 .0, (s .pre .1 .1 .1, fits-room (s .args .out .now) (c .before .before .before .before .put-roll .last .1 .1 .1 .0) (c .before .before .before .before .put-roll .result) (rollOf (s .args .image .now) (s .args .areas) (s .args .pool .now) (s .args .table .now) (s .args .s) (s .args .share)) (c .before .before .before .before .put-roll .ensures .0) (c .before .before .before .before .put-roll .ensures .1) (c .before .if1 .left)))))
+    let start = c .before .before .before .before .before .before .before .before .before .before in
+    let counted = c .before .before .before .before .put-roll in (
+      start .pre,
+      fits-room (start .args .out .now) (counted .last .1 .1 .1 .1 .0) (counted .result) (roll start) (counted .ensures) (c .before .if1 .left) (most start),
+    )
 
--- src/whole.rt:72:1
 same-length-2 : tie.Need-same-length-2
 same-length-2 c = search needs
 
--- src/whole.rt:72:1
 returns-2 : tie.Need-returns-2
 returns-2 c =
-    let s = c .before .before .before .before .before .before .before .before .before .before .before .before .before in
-    fits-in (s .args .out .now) (c .before .before .before .before .before .before .before .put-roll .last .1 .1 .1 .0) (c .before .before .before .before .before .before .before .put-roll .result) (rollOf (s .args .image .now) (s .args .areas) (s .args .pool .now) (s .args .table .now) (s .args .s) (s .args .share)) (c .before .before .before .before .before .before .before .put-roll .ensures .0) (c .before .before .before .before .before .before .before .put-roll .ensures .1) (c .before .before .before .before .if1 .left) (c .before .before .put-roll2 .last .1 .1 .1 .0) (c .before .before .put-roll2 .ensures .1)
+    let start = c .before .before .before .before .before .before .before .before .before .before .before .before .before in
+    let counted = c .before .before .before .before .before .before .before .put-roll in
+    let written = c .before .before .put-roll2 in
+    fits-in (start .args .out .now) (counted .last .1 .1 .1 .1 .0) (counted .result) (roll start) (counted .ensures)
+    (c .before .before .before .before .if1 .left) (written .result) (written .last .1 .1 .1 .1 .0) (written .ensures)
 
 pub put-fitting-spec : {M : Type 1} → statement M
 put-fitting-spec =

@@ -1,84 +1,180 @@
-use Rattle.archiving.proofs.WholeLaws.{at-room, at-next, part1, part2, part3, part4, room1, room2, room3, room4, room5, most2, most3, most4, at1, at5}
-use Rattle.segments.specs.ByPages.{writesOf}
+-- The roll put: what stands in the output behind each segment, and room for the next.
+use Prim.Native.Nat.{ℕ}
+use mathlib.Core.Path.{_≡_, ap, _∙_}
+use mathlib.Core.List.{List, [], _∷_, _++_}
+use Rattle.interface.specs.declared.request.Request.{Request}
+use Rattle.archive.specs.Archive.{opening, closing}
+use Rattle.printing.specs.declared.Cursor.{Cursor}
+use Rattle.printing.specs.Put.{placed, put, Room}
+use Rattle.printing.proofs.PutLaws.{next-room, next-put}
 use Rattle.segments.specs.ByAreas.{mapsOf, protectsOf}
-use Rattle.archive.specs.Archive.{closing}
-use native.Mathlib.Omega.{arith}
+use Rattle.segments.specs.ByPages.{writesOf}
+use Rattle.archiving.specs.Whole.{toMaps, toWrites, toProtects, rollOf}
+use Rattle.archiving.proofs.WholeLaws.{room-open, room-maps, room-writes, room-protects, room-roll, whole}
 use borrow.Author.Needs.{needs}
 use Rattle.archiving.proofs.whole.put_roll.Statement.{statement}
 use Rattle.archiving.proofs.whole.put_roll.Tie as tie
 
--- src/whole.rt:39:35
-bare-line-requires : tie.Need-bare-line-requires
-bare-line-requires c κs = search needs
+-- what is put
 
--- src/whole.rt:39:9
+abbrev start : tie.Start → List Request
+start s = opening (s .args .snapshot .sandbox) (s .args .snapshot .share)
+
+abbrev writes : tie.Start → List Request
+writes s = writesOf (s .args .image .now) (s .args .pool .now) (s .args .table .now) (s .args .snapshot)
+
+abbrev untilWrites : tie.Start → List Request
+untilWrites s = toWrites (s .args .image .now) (s .args .pool .now) (s .args .table .now) (s .args .snapshot)
+
+abbrev untilProtects : tie.Start → List Request
+untilProtects s = toProtects (s .args .image .now) (s .args .pool .now) (s .args .table .now) (s .args .snapshot)
+
+-- where it is put
+
+abbrev to : tie.Start → Cursor
+to s = s .args .to
+
+abbrev out : tie.Start → List ℕ
+out s = s .args .out .now
+
+-- behind each segment
+
+module _ (s : tie.Start) where
+  abbrev room : Room (to s) (out s) (rollOf (s .args .image .now) (s .args .pool .now) (s .args .table .now) (s .args .snapshot))
+  room = s .pre .1
+
+  starts : Room (to s) (out s) (start s)
+  starts = room-open (s .args .image .now) (s .args .pool .now) (s .args .table .now) (s .args .snapshot) (to s) (out s) room
+
+  maps : Room (to s) (out s) (toMaps (s .args .snapshot))
+  maps = room-maps (s .args .image .now) (s .args .pool .now) (s .args .table .now) (s .args .snapshot) (to s) (out s) room
+
+  written : Room (to s) (out s) (untilWrites s)
+  written = room-writes (s .args .image .now) (s .args .pool .now) (s .args .table .now) (s .args .snapshot) (to s) (out s) room
+
+  protected : Room (to s) (out s) (untilProtects s)
+  protected = room-protects (s .args .image .now) (s .args .pool .now) (s .args .table .now) (s .args .snapshot) (to s) (out s) room
+
+  all : Room (to s) (out s) (untilProtects s ++ closing (s .args .snapshot .sandbox))
+  all = room-roll (s .args .image .now) (s .args .pool .now) (s .args .table .now) (s .args .snapshot) (to s) (out s) room
+
+-- what stands behind each segment
+
+abbrev behindOpen : tie.After-put-maps-arg → tie.Start
+behindOpen c = c .before .before .before .before .before .before .before .before .before .before .before
+
+opened : (c : tie.After-put-maps-arg) → let s = behindOpen c in
+    let line = c .before .before .before .put-line in
+    placed (line .result) (line .last .0) ≡ put (to s) (out s) (start s)
+opened c =
+    let s = behindOpen c in
+    let first = c .before .before .before .before .before .before .line in
+    c .before .before .before .put-line .ensures ∙ ap (λ (q : Request). put (to s) (out s) (q ∷ [])) (first .ensures)
+
+abbrev behindMaps : tie.After-put-writes-arg → tie.Start
+behindMaps c = behindOpen (c .before .before .before .before)
+
+mapped : (c : tie.After-put-writes-arg) → let s = behindMaps c in
+    let lines = c .before .before .before .put-maps in
+    placed (lines .result) (lines .last .1 .0) ≡ put (to s) (out s) (toMaps (s .args .snapshot))
+mapped c =
+    let before = c .before .before .before .before in
+    let s = behindMaps c in
+    let line = before .before .before .before .put-line in
+    let lines = c .before .before .before .put-maps in
+    next-put (to s) (line .result) (out s) (line .last .0) (start s) (mapsOf (s .args .snapshot)) (maps s) (opened before)
+    (lines .result) (lines .last .1 .0) (lines .ensures)
+
+abbrev behindWrites : tie.After-put-protects-arg → tie.Start
+behindWrites c = behindMaps (c .before .before .before .before)
+
+wrote : (c : tie.After-put-protects-arg) → let s = behindWrites c in
+    let lines = c .before .before .before .put-writes in
+    placed (lines .result) (lines .last .1 .1 .1 .1 .0) ≡ put (to s) (out s) (untilWrites s)
+wrote c =
+    let before = c .before .before .before .before in
+    let s = behindWrites c in
+    let last = before .before .before .before .put-maps in
+    let lines = c .before .before .before .put-writes in
+    next-put (to s) (last .result) (out s) (last .last .1 .0) (toMaps (s .args .snapshot)) (writes s) (written s) (mapped before)
+    (lines .result) (lines .last .1 .1 .1 .1 .0) (lines .ensures)
+
+abbrev behindProtects : tie.After-put-line-arg2 → tie.Start
+behindProtects c = behindWrites (c .before .before .before .before)
+
+locked : (c : tie.After-put-line-arg2) → let s = behindProtects c in
+    let lines = c .before .before .before .put-protects in
+    placed (lines .result) (lines .last .1 .0) ≡ put (to s) (out s) (untilProtects s)
+locked c =
+    let before = c .before .before .before .before in
+    let s = behindProtects c in
+    let last = before .before .before .before .put-writes in
+    let lines = c .before .before .before .put-protects in
+    next-put (to s) (last .result) (out s) (last .last .1 .1 .1 .1 .0) (untilWrites s) (protectsOf (s .args .snapshot)) (protected s) (wrote before)
+    (lines .result) (lines .last .1 .0) (lines .ensures)
+
+-- the needs
+
+line-requires : tie.Need-line-requires
+line-requires c κs = search needs
+
+line-requires-2 : tie.Need-line-requires-2
+line-requires-2 c κs = search needs
+
 put-line-requires : tie.Need-put-line-requires
-put-line-requires c κs =
-    let s = c .before .before .before .before .before .before in
-    (omega arith, room1 (s .args .image .now) (s .args .areas) (s .args .pool .now) (s .args .table .now) (s .args .s) (s .args .share) (s .args .writes) (s .args .out .now) (s .pre .1 .1 .1 .1))
+put-line-requires c κs = rw (c .before .before .line .ensures) (starts (c .before .before .before .before .before .before .before))
 
--- src/whole.rt:40:9
 put-maps-requires : tie.Need-put-maps-requires
 put-maps-requires c κs =
-    let s = c .before .before .before .before .before .before .before .before .before .before in
-    let a1 = at1 (s .args .image .now) (s .args .areas) (s .args .pool .now) (s .args .table .now) (s .args .s) (s .args .share) (s .args .writes) (s .args .out .now) (s .pre .1 .1 .1 .1) (c .before .before .before .before .bare-line .result) (c .before .before .before .put-line .result) (c .before .before .before .put-line .last .0) (c .before .before .before .before .bare-line .ensures) (c .before .before .before .put-line .ensures .0) (c .before .before .before .put-line .ensures .1) in
-    (omega (arith, c .before .before .before .put-line .ensures .0), at-room (s .args .writes) (s .args .out .now) (c .before .before .before .put-line .last .0) (c .before .before .before .put-line .result) (part1 (s .args .image .now) (s .args .areas) (s .args .pool .now) (s .args .table .now) (s .args .s) (s .args .share) (s .args .writes) (s .args .out .now) (s .pre .1 .1 .1 .1)) (mapsOf (s .args .s) (s .args .areas) 8) (room2 (s .args .image .now) (s .args .areas) (s .args .pool .now) (s .args .table .now) (s .args .s) (s .args .share) (s .args .writes) (s .args .out .now) (s .pre .1 .1 .1 .1)) a1)
+    let s = behindOpen c in
+    let line = c .before .before .before .put-line in
+    next-room (to s) (line .result) (out s) (line .last .0) (start s) (mapsOf (s .args .snapshot)) (maps s) (opened c)
 
--- src/whole.rt:41:9
 put-writes-requires : tie.Need-put-writes-requires
 put-writes-requires c κs =
-    let s = c .before .before .before .before .before .before .before .before .before .before .before .before .before .before in
-    let a1 = at1 (s .args .image .now) (s .args .areas) (s .args .pool .now) (s .args .table .now) (s .args .s) (s .args .share) (s .args .writes) (s .args .out .now) (s .pre .1 .1 .1 .1) (c .before .before .before .before .before .before .before .before .bare-line .result) (c .before .before .before .before .before .before .before .put-line .result) (c .before .before .before .before .before .before .before .put-line .last .0) (c .before .before .before .before .before .before .before .before .bare-line .ensures) (c .before .before .before .before .before .before .before .put-line .ensures .0) (c .before .before .before .before .before .before .before .put-line .ensures .1) in
-    let a2 = at-next (s .args .writes) (s .args .out .now) (c .before .before .before .before .before .before .before .put-line .last .0) (c .before .before .before .before .before .before .before .put-line .result) (part1 (s .args .image .now) (s .args .areas) (s .args .pool .now) (s .args .table .now) (s .args .s) (s .args .share) (s .args .writes) (s .args .out .now) (s .pre .1 .1 .1 .1)) (mapsOf (s .args .s) (s .args .areas) 8) (room2 (s .args .image .now) (s .args .areas) (s .args .pool .now) (s .args .table .now) (s .args .s) (s .args .share) (s .args .writes) (s .args .out .now) (s .pre .1 .1 .1 .1)) a1 (c .before .before .before .put-maps .result) (c .before .before .before .put-maps .last .0) (c .before .before .before .put-maps .ensures .0) (c .before .before .before .put-maps .ensures .1) in
-    (omega (arith, a2 .line, most2 (s .args .image .now) (s .args .areas) (s .args .pool .now) (s .args .table .now) (s .args .s) (s .args .share) (s .args .writes) (s .args .out .now) (s .pre .1 .1 .1 .1)), (s .pre .0, (s .pre .1 .0, (s .pre .1 .1 .0, (s .pre .1 .1 .1 .0, at-room (s .args .writes) (s .args .out .now) (c .before .before .before .put-maps .last .0) (c .before .before .before .put-maps .result) (part2 (s .args .image .now) (s .args .areas) (s .args .pool .now) (s .args .table .now) (s .args .s) (s .args .share) (s .args .writes) (s .args .out .now) (s .pre .1 .1 .1 .1)) (writesOf (s .args .image .now) (s .args .areas) (s .args .pool .now) (s .args .table .now) (s .args .s) 64) (room3 (s .args .image .now) (s .args .areas) (s .args .pool .now) (s .args .table .now) (s .args .s) (s .args .share) (s .args .writes) (s .args .out .now) (s .pre .1 .1 .1 .1)) a2)))))
+    let s = behindMaps c in
+    let last = c .before .before .before .put-maps in
+    (s .pre .0, next-room (to s) (last .result) (out s) (last .last .1 .0) (toMaps (s .args .snapshot)) (writes s) (written s) (mapped c))
 
--- src/whole.rt:42:9
 put-protects-requires : tie.Need-put-protects-requires
 put-protects-requires c κs =
-    let s = c .before .before .before .before .before .before .before .before .before .before .before .before .before .before .before .before .before .before in
-    let a1 = at1 (s .args .image .now) (s .args .areas) (s .args .pool .now) (s .args .table .now) (s .args .s) (s .args .share) (s .args .writes) (s .args .out .now) (s .pre .1 .1 .1 .1) (c .before .before .before .before .before .before .before .before .before .before .before .before .bare-line .result) (c .before .before .before .before .before .before .before .before .before .before .before .put-line .result) (c .before .before .before .before .before .before .before .before .before .before .before .put-line .last .0) (c .before .before .before .before .before .before .before .before .before .before .before .before .bare-line .ensures) (c .before .before .before .before .before .before .before .before .before .before .before .put-line .ensures .0) (c .before .before .before .before .before .before .before .before .before .before .before .put-line .ensures .1) in
-    let a2 = at-next (s .args .writes) (s .args .out .now) (c .before .before .before .before .before .before .before .before .before .before .before .put-line .last .0) (c .before .before .before .before .before .before .before .before .before .before .before .put-line .result) (part1 (s .args .image .now) (s .args .areas) (s .args .pool .now) (s .args .table .now) (s .args .s) (s .args .share) (s .args .writes) (s .args .out .now) (s .pre .1 .1 .1 .1)) (mapsOf (s .args .s) (s .args .areas) 8) (room2 (s .args .image .now) (s .args .areas) (s .args .pool .now) (s .args .table .now) (s .args .s) (s .args .share) (s .args .writes) (s .args .out .now) (s .pre .1 .1 .1 .1)) a1 (c .before .before .before .before .before .before .before .put-maps .result) (c .before .before .before .before .before .before .before .put-maps .last .0) (c .before .before .before .before .before .before .before .put-maps .ensures .0) (c .before .before .before .before .before .before .before .put-maps .ensures .1) in
-    let a3 = at-next (s .args .writes) (s .args .out .now) (c .before .before .before .before .before .before .before .put-maps .last .0) (c .before .before .before .before .before .before .before .put-maps .result) (part2 (s .args .image .now) (s .args .areas) (s .args .pool .now) (s .args .table .now) (s .args .s) (s .args .share) (s .args .writes) (s .args .out .now) (s .pre .1 .1 .1 .1)) (writesOf (s .args .image .now) (s .args .areas) (s .args .pool .now) (s .args .table .now) (s .args .s) 64) (room3 (s .args .image .now) (s .args .areas) (s .args .pool .now) (s .args .table .now) (s .args .s) (s .args .share) (s .args .writes) (s .args .out .now) (s .pre .1 .1 .1 .1)) a2 (c .before .before .before .put-writes .result) (c .before .before .before .put-writes .last .1 .1 .1 .0) (c .before .before .before .put-writes .ensures .0) (c .before .before .before .put-writes .ensures .1) in
-    (omega (arith, a3 .line, most3 (s .args .image .now) (s .args .areas) (s .args .pool .now) (s .args .table .now) (s .args .s) (s .args .share) (s .args .writes) (s .args .out .now) (s .pre .1 .1 .1 .1)), at-room (s .args .writes) (s .args .out .now) (c .before .before .before .put-writes .last .1 .1 .1 .0) (c .before .before .before .put-writes .result) (part3 (s .args .image .now) (s .args .areas) (s .args .pool .now) (s .args .table .now) (s .args .s) (s .args .share) (s .args .writes) (s .args .out .now) (s .pre .1 .1 .1 .1)) (protectsOf (s .args .s) (s .args .areas) 8) (room4 (s .args .image .now) (s .args .areas) (s .args .pool .now) (s .args .table .now) (s .args .s) (s .args .share) (s .args .writes) (s .args .out .now) (s .pre .1 .1 .1 .1)) a3)
+    let s = behindWrites c in
+    let last = c .before .before .before .put-writes in
+    next-room (to s) (last .result) (out s) (last .last .1 .1 .1 .1 .0) (untilWrites s) (protectsOf (s .args .snapshot)) (protected s) (wrote c)
 
--- src/whole.rt:43:30
-bare-line-requires-2 : tie.Need-bare-line-requires-2
-bare-line-requires-2 c κs = search needs
-
--- src/whole.rt:43:5
 put-line-requires-2 : tie.Need-put-line-requires-2
 put-line-requires-2 c κs =
-    let s = c .before .before .before .before .before .before .before .before .before .before .before .before .before .before .before .before .before .before .before .before .before .before .before in
-    let a1 = at1 (s .args .image .now) (s .args .areas) (s .args .pool .now) (s .args .table .now) (s .args .s) (s .args .share) (s .args .writes) (s .args .out .now) (s .pre .1 .1 .1 .1) (c .before .before .before .before .before .before .before .before .before .before .before .before .before .before .before .before .before .bare-line .result) (c .before .before .before .before .before .before .before .before .before .before .before .before .before .before .before .before .put-line .result) (c .before .before .before .before .before .before .before .before .before .before .before .before .before .before .before .before .put-line .last .0) (c .before .before .before .before .before .before .before .before .before .before .before .before .before .before .before .before .before .bare-line .ensures) (c .before .before .before .before .before .before .before .before .before .before .before .before .before .before .before .before .put-line .ensures .0) (c .before .before .before .before .before .before .before .before .before .before .before .before .before .before .before .before .put-line .ensures .1) in
-    let a2 = at-next (s .args .writes) (s .args .out .now) (c .before .before .before .before .before .before .before .before .before .before .before .before .before .before .before .before .put-line .last .0) (c .before .before .before .before .before .before .before .before .before .before .before .before .before .before .before .before .put-line .result) (part1 (s .args .image .now) (s .args .areas) (s .args .pool .now) (s .args .table .now) (s .args .s) (s .args .share) (s .args .writes) (s .args .out .now) (s .pre .1 .1 .1 .1)) (mapsOf (s .args .s) (s .args .areas) 8) (room2 (s .args .image .now) (s .args .areas) (s .args .pool .now) (s .args .table .now) (s .args .s) (s .args .share) (s .args .writes) (s .args .out .now) (s .pre .1 .1 .1 .1)) a1 (c .before .before .before .before .before .before .before .before .before .before .before .before .put-maps .result) (c .before .before .before .before .before .before .before .before .before .before .before .before .put-maps .last .0) (c .before .before .before .before .before .before .before .before .before .before .before .before .put-maps .ensures .0) (c .before .before .before .before .before .before .before .before .before .before .before .before .put-maps .ensures .1) in
-    let a3 = at-next (s .args .writes) (s .args .out .now) (c .before .before .before .before .before .before .before .before .before .before .before .before .put-maps .last .0) (c .before .before .before .before .before .before .before .before .before .before .before .before .put-maps .result) (part2 (s .args .image .now) (s .args .areas) (s .args .pool .now) (s .args .table .now) (s .args .s) (s .args .share) (s .args .writes) (s .args .out .now) (s .pre .1 .1 .1 .1)) (writesOf (s .args .image .now) (s .args .areas) (s .args .pool .now) (s .args .table .now) (s .args .s) 64) (room3 (s .args .image .now) (s .args .areas) (s .args .pool .now) (s .args .table .now) (s .args .s) (s .args .share) (s .args .writes) (s .args .out .now) (s .pre .1 .1 .1 .1)) a2 (c .before .before .before .before .before .before .before .before .put-writes .result) (c .before .before .before .before .before .before .before .before .put-writes .last .1 .1 .1 .0) (c .before .before .before .before .before .before .before .before .put-writes .ensures .0) (c .before .before .before .before .before .before .before .before .put-writes .ensures .1) in
-    let a4 = at-next (s .args .writes) (s .args .out .now) (c .before .before .before .before .before .before .before .before .put-writes .last .1 .1 .1 .0) (c .before .before .before .before .before .before .before .before .put-writes .result) (part3 (s .args .image .now) (s .args .areas) (s .args .pool .now) (s .args .table .now) (s .args .s) (s .args .share) (s .args .writes) (s .args .out .now) (s .pre .1 .1 .1 .1)) (protectsOf (s .args .s) (s .args .areas) 8) (room4 (s .args .image .now) (s .args .areas) (s .args .pool .now) (s .args .table .now) (s .args .s) (s .args .share) (s .args .writes) (s .args .out .now) (s .pre .1 .1 .1 .1)) a3 (c .before .before .before .before .put-protects .result) (c .before .before .before .before .put-protects .last .0) (c .before .before .before .before .put-protects .ensures .0) (c .before .before .before .before .put-protects .ensures .1) in
-    (omega (arith, a4 .line, most4 (s .args .image .now) (s .args .areas) (s .args .pool .now) (s .args .table .now) (s .args .s) (s .args .share) (s .args .writes) (s .args .out .now) (s .pre .1 .1 .1 .1)), at-room (s .args .writes) (s .args .out .now) (c .before .before .before .before .put-protects .last .0) (c .before .before .before .before .put-protects .result) (part4 (s .args .image .now) (s .args .areas) (s .args .pool .now) (s .args .table .now) (s .args .s) (s .args .share) (s .args .writes) (s .args .out .now) (s .pre .1 .1 .1 .1)) (closing (s .args .s)) (room5 (s .args .image .now) (s .args .areas) (s .args .pool .now) (s .args .table .now) (s .args .s) (s .args .share) (s .args .writes) (s .args .out .now) (s .pre .1 .1 .1 .1)) a4)
+    let s = behindProtects c in
+    let last = c .before .before .before .put-protects in
+    let first = c .before .before .before .before .before .before .before .before .before .before .before .before .before .before .before .before in
+    rw (first .before .line2 .ensures)
+    (next-room (to s) (last .result) (out s) (last .last .1 .0) (untilProtects s) (closing (s .args .snapshot .sandbox)) (all s) (locked c))
 
--- src/whole.rt:21:1
 same-length : tie.Need-same-length
 same-length c = search needs
 
--- src/whole.rt:21:1
 returns : tie.Need-returns
 returns c =
-    let s = c .before .before .before .before .before .before .before .before .before .before .before .before .before .before .before .before .before .before .before .before .before .before .before .before .before .before in
-    let a1 = at1 (s .args .image .now) (s .args .areas) (s .args .pool .now) (s .args .table .now) (s .args .s) (s .args .share) (s .args .writes) (s .args .out .now) (s .pre .1 .1 .1 .1) (c .before .before .before .before .before .before .before .before .before .before .before .before .before .before .before .before .before .before .before .before .bare-line .result) (c .before .before .before .before .before .before .before .before .before .before .before .before .before .before .before .before .before .before .before .put-line .result) (c .before .before .before .before .before .before .before .before .before .before .before .before .before .before .before .before .before .before .before .put-line .last .0) (c .before .before .before .before .before .before .before .before .before .before .before .before .before .before .before .before .before .before .before .before .bare-line .ensures) (c .before .before .before .before .before .before .before .before .before .before .before .before .before .before .before .before .before .before .before .put-line .ensures .0) (c .before .before .before .before .before .before .before .before .before .before .before .before .before .before .before .before .before .before .before .put-line .ensures .1) in
-    let a2 = at-next (s .args .writes) (s .args .out .now) (c .before .before .before .before .before .before .before .before .before .before .before .before .before .before .before .before .before .before .before .put-line .last .0) (c .before .before .before .before .before .before .before .before .before .before .before .before .before .before .before .before .before .before .before .put-line .result) (part1 (s .args .image .now) (s .args .areas) (s .args .pool .now) (s .args .table .now) (s .args .s) (s .args .share) (s .args .writes) (s .args .out .now) (s .pre .1 .1 .1 .1)) (mapsOf (s .args .s) (s .args .areas) 8) (room2 (s .args .image .now) (s .args .areas) (s .args .pool .now) (s .args .table .now) (s .args .s) (s .args .share) (s .args .writes) (s .args .out .now) (s .pre .1 .1 .1 .1)) a1 (c .before .before .before .before .before .before .before .before .before .before .before .before .before .before .before .put-maps .result) (c .before .before .before .before .before .before .before .before .before .before .before .before .before .before .before .put-maps .last .0) (c .before .before .before .before .before .before .before .before .before .before .before .before .before .before .before .put-maps .ensures .0) (c .before .before .before .before .before .before .before .before .before .before .before .before .before .before .before .put-maps .ensures .1) in
-    let a3 = at-next (s .args .writes) (s .args .out .now) (c .before .before .before .before .before .before .before .before .before .before .before .before .before .before .before .put-maps .last .0) (c .before .before .before .before .before .before .before .before .before .before .before .before .before .before .before .put-maps .result) (part2 (s .args .image .now) (s .args .areas) (s .args .pool .now) (s .args .table .now) (s .args .s) (s .args .share) (s .args .writes) (s .args .out .now) (s .pre .1 .1 .1 .1)) (writesOf (s .args .image .now) (s .args .areas) (s .args .pool .now) (s .args .table .now) (s .args .s) 64) (room3 (s .args .image .now) (s .args .areas) (s .args .pool .now) (s .args .table .now) (s .args .s) (s .args .share) (s .args .writes) (s .args .out .now) (s .pre .1 .1 .1 .1)) a2 (c .before .before .before .before .before .before .before .before .before .before .before .put-writes .result) (c .before .before .before .before .before .before .before .before .before .before .before .put-writes .last .1 .1 .1 .0) (c .before .before .before .before .before .before .before .before .before .before .before .put-writes .ensures .0) (c .before .before .before .before .before .before .before .before .before .before .before .put-writes .ensures .1) in
-    let a4 = at-next (s .args .writes) (s .args .out .now) (c .before .before .before .before .before .before .before .before .before .before .before .put-writes .last .1 .1 .1 .0) (c .before .before .before .before .before .before .before .before .before .before .before .put-writes .result) (part3 (s .args .image .now) (s .args .areas) (s .args .pool .now) (s .args .table .now) (s .args .s) (s .args .share) (s .args .writes) (s .args .out .now) (s .pre .1 .1 .1 .1)) (protectsOf (s .args .s) (s .args .areas) 8) (room4 (s .args .image .now) (s .args .areas) (s .args .pool .now) (s .args .table .now) (s .args .s) (s .args .share) (s .args .writes) (s .args .out .now) (s .pre .1 .1 .1 .1)) a3 (c .before .before .before .before .before .before .before .put-protects .result) (c .before .before .before .before .before .before .before .put-protects .last .0) (c .before .before .before .before .before .before .before .put-protects .ensures .0) (c .before .before .before .before .before .before .before .put-protects .ensures .1) in
-    at5 (s .args .image .now) (s .args .areas) (s .args .pool .now) (s .args .table .now) (s .args .s) (s .args .share) (s .args .writes) (s .args .out .now) (s .pre .1 .1 .1 .1) (c .before .before .before .bare-line2 .result) (c .before .before .before .before .before .before .before .put-protects .result) (c .before .before .put-line2 .result) (c .before .before .before .before .before .before .before .put-protects .last .0) (c .before .before .put-line2 .last .0) a4 (c .before .before .before .bare-line2 .ensures) (c .before .before .put-line2 .ensures .0) (c .before .before .put-line2 .ensures .1)
+    let before = c .before .before .before in
+    let s = behindProtects before in
+    let last = before .before .before .before .put-protects in
+    let closed = c .before .before .put-line2 in
+    let first = before .before .before .before .before .before .before .before .before .before .before .before .before .before .before .before .before in
+    next-put (to s) (last .result) (out s) (last .last .1 .0) (untilProtects s) (closing (s .args .snapshot .sandbox)) (all s) (locked before)
+    (closed .result) (closed .last .0)
+    (closed .ensures ∙ ap (λ (q : Request). put (last .result) (last .last .1 .0) (q ∷ [])) (first .before .line2 .ensures))
+    ∙ whole (s .args .image .now) (s .args .pool .now) (s .args .table .now) (s .args .snapshot) (to s) (out s)
 
 pub put-roll-spec : {M : Type 1} → statement M
 put-roll-spec =
     tie.close
     (tie.spec
-    bare-line-requires
+    line-requires
+    line-requires-2
     put-line-requires
     put-maps-requires
     put-writes-requires
     put-protects-requires
-    bare-line-requires-2
     put-line-requires-2
     same-length
     returns)

@@ -1,49 +1,41 @@
-use Rattle.printing.proofs.PutLaws.{pair-printed}
+-- Two fields printed side by side.
+use Rattle.printing.proofs.RequestLaws.{pair-printed}
 use borrow.Author.Needs.{needs}
-use Rattle.printing.proofs.line.print_pair.Statement.{statement}
-use Rattle.printing.proofs.line.print_pair.Tie as tie
+use Rattle.printing.proofs.print_pair.Statement.{statement}
+use Rattle.printing.proofs.print_pair.Tie as tie
 
--- src/line.rt:29:17
 sub-print-field : tie.Need-sub-print-field
 sub-print-field c = search needs
 
--- src/line.rt:29:17
 part-print-field-start : tie.Need-part-print-field-start
 part-print-field-start c = search needs
 
--- src/line.rt:29:17
 part-print-field-end : tie.Need-part-print-field-end
 part-print-field-end c = search needs
 
--- src/line.rt:29:5
 print-field-requires : tie.Need-print-field-requires
 print-field-requires c κs = search needs
 
--- src/line.rt:30:17
 sub-print-field-2 : tie.Need-sub-print-field-2
 sub-print-field-2 c = search needs
 
--- src/line.rt:30:17
 part-print-field-start-2 : tie.Need-part-print-field-start-2
 part-print-field-start-2 c = search needs
 
--- src/line.rt:30:17
 part-print-field-end-2 : tie.Need-part-print-field-end-2
 part-print-field-end-2 c = search needs
 
--- src/line.rt:30:5
 print-field-requires-2 : tie.Need-print-field-requires-2
 print-field-requires-2 c κs = search needs
 
--- src/line.rt:25:1
 same-length : tie.Need-same-length
 same-length c = search needs
 
--- src/line.rt:25:1
 returns : tie.Need-returns
 returns c =
     let start = c .before .before .before .before .before .before .before .before .before in
-    rw (c .before .before .before .before .before .before .print-field .ensures, c .before .before .print-field2 .ensures) (pair-printed (start .args .out .now) (start .args .a) (start .args .b) (start .pre))
+    rw (c .before .before .before .before .before .before .print-field .ensures, c .before .before .print-field2 .ensures)
+    (pair-printed (start .args .out .now) (start .args .a) (start .args .b) (start .pre))
 
 pub print-pair-spec : {M : Type 1} → statement M
 print-pair-spec =

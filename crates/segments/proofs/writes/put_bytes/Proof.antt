@@ -1,95 +1,89 @@
-use Rattle.printing.proofs.PutLaws.{put-start, put-end, turn-room, turn-leaves}
-use Rattle.segments.proofs.ByPagesLaws.{byte-line, bytes-most}
-use native.Mathlib.Omega.{arith}
-use mathlib.Core.Path.{refl}
-use borrow.Author.Needs.{needs}
-use mathlib.Core.Path.{_≡_}
-use Prim.Native.Nat.{_+_, _-_, _≤_}
-use lib.ListN.{length}
+-- The writes of a page with a back: a turn for each byte.
+use Prim.Native.Nat.{ℕ, _-_}
+use mathlib.Core.List.{List}
+use Rattle.interface.specs.declared.request.Request.{Request}
 use Rattle.pages.specs.Parts.{frame}
-use Rattle.printing.specs.Put.{put}
-use Rattle.segments.specs.ByPages.{byteLine, bytesOf}
+use Rattle.printing.proofs.PutLaws.{Turn, turn-first, turn-room, turn-next, turn-last}
+use Rattle.segments.specs.ByPages.{byteLine}
+use Rattle.segments.proofs.ByPagesLaws.{byte-line}
+use borrow.Author.Needs.{needs}
 use Rattle.segments.proofs.writes.put_bytes.Statement.{statement}
 use Rattle.segments.proofs.writes.put_bytes.Tie as tie
 
 abbrev Inv-loop : tie.InvT-loop
-Inv-loop pool image out₀ at s page backing f writes start n₀ j₀ out n j =
-    (j ≤ 256) × (length out ≡ length out₀) × (n ≡ at + length (bytesOf image backing s (page .0) (frame 256 pool f) j)) × (out ≡ put writes out₀ at (bytesOf image backing s (page .0) (frame 256 pool f) j))
+Inv-loop pool image page f out₀ backing next₀ j₀ out next j =
+    Turn next₀ next out₀ out (byteLine image (page .sandbox) (page .number .0) (page .slot) (frame 256 pool (f .0))) 256 j
 
 abbrev μ-loop : tie.MeasureT-loop
-μ-loop pool image out₀ at s page backing f writes start n₀ j₀ out n j = 256 - j
+μ-loop pool image page f out₀ backing next₀ j₀ out next j = 256 - j
 
--- src/writes.rt:105:17
-mul-start : tie.Need-mul-start Inv-loop μ-loop
-mul-start c = search needs
+abbrev lines : tie.Start Inv-loop μ-loop → ℕ → List Request
+lines c = let a = c .args in byteLine (a .image .now) (a .page .sandbox) (a .page .number .0) (a .page .slot) (frame 256 (a .pool .now) (a .f .0))
 
--- src/writes.rt:107:5
+backing-at-requires : tie.Need-backing-at-requires Inv-loop μ-loop
+backing-at-requires c κs = search needs
+
 loop-holds : tie.Need-loop-holds Inv-loop μ-loop
-loop-holds c =
-    let s = c .before .before .before in
-    let z = put-start (s .args .writes) (s .args .out .now) (s .args .at) (byteLine (s .args .image .now) (s .args .backing) (s .args .s) (s .args .page .0) (frame 256 (s .args .pool .now) (s .args .f))) in
-    (omega arith, refl, z .0, z .1)
+loop-holds c = let start = c .before .before .before .before in turn-first (start .args .to) (start .args .out .now) (lines start) 256
 
--- src/writes.rt:108:29
-cast-place : tie.Need-cast-place Inv-loop μ-loop
-cast-place c = search needs
+cast-offset : tie.Need-cast-offset Inv-loop μ-loop
+cast-offset c = search needs
 
--- src/writes.rt:108:21
-add-place : tie.Need-add-place Inv-loop μ-loop
-add-place c = search needs
+read-byte-requires : tie.Need-read-byte-requires Inv-loop μ-loop
+read-byte-requires c κs = search needs
 
--- src/writes.rt:109:20
-shared-slice-read-byte : tie.Need-shared-slice-read-byte Inv-loop μ-loop
-shared-slice-read-byte c = search needs
-
--- src/writes.rt:110:13
 source-byte-requires : tie.Need-source-byte-requires Inv-loop μ-loop
-source-byte-requires c κs = search needs
+source-byte-requires c κs =
+    let start = c .before .before .before .before .before .before .before in
+    rw (c .before .before .before .backing-at .ensures) (start .pre .1 .0)
 
--- src/writes.rt:111:28
 write-line-requires : tie.Need-write-line-requires Inv-loop μ-loop
 write-line-requires c κs = search needs
 
--- src/writes.rt:111:9
 put-if-requires : tie.Need-put-if-requires Inv-loop μ-loop
 put-if-requires c κs =
-    let s = c .before .before .before .before .before .before .before .before .before in
-    let l = c .before .before .before .before .before .loop in
-    let few = bytes-most (s .args .image .now) (s .args .backing) (s .args .s) (s .args .page .0) (frame 256 (s .args .pool .now) (s .args .f)) (l .j) in (
-      omega (arith, l .inv .0, l .inv .2, s .pre .0, few),
-      turn-room (s .args .writes) (s .args .out .now) (l .out) (s .args .at) (l .n) (l .j) 256 (byteLine (s .args .image .now) (s .args .backing) (s .args .s) (s .args .page .0) (frame 256 (s .args .pool .now) (s .args .f))) (s .pre .1 .1 .1 .1 .1) (c .before .before .before .before .loop-test .taken) (l .inv .1) (l .inv .2) _
-          (byte-line (s .args .image .now) (s .args .pool .now) (s .args .backing) (s .args .s) (s .args .page .0) (s .args .f) (l .j) _ _ (c .before .before .before .before .loop-test .taken) (c .before .before .source-byte .ensures) (c .write-line .ensures)),
-    )
+    let line = c .write-line in
+    let old = c .before .before .source-byte in
+    let read = c .before .before .before .read-byte in
+    let turn = c .before .before .before .before in
+    let l = turn .before .loop in
+    let backing = turn .before .before .backing-at in
+    let start = turn .before .before .before .before .before .before in
+    let a = start .args in
+    turn-room (a .to) (a .out .now) (lines start) 256 (start .pre .1 .1) (l .next) (l .out) (l .j) (l .inv) (turn .loop-test .taken) _
+    (byte-line (a .image .now) (a .page .sandbox) (a .page .number .0) (a .page .slot) (frame 256 (a .pool .now) (a .f .0)) (l .j)
+    (read .result) (old .result) (backing .result) _ (backing .ensures) (read .ensures) (old .ensures) (line .ensures))
 
--- src/writes.rt:107:9
 add-j : tie.Need-add-j Inv-loop μ-loop
 add-j c = search needs
 
--- src/writes.rt:107:5
 loop-less : tie.Need-loop-less Inv-loop μ-loop
 loop-less c = search needs
 
--- src/writes.rt:107:5
 loop-again : tie.Need-loop-again Inv-loop μ-loop
 loop-again c =
-    let s = c .before .before .before .before .before .before .before .before .before .before .before .before in
-    let l = c .before .before .before .before .before .before .before .before .loop in
-    let put-if = c .before .before .put-if in
-    let z = turn-leaves (s .args .writes) (s .args .out .now) (l .out) (s .args .at) (l .n) (l .j) 256 (byteLine (s .args .image .now) (s .args .backing) (s .args .s) (s .args .page .0) (frame 256 (s .args .pool .now) (s .args .f))) (s .pre .1 .1 .1 .1 .1) (c .before .before .before .before .before .before .before .loop-test .taken) (l .inv .1) (l .inv .2) _
-    (byte-line (s .args .image .now) (s .args .pool .now) (s .args .backing) (s .args .s) (s .args .page .0) (s .args .f) (l .j) _ _ (c .before .before .before .before .before .before .before .loop-test .taken) (c .before .before .before .before .before .source-byte .ensures) (c .before .before .before .write-line .ensures))
-    (put-if .result) (put-if .last .0) (l .inv .3) (put-if .ensures .0) (put-if .ensures .1) in
-    (omega (arith, c .before .before .before .before .before .before .before .loop-test .taken), z .0, z .1, z .2)
+    let put = c .before .before .put-if in
+    let line = c .before .before .before .write-line in
+    let old = c .before .before .before .before .before .source-byte in
+    let read = c .before .before .before .before .before .before .read-byte in
+    let turn = c .before .before .before .before .before .before .before in
+    let l = turn .before .loop in
+    let backing = turn .before .before .backing-at in
+    let start = turn .before .before .before .before .before .before in
+    let a = start .args in
+    turn-next (a .to) (a .out .now) (lines start) 256 (start .pre .1 .1) (l .next) (l .out) (l .j) (l .inv) (turn .loop-test .taken) _
+    (byte-line (a .image .now) (a .page .sandbox) (a .page .number .0) (a .page .slot) (frame 256 (a .pool .now) (a .f .0)) (l .j)
+    (read .result) (old .result) (backing .result) _ (backing .ensures) (read .ensures) (old .ensures) (line .ensures))
+    (put .result) (put .last .0) (put .ensures)
 
--- src/writes.rt:85:1
 same-length : tie.Need-same-length Inv-loop μ-loop
 same-length c = search needs
 
--- src/writes.rt:85:1
 returns : tie.Need-returns Inv-loop μ-loop
 returns c =
-    let s = c .before .before .before .before .before in
+    let start = c .before .before .before .before .before .before in
     let l = c .before .loop in
-    put-end (s .args .writes) (s .args .out .now) (l .out) (s .args .at) (l .n) (l .j) 256 (byteLine (s .args .image .now) (s .args .backing) (s .args .s) (s .args .page .0) (frame 256 (s .args .pool .now) (s .args .f))) (omega (arith, l .inv .0, c .loop-test .left)) (l .inv .2) (l .inv .3)
+    turn-last (start .args .to) (start .args .out .now) (lines start) 256 (l .next) (l .out) (l .j) (l .inv) (c .loop-test .left)
 
 pub put-bytes-spec : {M : Type 1} → statement M
 put-bytes-spec =
@@ -97,11 +91,10 @@ put-bytes-spec =
     (tie.spec
     Inv-loop
     μ-loop
-    mul-start
+    backing-at-requires
     loop-holds
-    cast-place
-    add-place
-    shared-slice-read-byte
+    cast-offset
+    read-byte-requires
     source-byte-requires
     write-line-requires
     put-if-requires

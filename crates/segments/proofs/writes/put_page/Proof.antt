@@ -1,86 +1,94 @@
-use Rattle.segments.proofs.ByPagesLaws.{unbacked-none, unmapped-none, lines-are}
-use Rattle.printing.proofs.PutLaws.{put-nothing, put-as, room-as}
-use Rattle.segments.specs.ByPages.{pageLines}
-use Rattle.table.specs.Store.{backOf}
-use Rattle.interface.specs.Slots.{isMapped}
-use borrow.Author.Tests.{not-false, not-true}
+-- The writes of a page: none without a back, else those of its back frame.
+use Prim.Native.Nat.{ℕ, _-_}
+use mathlib.Core.Path.{_≡_, sym, ap, _∙_}
+use mathlib.Core.Bool.{true, false}
+use mathlib.Core.List.{List}
 use native.Mathlib.Omega.{arith}
-use mathlib.Core.Path.{sym, ap, _∙_}
+use borrow.Author.Tests.{not-true, not-false}
+use Rattle.interface.specs.declared.request.Request.{Request}
+use Rattle.interface.specs.Slots.{isMapped}
+use Rattle.pages.specs.Parts.{frame}
+use Rattle.table.specs.Store.{backOf}
+use Rattle.printing.specs.Put.{put}
+use Rattle.printing.proofs.PutLaws.{put-nothing}
+use Rattle.segments.specs.ByPages.{bytesOf, pageLines}
+use Rattle.segments.proofs.ByPagesLaws.{unbacked-none, unmapped-none, backed-lines}
 use borrow.Author.Needs.{needs}
 use Rattle.segments.proofs.writes.put_page.Statement.{statement}
 use Rattle.segments.proofs.writes.put_page.Tie as tie
 
--- src/writes.rt:73:9
+abbrev lines : tie.Start → List Request
+lines c =
+    let a = c .args in
+    pageLines (a .image .now) (a .pool .now) (a .table .now) (a .page .sandbox) (a .page .number .0) (a .page .slot)
+
+-- behind the two tests
+
+abbrev behind : tie.Else2 → tie.Start
+behind c = c .before .before .before .before .before .before .before .before .before
+
+mapped : (c : tie.Else2) → isMapped (behind c .args .page .slot) ≡ true
+mapped c = let tested = c .before .is-mapped in sym (tested .ensures) ∙ not-false (tested .result) (c .if2 .left)
+
+same-lines : (c : tie.Else2) (f : ℕ) → f ≡ c .before .before .before .back .result - 1
+    → let a = behind c .args in
+    bytesOf (a .image .now) (a .page .sandbox) (a .page .number .0) (a .page .slot) (frame 256 (a .pool .now) f) ≡ lines (behind c)
+same-lines c f e =
+    let a = behind c .args in
+    let back = c .before .before .before .back in
+    backed-lines (a .image .now) (a .pool .now) (a .table .now) (a .page .sandbox) (a .page .number .0) (a .page .slot) (back .result) f
+    (mapped c) (back .ensures) (omega (arith, c .before .before .if1 .left)) e
+
 back-requires : tie.Need-back-requires
 back-requires c κs = search needs
 
--- src/writes.rt:75:9
 returns : tie.Need-returns
 returns c =
-    let s = c .before .before .before .before .before .before in
-    put-nothing (s .args .writes) (s .args .out .now) (s .args .at) _ (unbacked-none (s .args .image .now) (s .args .areas) (s .args .pool .now) (s .args .table .now) (s .args .s) (s .args .page .0) (sym (c .before .back .ensures) ∙ c .if1 .taken))
+    let start = c .before .before .before .before .before .before .before in
+    let a = start .args in
+    put-nothing (a .to) (a .out .now) (lines start)
+    (unbacked-none (a .image .now) (a .pool .now) (a .table .now) (a .page .sandbox) (a .page .number .0) (a .page .slot)
+    (sym (c .before .back .ensures) ∙ c .if1 .taken))
 
--- src/writes.rt:77:9
-slot-requires : tie.Need-slot-requires
-slot-requires c κs = search needs
-
--- src/writes.rt:78:9
 is-mapped-requires : tie.Need-is-mapped-requires
 is-mapped-requires c κs = search needs
 
--- src/writes.rt:79:9
 returns-2 : tie.Need-returns-2
 returns-2 c =
-    let s = c .before .before .before .before .before .before .before .before .before in
-    put-nothing (s .args .writes) (s .args .out .now) (s .args .at) _
-    (unmapped-none (s .args .image .now) (s .args .areas) (s .args .pool .now) (s .args .table .now) (s .args .s) (s .args .page .0) (ap isMapped (sym (c .before .before .slot .ensures)) ∙ sym (c .before .is-mapped .ensures) ∙ not-true _ (c .if2 .taken)))
+    let start = c .before .before .before .before .before .before .before .before .before in
+    let a = start .args in
+    let tested = c .before .is-mapped in
+    put-nothing (a .to) (a .out .now) (lines start)
+    (unmapped-none (a .image .now) (a .pool .now) (a .table .now) (a .page .sandbox) (a .page .number .0) (a .page .slot)
+    (sym (tested .ensures) ∙ not-true (tested .result) (c .if2 .taken)))
 
--- src/writes.rt:81:46
-backing-at-requires : tie.Need-backing-at-requires
-backing-at-requires c κs = search needs
+frame-of-requires : tie.Need-frame-of-requires
+frame-of-requires c κs =
+    let start = behind c in
+    let few = start .pre .1 .1 .0 .few (backOf (start .args .page .sandbox) (start .args .page .number .0)) in
+    let back = c .before .before .before .back in
+    (omega (arith, c .before .before .if1 .left), omega (arith, few, back .ensures))
 
--- src/writes.rt:81:65
-sub-put-bytes : tie.Need-sub-put-bytes
-sub-put-bytes c = search needs
-
--- src/writes.rt:81:64
-cast-put-bytes : tie.Need-cast-put-bytes
-cast-put-bytes c =
-    let s = c .before .before .before .before .before .before .before .before .before .before .before in
-    let few = s .pre .1 .1 .1 .1 .0 .few (backOf (s .args .s) (s .args .page .0)) in
-    record { fits = omega (arith, few, c .before .before .before .before .before .before .back .ensures) }
-
--- src/writes.rt:81:5
 put-bytes-requires : tie.Need-put-bytes-requires
 put-bytes-requires c κs =
-    let s = c .before .before .before .before .before .before .before .before .before .before .before in
-    let room = s .pre .1 .1 .1 .1 .0 .room (backOf (s .args .s) (s .args .page .0)) in
-    let slot = c .before .before .before .before .slot .ensures in (
-      omega (arith, s .pre .0),
-      (
-        s .pre .1 .0,
-        (
-          s .pre .1 .1 .0,
-          (
-            omega (arith, room, c .before .before .before .before .before .before .back .ensures, c .before .before .before .before .before .if1 .left),
-            (
-              rw (c .backing-at .ensures, slot) (s .pre .1 .1 .1 .1 .1 .0),
-              room-as (s .args .writes) (s .args .out .now) (s .args .at) _ (pageLines (s .args .image .now) (s .args .areas) (s .args .pool .now) (s .args .table .now) (s .args .s) (s .args .page .0)) (lines-are (s .args .image .now) (s .args .areas) (s .args .pool .now) (s .args .table .now) (s .args .s) (s .args .page .0) (c .before .before .before .before .before .before .back .result) (c .before .before .before .before .slot .result) (c .before .before .before .is-mapped .result) (c .backing-at .result) (c .before .before .before .before .before .before .back .ensures) (c .before .before .before .before .before .if1 .left) (c .before .before .before .before .slot .ensures) (c .before .before .before .is-mapped .ensures) (not-false _ (c .before .before .if2 .left)) (c .backing-at .ensures)) (s .pre .1 .1 .1 .1 .1 .1),
-            ),
-          ),
-        ),
-      ),
+    let tested = c .before .before in
+    let start = behind tested in
+    let room = start .pre .1 .1 .0 .room (backOf (start .args .page .sandbox) (start .args .page .number .0)) in
+    let back = tested .before .before .before .back in
+    let frame = c .before .frame-of in (
+      omega (arith, room, back .ensures, frame .ensures, tested .before .before .if1 .left),
+      (start .pre .1 .1 .1 .0, rw (same-lines tested (frame .result .0) (frame .ensures)) (start .pre .1 .1 .1 .1)),
     )
 
--- src/writes.rt:52:1
 same-length : tie.Need-same-length
 same-length c = search needs
 
--- src/writes.rt:52:1
 returns-3 : tie.Need-returns-3
 returns-3 c =
-    let s = c .before .before .before .before .before .before .before .before .before .before .before .before .before .before in
-    put-as (s .args .writes) (s .args .out .now) _ (s .args .at) _ _ (pageLines (s .args .image .now) (s .args .areas) (s .args .pool .now) (s .args .table .now) (s .args .s) (s .args .page .0)) (lines-are (s .args .image .now) (s .args .areas) (s .args .pool .now) (s .args .table .now) (s .args .s) (s .args .page .0) (c .before .before .before .before .before .before .before .before .before .back .result) (c .before .before .before .before .before .before .before .slot .result) (c .before .before .before .before .before .before .is-mapped .result) (c .before .before .before .backing-at .result) (c .before .before .before .before .before .before .before .before .before .back .ensures) (c .before .before .before .before .before .before .before .before .if1 .left) (c .before .before .before .before .before .before .before .slot .ensures) (c .before .before .before .before .before .before .is-mapped .ensures) (not-false _ (c .before .before .before .before .before .if2 .left)) (c .before .before .before .backing-at .ensures)) (c .before .before .put-bytes .ensures .0) (c .before .before .put-bytes .ensures .1)
+    let tested = c .before .before .before .before .before in
+    let a = behind tested .args in
+    let frame = c .before .before .before .before .frame-of in
+    c .before .before .put-bytes .ensures ∙ ap (put (a .to) (a .out .now)) (same-lines tested (frame .result .0) (frame .ensures))
 
 pub put-page-spec : {M : Type 1} → statement M
 put-page-spec =
@@ -88,12 +96,9 @@ put-page-spec =
     (tie.spec
     back-requires
     returns
-    slot-requires
     is-mapped-requires
     returns-2
-    backing-at-requires
-    sub-put-bytes
-    cast-put-bytes
+    frame-of-requires
     put-bytes-requires
     same-length
     returns-3)

@@ -1,3 +1,4 @@
+-- A byte of a page that was never written.
 use Rattle.content.specs.Content.{sourceOf}
 use Rattle.table.specs.Source.{sourceEnd}
 use Rattle.interface.specs.declared.page.Backing.{Backing}
@@ -9,38 +10,30 @@ use borrow.Author.Needs.{needs}
 use Rattle.segments.proofs.writes.source_byte.Statement.{statement}
 use Rattle.segments.proofs.writes.source_byte.Tie as tie
 
--- src/writes.rt:139:31
 enum-told : tie.Need-enum-told
 enum-told c = search needs
 
--- src/writes.rt:140:24
 enum-known-backing : tie.Need-enum-known-backing
 enum-known-backing c = search needs
 
--- src/writes.rt:141:25
 cast-place : tie.Need-cast-place
 cast-place c = search needs
 
--- src/writes.rt:141:25
 mul-place : tie.Need-mul-place
 mul-place c = search needs
 
--- src/writes.rt:141:25
 add-place : tie.Need-add-place
 add-place c = search needs
 
--- src/writes.rt:142:13
 shared-slice-read-result : tie.Need-shared-slice-read-result
 shared-slice-read-result c =
     let known = c .before .before .before .backing .given .1 in
     let end = ap (λ (b : Backing). sourceEnd (sourceOf b)) known in
-    omega (arith, end, c .before .before .before .before .before .pre .0, c .before .before .before .before .before .pre .1)
+    omega (arith, end, c .before .before .before .before .before .pre)
 
--- src/writes.rt:133:1
 returns : tie.Need-returns
 returns c = search needs
 
--- src/writes.rt:133:1
 returns-2 : tie.Need-returns-2
 returns-2 c =
     let s = c .before .before .before .before .before in
