@@ -2,14 +2,14 @@
 ghost use mathlib.Core.Path.{_≡_};
 ghost use lib.ListN.{length};
 ghost use Rattle.layout.specs.Layout.{sandboxSize, sandboxBytes, sandboxFrom, isSandbox};
-use layout::area::decode_areas;
-use layout::area::encode_areas;
-use layout::area::is_areas;
-use layout::run::decode_runs;
-use layout::run::encode_runs;
 use layout::size::At;
 use layout::size::Size;
 use layout::word::flag;
+use places::area::decode_areas;
+use places::area::encode_areas;
+use places::area::is_areas;
+use places::run::decode_runs;
+use places::run::encode_runs;
 use state::sandbox::Sandbox;
 
 pub fn encode_sandbox(sandbox: Sandbox, out: &mut [u8])

@@ -1,12 +1,12 @@
 use mathlib.Core.List.{[], _∷_}
 use Rattle.areas.specs.Areas.{none}
 use Rattle.layout.specs.Rows.{part, rowBytes}
 use Rattle.layout.specs.Layout.{placesSize, areaBytes, areasBytes}
 use Rattle.layout.proofs.LengthLaws.{length-places}
 use Rattle.layout.proofs.PartsLaws.{laid-out}
 use borrow.Author.Needs.{needs}
-use Rattle.layout.proofs.area.encode_areas.Statement.{statement}
-use Rattle.layout.proofs.area.encode_areas.Tie as tie
+use Rattle.places.proofs.area.encode_areas.Statement.{statement}
+use Rattle.places.proofs.area.encode_areas.Tie as tie
 
 sub-encode-places : tie.Need-sub-encode-places
 sub-encode-places c = search needs

@@ -2,12 +2,12 @@ use Prim.Native.Nat.{ℕ, _-_}
 use mathlib.Core.List.{List}
 use native.Mathlib.Omega.{arith}
 use Rattle.runs.specs.Row.{row}
 use Rattle.layout.specs.Layout.{marksSize, marksBytes, runsBytes}
 use Rattle.layout.proofs.RowLoops.{Written, written-none, written-next, written-all}
 use Rattle.layout.proofs.LengthLaws.{length-marks}
 use borrow.Author.Needs.{needs}
-use Rattle.layout.proofs.run.encode_runs.Statement.{statement}
-use Rattle.layout.proofs.run.encode_runs.Tie as tie
+use Rattle.places.proofs.run.encode_runs.Statement.{statement}
+use Rattle.places.proofs.run.encode_runs.Tie as tie
 
 abbrev Inv-loop : tie.InvT-loop
 Inv-loop out₀ runs k₀ out k = Written (λ j. marksBytes (row runs j)) marksSize 8 out₀ out k

@@ -2,13 +2,13 @@ use Prim.Native.Nat.{_-_, _*_}
 use mathlib.Core.Path.{ap, _∙_}
 use native.Mathlib.Omega.{arith}
 use lib.ListN.{drop}
 use Rattle.layout.specs.Rows.{partIn}
 use Rattle.layout.specs.Layout.{areaSize, isArea, isAreas}
 use Rattle.layout.proofs.RowLoops.{Tested, tested-none, tested-next, tested-all}
 use Rattle.layout.proofs.PartsLaws.{part-lent-behind}
 use borrow.Author.Needs.{needs}
-use Rattle.layout.proofs.area.is_areas.Statement.{statement}
-use Rattle.layout.proofs.area.is_areas.Tie as tie
+use Rattle.places.proofs.area.is_areas.Statement.{statement}
+use Rattle.places.proofs.area.is_areas.Tie as tie
 
 abbrev Inv-loop : tie.InvT-loop
 Inv-loop bytes all₀ k₀ all k = Tested (λ j. isArea (partIn areaSize (drop 1 bytes) j)) 8 all k

@@ -5,13 +5,13 @@ use native.Mathlib.Omega.{arith}
 use lib.ListN.{getD, drop, replicate}
 use Rattle.areas.specs.declared.area.Area.{Area}
 use Rattle.areas.specs.Areas.{none}
 use Rattle.layout.specs.Rows.{partIn}
 use Rattle.layout.specs.Layout.{areaSize, areaFrom, areasFrom}
 use Rattle.layout.proofs.RowLoops.{Filled, filled-none, filled-next, filled-all}
 use Rattle.layout.proofs.PartsLaws.{part-lent-behind}
 use borrow.Author.Needs.{needs}
-use Rattle.layout.proofs.area.decode_areas.Statement.{statement}
-use Rattle.layout.proofs.area.decode_areas.Tie as tie
+use Rattle.places.proofs.area.decode_areas.Statement.{statement}
+use Rattle.places.proofs.area.decode_areas.Tie as tie
 
 -- the area that stands in place j of the bytes
 abbrev areaIn : List ℕ → ℕ → Area

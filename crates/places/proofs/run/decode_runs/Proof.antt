@@ -5,13 +5,13 @@ use native.Mathlib.Omega.{arith}
 use lib.ListN.{replicate}
 use Rattle.frames.specs.declared.Held.{Held}
 use Rattle.frames.specs.Frames.{noneHeld}
 use Rattle.layout.specs.Rows.{partIn}
 use Rattle.layout.specs.Layout.{marksSize, marksFrom, runsFrom}
 use Rattle.layout.proofs.RowLoops.{Filled, filled-none, filled-next, filled-all}
 use Rattle.layout.proofs.PartsLaws.{part-lent}
 use borrow.Author.Needs.{needs}
-use Rattle.layout.proofs.run.decode_runs.Statement.{statement}
-use Rattle.layout.proofs.run.decode_runs.Tie as tie
+use Rattle.places.proofs.run.decode_runs.Statement.{statement}
+use Rattle.places.proofs.run.decode_runs.Tie as tie
 
 -- the run that stands in place j of the bytes
 abbrev runIn : List ℕ → ℕ → Held

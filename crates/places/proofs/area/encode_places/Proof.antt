@@ -3,12 +3,12 @@ use mathlib.Core.List.{List}
 use native.Mathlib.Omega.{arith}
 use lib.ListN.{getD}
 use Rattle.areas.specs.Areas.{none}
 use Rattle.layout.specs.Layout.{areaSize, areaBytes}
 use Rattle.layout.proofs.RowLoops.{Written, written-none, written-next, written-all}
 use Rattle.layout.proofs.LengthLaws.{length-area}
 use borrow.Author.Needs.{needs}
-use Rattle.layout.proofs.area.encode_places.Statement.{statement}
-use Rattle.layout.proofs.area.encode_places.Tie as tie
+use Rattle.places.proofs.area.encode_places.Statement.{statement}
+use Rattle.places.proofs.area.encode_places.Tie as tie
 
 abbrev Inv-loop : tie.InvT-loop
 Inv-loop out₀ areas k₀ out k = Written (λ j. areaBytes (getD (areas .list) j none)) areaSize 8 out₀ out k
