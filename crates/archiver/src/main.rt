@@ -56,7 +56,15 @@ fn play_input(pool: &mut [u8], table: &mut [u16], image: &[u8]) -> Machine
         let mut line = [0u8; 43];
         let mut reply = [0u8; 19];
         let got = io::read_full(libc::STDIN_FILENO, &mut line);
-        machine = play(machine, pool, table, image, &line[..got], number, &mut reply);
+        machine = play(
+            machine,
+            pool,
+            table,
+            image,
+            &line[..got],
+            number,
+            &mut reply,
+        );
         if got < Line::BYTES {
             return machine;
         }
@@ -107,7 +115,10 @@ fn say(number: u8) {
     if number == 0 {
         return;
     }
-    io::write_all(libc::STDERR_FILENO, &[b'r', b'e', b'f', b'u', b's', b'a', b'l', b' ']);
+    io::write_all(
+        libc::STDERR_FILENO,
+        &[b'r', b'e', b'f', b'u', b's', b'a', b'l', b' '],
+    );
     io::print_decimal(libc::STDERR_FILENO, number as u64);
     io::write_all(libc::STDERR_FILENO, &[b'\n']);
 }

@@ -52,8 +52,10 @@ none-applies v s bytes room h =
   where
     not-four : _≡_ {A = ℕ} 4 0 → ⊥
     not-four e = omega arith
+
     not-eight : _≡_ {A = ℕ} 8 0 → ⊥
     not-eight e = omega arith
+
     not-fifteen : _≡_ {A = ℕ} 15 0 → ⊥
     not-fifteen e = omega arith
 
