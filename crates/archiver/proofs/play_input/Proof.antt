@@ -113,7 +113,7 @@ returns c =
     let low : at .loop .number ≤ 65535 = omega (arith, reading .before .before .loop-test .taken) in
     from-start at (worldAfter playing)
     (ended (imageIn at) (worldBegun at) (at .loop .number) (worldAt at) (at .loop .inv .3) low _ _ _ (worldAfter playing)
-    (rw (← (reading .read-full .ensures .1)) (few-bytes reading)) (playing .play .ensures))
+    (rw (← (reading .read-full .ensures .1)) (c .if1 .taken)) (playing .play .ensures))
 
 add-number : tie.Need-add-number Inv-loop μ-loop
 add-number c = search needs
@@ -127,11 +127,12 @@ loop-again c =
     let reading = readOf playing in
     let at = loopOf reading in
     let got = reading .read-full in
+    let low : at .loop .number ≤ 65535 = omega (arith, reading .before .before .loop-test .taken) in
     let whole : got .result ≡ 43 = omega (arith, few-bytes reading, c .if1 .left) in (
-      omega (arith, reading .before .before .loop-test .taken),
+      omega (arith, low),
       playing .play .kept .1 .0 ∙ at .loop .inv .1,
       playing .play .kept .1 .1 .0 ∙ at .loop .inv .2,
-      one-more (imageIn at) (worldBegun at) (at .loop .number) (worldAt at) (at .loop .inv .3) _ _ _ (worldAfter playing) (sym (got .ensures .1) ∙ whole)
+      one-more (imageIn at) (worldBegun at) (at .loop .number) (worldAt at) (at .loop .inv .3) low _ _ _ (worldAfter playing) (sym (got .ensures .1) ∙ whole)
           (playing .play .ensures),
     )
 
