@@ -1,5 +1,5 @@
 -- What is handed on is the plain machine's archive roll; over a wrong length it is refused.
-use mathlib.Core.Path.{_≡_, refl, sym, ap, _∙_}
+use mathlib.Core.Path.{_≡_, refl, ap, _∙_}
 use mathlib.Core.Bool.{true, false}
 use mathlib.Core.List.{List, []}
 use mathlib.Core.Option.{some}
@@ -10,7 +10,6 @@ use lib.Seq.{take-at}
 use borrow.Author.Tests.{le-ltb}
 use Rattle.interface.specs.declared.answer.Answer.{Answer}
 use Rattle.interface.specs.declared.request.Request.{Request}
-use Rattle.interface.specs.Answers.{answered}
 use Rattle.interface.specs.Refusals.{View, isTaken, archiveRefusal}
 use Rattle.lines.specs.Lines.{linesOf}
 use Rattle.state.specs.World.{World, lengthsOk}
@@ -30,8 +29,8 @@ use Rattle.archive.proofs.TextLaws.{length-roll}
 use Rattle.replay.specs.Snapshot.{archiveNumber, written}
 use Rattle.replay.proofs.Claims.{written-as-plain}
 use Rattle.image_file.proofs.ImageLaws.{unreadable-is-wrong}
-use Rattle.archiver.specs.Performed.{RollPlayed, Performed, left, handedOn}
-use Rattle.archiver.specs.Prints.{plainAfter, AnswersPlain, PrintsArchive, RefusedBy, RefusesWrongLength, RefusesUnreadable}
+use Rattle.archiver.specs.Performed.{left, handedOn}
+use Rattle.archiver.specs.Prints.{AnswersPlain, PrintsArchive, RefusesWrongLength, RefusesUnreadable}
 
 -- ---- right lengths
 

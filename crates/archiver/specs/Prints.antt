@@ -6,7 +6,6 @@ use mathlib.Core.Option.{some}
 use Prim.Native.Nat.{ℕ, _≤_}
 use lib.ListN.{length}
 use Rattle.interface.specs.declared.answer.Answer.{Answer}
-use Rattle.interface.specs.declared.request.Request.{Request}
 use Rattle.interface.specs.Answers.{answered}
 use Rattle.interface.specs.Examples.{refused}
 use Rattle.lines.specs.Lines.{linesOf}

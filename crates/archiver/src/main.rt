@@ -2,7 +2,8 @@
 // of the sandbox that its argument names. Where that is refused it writes nothing, and says the refusal's number on standard error.
 // It promises that what it reads, one line after the other, is one roll played from a start, and that answer and output are those of the archive roll of what
 // that roll left (`Performed`); so what it hands on to be written is the plain machine's archive roll, or nothing where that is refused (specs/Prints).
-// It stands on `playing` and `archiving`, on `image_file` for the image, and on the kit's `io`, `os` and `libc`; which bytes these read and write nothing proves.
+// It stands on `playing` and `archiving`, on `image_file` for the image, and on the kit's `io`, `os` and `libc`; which bytes these read and write nothing
+// proves.
 ghost use mathlib.Core.Path.{_≡_};
 ghost use Prim.Native.Nat.{_*_, _≤_};
 ghost use lib.ListN.{length};

@@ -1,6 +1,6 @@
 // The image read from the file `image.bin`, for the programs.
-// It promises how many bytes the image has, for each thing that can become of the file (`imageBytes`), and that one that cannot be read whole has a wrong length
-// (specs/Image). It stands on `state` for which lengths are right, and on the kit's `io`, `os` and `libc`; which bytes these read nothing proves.
+// It promises how many bytes the image has, for each thing that can become of the file (`imageBytes`), and that one that cannot be read whole has a wrong
+// length (specs/Image). It stands on `state` for which lengths are right, and on the kit's `io`, `os` and `libc`; which bytes these read nothing proves.
 ghost use mathlib.Core.Path.{_≡_};
 ghost use Prim.Native.Nat.{_≤_};
 ghost use lib.ListN.{length};

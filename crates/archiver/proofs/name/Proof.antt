@@ -1,5 +1,4 @@
 -- The sandbox that an argument names.
-use mathlib.Core.Path.{refl}
 use borrow.Author.Needs.{needs}
 use borrow.Author.Tests.{lt-ltb, le-ltb, eq-eqb, ne-eqb}
 use native.Mathlib.Omega.{arith}
@@ -17,7 +16,9 @@ returns-2 c = simp (eq-eqb _ _ (c .before .if1 .left), lt-ltb _ _ (c .if2 .taken
 
 returns-3 : tie.Need-returns-3
 unfolding named
-returns-3 c = simp (eq-eqb _ _ (c .before .before .if1 .left), le-ltb (c .before .before .before .args .first) 48 (omega (arith, c .before .if2 .left)), lt-ltb _ _ (c .if3 .taken))
+returns-3 c =
+    let first = c .before .before .before .args .first in
+    simp (eq-eqb _ _ (c .before .before .if1 .left), le-ltb first 48 (omega (arith, c .before .if2 .left)), lt-ltb _ _ (c .if3 .taken))
 
 cast-result : tie.Need-cast-result
 cast-result c = search needs

@@ -1,8 +1,5 @@
 -- The roll is played, and then the archive roll is written of what it left.
-use mathlib.Core.Path.{refl, sym, subst}
-use Prim.Native.Nat.{_*_, _≤_}
 use borrow.Author.Needs.{needs}
-use Rattle.interface.specs.Answers.{valueOf}
 use Rattle.state.specs.World.{worldOf}
 use Rattle.archiver.proofs.PerformedLaws.{answered-fits}
 use Rattle.archiver.proofs.perform.Statement.{statement}
