@@ -16,7 +16,7 @@ use Rattle.state.specs.World.{World, viewAt}
 use Rattle.state.specs.Test.{soundb}
 use Rattle.archive.specs.Written.{Written, writtenAs}
 use Rattle.replay.specs.Snapshot.{archiveOf, archiveNumber, written}
-use Rattle.archiver.specs.Performed.{left}
+use Rattle.archiving.specs.Whole.{left}
 
 -- where no row applies, row 15 does not
 free-fits : (v : View) (s bytes room : ℕ) → archiveRefusal v s bytes room ≡ 0 → bytes ≤ room

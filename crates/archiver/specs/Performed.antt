@@ -4,12 +4,12 @@ use mathlib.Core.List.{List, [], _++_}
 use Prim.Native.Nat.{ℕ, _+_, _*_, _≤_, _<_}
 use lib.ListN.{length, take}
 use Rattle.interface.specs.declared.answer.Answer.{Answer}
-use Rattle.interface.specs.Answers.{answered, valueOf}
+use Rattle.interface.specs.Answers.{valueOf}
 use Rattle.lines.specs.Lines.{linesOf}
 use Rattle.state.specs.World.{World}
 use Rattle.roll.specs.Play.{Played}
-use Rattle.archive.specs.Written.{Written}
 use Rattle.replay.specs.Snapshot.{written}
+use Rattle.archiving.specs.Whole.{left}
 
 -- what was read from the line with this number on, "43 bytes" after 43 bytes, until a line is short. "Lines after the 65,535th are not read."
 pub data LinesRead : ℕ → List ℕ → Type 0 where
@@ -23,10 +23,6 @@ pub record RollPlayed (image : List ℕ) (w v : World) : Type 0 where
   pub read : LinesRead 1 roll
   pub replies : List ℕ
   pub played : Played image w roll (linesOf (length roll)) 1 [] replies v
-
--- an answer, and the output that is left
-abbrev pub left : Answer → List ℕ → Written
-left answer out = record { answer = answered answer; out = out }
 
 -- The roll is played from a world, and answer and output are those of the archive roll of what it leaves.
 pub record Performed (image : List ℕ) (w : World) (sandbox : ℕ) (out₀ : List ℕ) (answer : Answer) (out : List ℕ) : Type 0 where
