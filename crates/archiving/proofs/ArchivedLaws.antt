@@ -1,10 +1,8 @@
 -- The ways out of the archive function.
-use Prim.Native.Nat.{ℕ, _*_, _≤_, _<_}
+use Prim.Native.Nat.{ℕ, _≤_, _<_}
 use mathlib.Core.Path.{_≡_, ap, _∙_}
 use mathlib.Core.Bool.{true, false}
 use mathlib.Core.List.{List}
-use lib.Dec.{ltb}
-use lib.ListN.{length}
 use borrow.Author.Tests.{lt-ltb, le-ltb}
 use Rattle.interface.specs.declared.answer.Answer.{Answer}
 use Rattle.interface.specs.declared.answer.Answer.the-variants.{Refused}

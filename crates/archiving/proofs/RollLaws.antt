@@ -62,8 +62,8 @@ module _ (image : List ℕ) (w : World) (s : ℕ) where
   d = snapshotOf image w s
 
   -- the snapshot as the code hands it on
-  abbrev pub held : Snapshot
-  held = record { sandbox = s; share = b .share; areas = b .snapshot }
+  abbrev pub handedOn : Snapshot
+  handedOn = record { sandbox = s; share = b .share; areas = b .snapshot }
 
   abbrev slot : ℕ → Slot
   slot i = slots (b .snapshot) i
@@ -85,20 +85,20 @@ module _ (image : List ℕ) (w : World) (s : ℕ) where
   line-none : (i j a : ℕ) → i ≡ a / 256 → j ≡ a % 256 → isMapped (slot i) ≡ false → line a ≡ []
   line-none i j a x y m = rw (← x, m)
 
-  page-lines : (i : ℕ) → joined (λ j. line (i * 256 + j)) 256 ≡ writesAt image (w .store .pool) (w .store .table) held i
+  page-lines : (i : ℕ) → joined (λ j. line (i * 256 + j)) 256 ≡ writesAt image (w .store .pool) (w .store .table) handedOn i
   page-lines i =
       by-cases (isMapped (slot i))
       (λ m. joined-below (λ j. line (i * 256 + j)) (byteLine image s i (slot i) (page i)) 256
       (λ j l. line-same i j (i * 256 + j) (omega arith) (omega arith) refl m) ∙ rw m)
       (λ m. joined-none (λ j. line (i * 256 + j)) 256 (λ j l. line-none i j (i * 256 + j) (omega arith) (omega arith) m) ∙ rw m)
 
-  pub writes-by-pages : writes s image d ≡ writesOf image (w .store .pool) (w .store .table) held
+  pub writes-by-pages : writes s image d ≡ writesOf image (w .store .pool) (w .store .table) handedOn
   unfolding writes
   writes-by-pages =
       joined-pages line 64
-      ∙ joined-below (λ i. joined (λ j. line (i * 256 + j)) 256) (writesAt image (w .store .pool) (w .store .table) held) 64 (λ i l. page-lines i)
+      ∙ joined-below (λ i. joined (λ j. line (i * 256 + j)) 256) (writesAt image (w .store .pool) (w .store .table) handedOn) 64 (λ i l. page-lines i)
 
-  roll-is : Formed (b .snapshot) → rollOf image (w .store .pool) (w .store .table) held ≡ archiveOf image w s
+  roll-is : Formed (b .snapshot) → rollOf image (w .store .pool) (w .store .table) handedOn ≡ archiveOf image w s
   unfolding rollOf archive
   roll-is F =
       rw (← maps-by-areas (b .snapshot) F s, ← protects-by-areas (b .snapshot) F s, ← writes-by-pages)
@@ -111,7 +111,7 @@ module _ (image : List ℕ) (w : World) (s : ℕ) where
     well = tested image w sound .each s (omega arith) .snapshot
 
     -- its snapshot's bytes can be read
-    pub readable : Readable image (w .store .pool) (w .store .table) held
+    pub readable : Readable image (w .store .pool) (w .store .table) handedOn
     readable =
         let t = tested image w sound in
         record {
@@ -121,5 +121,5 @@ module _ (image : List ℕ) (w : World) (s : ℕ) where
           backed = source-there image (pagesIn (length image)) (b .snapshot) well (t .whole);
         }
 
-    pub roll-here : rollOf image (w .store .pool) (w .store .table) held ≡ archiveOf image w s
+    pub roll-here : rollOf image (w .store .pool) (w .store .table) handedOn ≡ archiveOf image w s
     roll-here = roll-is (record { images = pagesIn (length image); few = tested image w sound .images; formed = well })

@@ -17,7 +17,6 @@ use Rattle.layout.specs.Layout.{isState}
 use Rattle.layout.specs.Claims.{machineOf}
 use Rattle.layout.proofs.Claims.{passes}
 use Rattle.plain.specs.Machine.{Given}
-use Rattle.simulation.specs.Lent.{Lent}
 use Rattle.claims.specs.Demands.{RunFrom}
 use Rattle.roll.specs.Play.{linesIn, requests}
 use Rattle.archive.specs.Segments.{AllTaken}
@@ -25,7 +24,7 @@ use Rattle.archive.specs.Written.{Written, writtenAs}
 use Rattle.replay.specs.Snapshot.{archiveOf, archiveNumber, written}
 use Rattle.replay.specs.Claims.{Snapped, Rebuilt, Archived}
 use Rattle.replay.proofs.Claims.{archived}
-use Rattle.stepwise.specs.Calls.{Handed, handsOf, worldIn, startNumber, startHands, Calls}
+use Rattle.stepwise.specs.Calls.{Handed, worldIn, startNumber, startHands, Calls}
 use Rattle.stepwise.specs.HostClaims.{givenBy}
 use Rattle.stepwise.proofs.HostClaims.{lent, host-claims}
 use Rattle.filing.specs.Filed.{filed}

@@ -1,4 +1,5 @@
-// A start, and then a call at a time, for a host that plays no roll: the state is bytes that the host lends, as it lends pool and table.
+// A start, and then a call at a time, for a host that plays no roll: the state is bytes that the host lends, as it lends pool and table; and the archive roll
+// of a sandbox.
 // Nothing is asked of what is lent. A wrong length and bytes that are no state's are refusal 3 (2 where the code is no call), and nothing changes.
 ghost use mathlib.Core.Path.{_≡_};
 ghost use Rattle.interface.specs.Requests.{requestOf};
@@ -71,8 +72,8 @@ pub extern "C" fn gazhuppin_call(
     )
 }
 
-// Writes the archive roll of a sandbox's snapshot into `out`, and answers the number of its lines. State, pool, table and image are only read; a refusal leaves
-// every byte of `out`, and so does a roll those past its lines.
+// Writes the archive roll of a sandbox's snapshot into `out`, and answers the number of its lines. State, pool, table and image are only read. A refusal leaves
+// every byte of `out`, and the bytes past the roll stay in any case.
 #[no_mangle]
 pub extern "C" fn gazhuppin_archive(
     state: &[u8],

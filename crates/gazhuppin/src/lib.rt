@@ -1,10 +1,11 @@
 // The library for hosts in C, Rust and Python. A roll is played from a start over lent memory, and pool and table are left for the host to look at; or a host
-// starts a machine and makes one call at a time, with the state as bytes in its own memory (src/calls).
+// starts a machine and makes one call at a time, with the state as bytes in its own memory, and may ask for the archive roll of a sandbox (src/calls).
 // It promises that whatever is lent, a call ends. Of a roll: the replies are those of a run from the start (`Played`), and nothing is touched where they would
 // not fit (`FromStart`). From this follows all that the C header says (specs/Promised): the replies are the plain machine's, what is left in pool and table
 // is what demand 3 says, and where a lent length is wrong pool and table stay and every line is refused. Of calls one at a time: the demands (specs/HostClaims
-// of `stepwise`).
-// It stands on `playing` for the play, on `soundness` for its start, and on `stepwise` and `layout` for a call. Nothing that holds an enum crosses to C.
+// of `stepwise`). Of an archive roll: it is the plain machine's, and its calls rebuild the snapshot (specs/HostArchive of `filing`).
+// It stands on `playing` for the play, on `soundness` for its start, on `stepwise` and `layout` for a call and on `filing` for an archive roll. Nothing that
+// holds an enum crosses to C.
 ghost use mathlib.Core.Path.{_≡_};
 ghost use Rattle.lines.specs.Lines.{linesOf};
 ghost use Rattle.gazhuppin.specs.FromStart.{FromStart};

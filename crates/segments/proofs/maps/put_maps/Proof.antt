@@ -1,4 +1,3 @@
-use borrow.Author.Needs.{needs}
 -- The maps of a snapshot: a turn for each place.
 use Prim.Native.Nat.{_-_}
 use mathlib.Core.Path.{ap}
@@ -9,6 +8,7 @@ use Rattle.areas.specs.Areas.{none}
 use Rattle.archive.specs.Archive.{only}
 use Rattle.printing.proofs.PutLaws.{Turn, turn-first, turn-room, turn-next, turn-last}
 use Rattle.segments.specs.ByAreas.{mapsAt}
+use borrow.Author.Needs.{needs}
 use Rattle.segments.proofs.maps.put_maps.Statement.{statement}
 use Rattle.segments.proofs.maps.put_maps.Tie as tie
 

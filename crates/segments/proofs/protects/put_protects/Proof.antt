@@ -1,4 +1,3 @@
-use borrow.Author.Needs.{needs}
 -- The protects of a snapshot: a turn for each place.
 use Prim.Native.Nat.{_-_}
 use mathlib.Core.Path.{ap}
@@ -8,6 +7,7 @@ use Rattle.areas.specs.Areas.{none}
 use Rattle.archive.specs.Archive.{only}
 use Rattle.printing.proofs.PutLaws.{Turn, turn-first, turn-room, turn-next, turn-last}
 use Rattle.segments.specs.ByAreas.{protectsAt}
+use borrow.Author.Needs.{needs}
 use Rattle.segments.proofs.protects.put_protects.Statement.{statement}
 use Rattle.segments.proofs.protects.put_protects.Tie as tie
 
