@@ -140,7 +140,7 @@ module _ (image : List ℕ) (h : Handed) (ok : startNumber image h ≡ 0) where
   pub host-archive : HostArchive image h
   host-archive = record {
     plain = λ qs as′ l calls s out. files qs as′ l calls s out ∙ claims .plain qs as′ (worldIn l) (run qs as′ l calls) s out;
-    accepted = λ qs as′ l calls s out row taken. not-refused qs as′ l calls s out row taken;
+    accepted = λ qs as′ l calls s out row taken room. not-refused qs as′ l calls s out row taken (omega (arith, room));
     replays = λ qs as′ l calls s out zero. replays qs as′ l calls s out zero;
   }
 

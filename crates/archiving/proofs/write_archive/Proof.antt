@@ -111,15 +111,6 @@ returns-4 c =
 cast-t22 : tie.Need-cast-t22
 cast-t22 c = search needs
 
-put-fitting-requires : tie.Need-put-fitting-requires
-put-fitting-requires c κs =
-    let row = behindOpen (behindTaken (c .before .before)) in
-    let start = behindRow row in
-    rw (same row) (readable (imageIn start) (worldIn start) (start .args .sandbox) (passes (row .before)) (in-row row))
-
-same-length : tie.Need-same-length
-same-length c = search needs
-
 returns-5 : tie.Need-returns-5
 returns-5 c =
     let taken = c .before .before .before .before .before in
@@ -129,6 +120,15 @@ returns-5 c =
     filed (imageIn start) (worldIn start) (start .args .sandbox) (outIn start) (passes (row .before)) (in-row row) (is-open (behindTaken taken))
     (has-snapshot taken) (fitting .result) (fitting .last .1 .1 .1 .1 .0) _
     (rw (same row) (roll-here (imageIn start) (worldIn start) (start .args .sandbox) (passes (row .before)) (in-row row))) (fitting .ensures)
+
+put-fitting-requires : tie.Need-put-fitting-requires
+put-fitting-requires c κs =
+    let row = behindOpen (behindTaken (c .before .before)) in
+    let start = behindRow row in
+    rw (same row) (readable (imageIn start) (worldIn start) (start .args .sandbox) (passes (row .before)) (in-row row))
+
+same-length : tie.Need-same-length
+same-length c = search needs
 
 pub write-archive-spec : {M : Type 1} → statement M
 write-archive-spec =

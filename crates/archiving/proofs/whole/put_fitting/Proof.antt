@@ -1,6 +1,7 @@
 -- The roll counted, and then written where it fits.
 use Prim.Native.Nat.{_≤_}
 use mathlib.Core.List.{List}
+use native.Mathlib.Omega.{arith}
 use lib.ListN.{length}
 use Rattle.interface.specs.declared.request.Request.{Request}
 use Rattle.archiving.specs.Whole.{rollOf}
@@ -33,14 +34,15 @@ returns : tie.Need-returns
 returns c =
     let start = c .before .before .before .before .before .before .before .before .before in
     let counted = c .before .before .before .put-roll in
-    too-long (start .args .out .now) (counted .last .1 .1 .1 .1 .0) (counted .result) (roll start) (counted .ensures) (c .if1 .taken)
+    too-long (start .args .out .now) (counted .last .1 .1 .1 .1 .0) (counted .result) (roll start) (counted .ensures) (omega (arith, c .if1 .taken))
 
 put-roll-requires-2 : tie.Need-put-roll-requires-2
 put-roll-requires-2 c κs =
     let start = c .before .before .before .before .before .before .before .before .before .before in
     let counted = c .before .before .before .before .put-roll in (
       start .pre,
-      fits-room (start .args .out .now) (counted .last .1 .1 .1 .1 .0) (counted .result) (roll start) (counted .ensures) (c .before .if1 .left) (most start),
+      fits-room (start .args .out .now) (counted .last .1 .1 .1 .1 .0) (counted .result) (roll start) (counted .ensures)
+          (omega (arith, c .before .if1 .left)) (most start),
     )
 
 same-length-2 : tie.Need-same-length-2
@@ -52,7 +54,7 @@ returns-2 c =
     let counted = c .before .before .before .before .before .before .before .put-roll in
     let written = c .before .before .put-roll2 in
     fits-in (start .args .out .now) (counted .last .1 .1 .1 .1 .0) (counted .result) (roll start) (counted .ensures)
-    (c .before .before .before .before .if1 .left) (written .result) (written .last .1 .1 .1 .1 .0) (written .ensures)
+    (omega (arith, c .before .before .before .before .if1 .left)) (written .result) (written .last .1 .1 .1 .1 .0) (written .ensures)
 
 pub put-fitting-spec : {M : Type 1} → statement M
 put-fitting-spec =

@@ -1,6 +1,7 @@
 -- The writes of a page with a back: a turn for each byte.
 use Prim.Native.Nat.{ℕ, _-_}
 use mathlib.Core.List.{List}
+use native.Mathlib.Omega.{arith}
 use Rattle.interface.specs.declared.request.Request.{Request}
 use Rattle.pages.specs.Parts.{frame}
 use Rattle.printing.proofs.PutLaws.{Turn, turn-first, turn-room, turn-next, turn-last}
@@ -50,7 +51,7 @@ put-if-requires c κs =
     let backing = turn .before .before .backing-at in
     let start = turn .before .before .before .before .before .before in
     let a = start .args in
-    turn-room (a .to) (a .out .now) (lines start) 256 (start .pre .1 .1) (l .next) (l .out) (l .j) (l .inv) (turn .loop-test .taken) _
+    turn-room (a .to) (a .out .now) (lines start) 256 (start .pre .1 .1) (l .next) (l .out) (l .j) (l .inv) (omega (arith, turn .loop-test .taken)) _
     (byte-line (a .image .now) (a .page .sandbox) (a .page .number .0) (a .page .slot) (frame 256 (a .pool .now) (a .f .0)) (l .j)
     (read .result) (old .result) (backing .result) _ (backing .ensures) (read .ensures) (old .ensures) (line .ensures))
 
@@ -71,7 +72,7 @@ loop-again c =
     let backing = turn .before .before .backing-at in
     let start = turn .before .before .before .before .before .before in
     let a = start .args in
-    turn-next (a .to) (a .out .now) (lines start) 256 (start .pre .1 .1) (l .next) (l .out) (l .j) (l .inv) (turn .loop-test .taken) _
+    turn-next (a .to) (a .out .now) (lines start) 256 (start .pre .1 .1) (l .next) (l .out) (l .j) (l .inv) (omega (arith, turn .loop-test .taken)) _
     (byte-line (a .image .now) (a .page .sandbox) (a .page .number .0) (a .page .slot) (frame 256 (a .pool .now) (a .f .0)) (l .j)
     (read .result) (old .result) (backing .result) _ (backing .ensures) (read .ensures) (old .ensures) (line .ensures))
     (put .result) (put .last .0) (put .ensures)
@@ -83,7 +84,7 @@ returns : tie.Need-returns Inv-loop μ-loop
 returns c =
     let start = c .before .before .before .before .before .before in
     let l = c .before .loop in
-    turn-last (start .args .to) (start .args .out .now) (lines start) 256 (l .next) (l .out) (l .j) (l .inv) (c .loop-test .left)
+    turn-last (start .args .to) (start .args .out .now) (lines start) 256 (l .next) (l .out) (l .j) (l .inv) (omega (arith, c .loop-test .left))
 
 pub put-bytes-spec : {M : Type 1} → statement M
 put-bytes-spec =
