@@ -7,5 +7,5 @@ pub mod MapLaws
 pub mod WriteLaws
 pub mod ProtectLaws
 pub mod OrderLaws
-pub mod TextLaws
 pub mod Replay
+pub mod TextLaws

@@ -21,7 +21,7 @@ use Rattle.plain.proofs.KeptLaws.{mapped-none, areas-none}
 use Rattle.plain.proofs.TwoListsLaws.{accepted-core}
 use Rattle.plain.proofs.Claims.{claim-always}
 use Rattle.archive.specs.Archive.{joined, only, opening, maps, differs, writeAt, writes, protects, closing, archive}
-use Rattle.archive.specs.Claims.{Alike, Occurs, Rebuilds, InSegments, Replay, OnlyIf, IfAlike, Longest}
+use Rattle.archive.specs.Claims.{Alike, Occurs, Rebuilds, InSegments, Replay, OnlyIf, IfAlike}
 use Rattle.archive.proofs.IsSnapshot.{IsSnapshot}
 use Rattle.archive.specs.Segments.{Goes, Segments, built, unmarked, writable, blank, filled, snapped}
 use Rattle.archive.proofs.SegmentLaws.{goes-append}
@@ -30,7 +30,6 @@ use Rattle.archive.proofs.MapLaws.{mapStage, map-start, map-end, maps-g
 use Rattle.archive.proofs.WriteLaws.{writeStage, write-start, writes-go, write-end}
 use Rattle.archive.proofs.ProtectLaws.{protectStage, protect-start, protect-end, protects-go, snapshot-goes}
 use Rattle.archive.proofs.OrderLaws.{copy-in-order}
-use Rattle.archive.proofs.TextLaws.{archive-longest}
 
 -- the first line, from fresh
 module _ (g : Given) (s share : ℕ) (row : s ≤ 3) (least : 1 ≤ share) (most : share ≤ 128) (fits : share ≤ g .frames) where
@@ -138,9 +137,6 @@ in-segments g s share d o = segments-go g s share (o .row) d (is-snapshot g s sh
 
 pub replay : (g : Given) → Replay g
 replay g s share d o = rebuilds g s share (o .row) d (is-snapshot g s share d o) (share-fits g s share d o)
-
-pub longest : (g : Given) → Longest g
-longest g s share d o = archive-longest s share d (g .image) (is-snapshot g s share d o .few)
 
 -- ---- equal rolls
 

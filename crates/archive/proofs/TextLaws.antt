@@ -17,13 +17,14 @@ use Rattle.interface.specs.Slots.{isMapped, rightsAt, backingAt, startsArea, ar
 use Rattle.lines.specs.Prints.{UpTo, numbersOf, printedRequest}
 use Rattle.lines.specs.Lines.{linesOf}
 use Rattle.lines.proofs.PrintLaws.{length-request}
-use Rattle.plain.specs.Machine.{Pages}
+use Rattle.plain.specs.Machine.{Given, Pages}
 use Rattle.archive.specs.Archive.{joined, only, kindOf, firstImage, mapAt, maps, differs, writeAt, writes}
 use Rattle.archive.specs.Archive.{readOnlyStart, protectAt, protects, closing, archive}
 use Rattle.archive.specs.Text.{printedRoll, Sayable}
-use Rattle.archive.specs.Claims.{LinesCounted}
+use Rattle.archive.specs.Claims.{LinesCounted, Longest}
 use Rattle.archive.proofs.IsSnapshot.{HasImage, IsSnapshot}
 use Rattle.archive.proofs.MapLaws.{start-inside, start-mapped}
+use Rattle.archive.proofs.Replay.{is-snapshot}
 
 -- ---- the text
 
@@ -156,3 +157,6 @@ archive-longest s share d image few =
       count-small (λ a. differs image d (a / 256) (a % 256)) 16384,
       count-le (readOnlyStart (d .slots)) (startsArea (d .slots)) 64 (λ i e. and-left (startsArea (d .slots) i) _ e),
     )
+
+pub longest : (g : Given) → Longest g
+longest g s share d o = archive-longest s share d (g .image) (is-snapshot g s share d o .few)

@@ -24,8 +24,8 @@ use Rattle.archive.specs.Archive.{archive}
 use Rattle.archive.specs.Text.{printedRoll}
 use Rattle.archive.specs.Written.{Written, writtenAs, rollOf, plainWritten}
 use Rattle.archive.specs.Claims.{Occurs}
-use Rattle.archive.proofs.Replay.{opened, longest}
-use Rattle.archive.proofs.TextLaws.{length-roll}
+use Rattle.archive.proofs.Replay.{opened}
+use Rattle.archive.proofs.TextLaws.{length-roll, longest}
 use Rattle.replay.specs.Snapshot.{archiveNumber, written}
 use Rattle.replay.proofs.Claims.{written-as-plain}
 use Rattle.archiving.specs.Whole.{left}

@@ -2,24 +2,21 @@
 // of the sandbox that its argument names. Where that is refused it writes nothing, and says the refusal's number on standard error.
 // It promises that what it reads, one line after the other, is one roll played from a start, and that answer and output are those of the archive roll of what
 // that roll left (`Performed`); so what it hands on to be written is the plain machine's archive roll, or nothing where that is refused (specs/Prints).
-// It stands on `playing` and `archiving`, on `image_file` for the image, and on the kit's `io`, `os` and `libc`; which bytes these read and write nothing
-// proves.
+// It stands on `roll_input` for the roll played, on `archiving`, on `image_file` for the image, and on the kit's `io`, `os` and `libc`; which bytes these read
+// and write nothing proves.
 ghost use mathlib.Core.Path.{_≡_};
 ghost use Prim.Native.Nat.{_*_, _≤_};
 ghost use lib.ListN.{length};
 ghost use Rattle.interface.specs.Answers.{valueOf};
-ghost use Rattle.state.specs.World.{worldOf};
 ghost use Rattle.state.specs.Start.{startedBy};
 ghost use Rattle.archiver.specs.Sandbox.{named};
-ghost use Rattle.archiver.specs.Performed.{RollPlayed, Performed};
+ghost use Rattle.archiver.specs.Performed.{Performed};
 use archiving::write_archive;
 use image_file::image_bytes;
 use image_file::load;
 use interface::answer::Answer;
 use lines::Line;
-use playing::play;
-use soundness::start::start;
-use state::sandbox::Machine;
+use roll_input::play_input;
 
 fn main() {
     let mut image = [0u8; 16_385];
@@ -44,34 +41,6 @@ fn perform(pool: &mut [u8], table: &mut [u16], image: &[u8], sandbox: u16, out: 
 {
     let machine = play_input(pool, table, image);
     write_archive(machine, pool, table, image, sandbox, out)
-}
-
-// Plays the roll on standard input from a start, line by line; its replies are not printed. "Lines after the 65,535th are not read."
-fn play_input(pool: &mut [u8], table: &mut [u16], image: &[u8]) -> Machine
-    ensures { λ r. ⌜ RollPlayed (now (image .entry)) (startedBy (now (pool .entry)) (now (table .entry)) (now (image .entry)))
-        (worldOf r (now (pool .exit)) (now (table .exit))) ⌝ }
-{
-    let mut machine = start(pool, table, image).machine;
-    let mut number: u32 = 1;
-    while number < 65_536 {
-        let mut line = [0u8; 43];
-        let mut reply = [0u8; 19];
-        let got = io::read_full(libc::STDIN_FILENO, &mut line);
-        machine = play(
-            machine,
-            pool,
-            table,
-            image,
-            &line[..got],
-            number,
-            &mut reply,
-        );
-        if got < Line::BYTES {
-            return machine;
-        }
-        number += 1;
-    }
-    machine
 }
 
 // Room for the longest archive roll, 16,402 lines. That the contract tells the length alone keeps proofs from going through the bytes one by one.

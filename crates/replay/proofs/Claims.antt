@@ -33,8 +33,8 @@ use Rattle.archive.specs.Text.{Sayable, printedRoll}
 use Rattle.archive.specs.Written.{Written, writtenAs, rollOf, plainWritten}
 use Rattle.archive.specs.Segments.{AllTaken}
 use Rattle.archive.specs.Claims.{Alike, Occurs, Rebuilds}
-use Rattle.archive.proofs.Replay.{replay, opened, longest, only-if, is-snapshot, alike-sym, alike-trans, archive-alike}
-use Rattle.archive.proofs.TextLaws.{archive-sayable, archive-length, lines-of-roll}
+use Rattle.archive.proofs.Replay.{replay, opened, only-if, is-snapshot, alike-sym, alike-trans, archive-alike}
+use Rattle.archive.proofs.TextLaws.{archive-sayable, archive-length, longest, lines-of-roll}
 use Rattle.replay.specs.Snapshot.{snapshotOf, archiveOf, archiveNumber, written}
 use Rattle.replay.specs.Claims.{After, Snapped, WrittenAsPlain, AcceptedOf, LongestOf, Rebuilt, ReplayOf, AgainOf, OnlyIfOf, IfAlikeOf, Text}
 use Rattle.replay.specs.Claims.{TextOf, Archived}

@@ -7,10 +7,10 @@ use lib.ListN.{length}
 use borrow.Author.Needs.{needs}
 use Rattle.state.specs.World.{World, worldOf}
 use Rattle.state.specs.Start.{startedBy}
-use Rattle.archiver.specs.Performed.{RollPlayed}
-use Rattle.archiver.proofs.InputLaws.{SoFar, none-so-far, few-lines, ended, one-more, full}
-use Rattle.archiver.proofs.play_input.Statement.{statement}
-use Rattle.archiver.proofs.play_input.Tie as tie
+use Rattle.roll_input.specs.Input.{RollPlayed}
+use Rattle.roll_input.proofs.InputLaws.{SoFar, none-so-far, few-lines, ended, one-more, full}
+use Rattle.roll_input.proofs.play_input.Statement.{statement}
+use Rattle.roll_input.proofs.play_input.Tie as tie
 
 abbrev Inv-loop : tie.InvT-loop
 Inv-loop pool₀ table₀ image machine₀ number₀ pool table machine number =
