@@ -21,7 +21,7 @@ use Rattle.interface.specs.Outcome.{slotsAfter, copyAfter}
 use Rattle.interface.specs.Refusals.{refusal}
 use Rattle.interface.proofs.ChargeLaws.{snapshot-charge}
 use Rattle.plain.specs.Machine.{Given, Pages, Core, viewOf, bytesAfter, coreAfter}
-use Rattle.archive.specs.Archive.{only, endFrom, pagesFrom, protectAt, protects, closing}
+use Rattle.archive.specs.Archive.{only, endFrom, readOnlyStart, pagesFrom, protectAt, protects, closing}
 use Rattle.archive.proofs.IsSnapshot.{IsSnapshot}
 use Rattle.archive.specs.Segments.{Goes, built, writable, unmarked, snapped}
 use Rattle.archive.proofs.SegmentLaws.{goes-one, goes-only, goes-joined}
@@ -132,7 +132,7 @@ module _ (g : Given) (s share : ℕ) (row : s ≤ 3) (d : Pages) (h : IsSnapshot
         rw (start-end f i l starts, ← start-next f i l starts)
         (cut-on i (i + pagesFrom f i) (λ j. unmarked (f j)) (λ j. writable (f j)) (omega arith) (λ j a b. rights-stay (f j) (rights-there j a b ∙ right)))
 
-  protect-stays : (i : ℕ) → i < 64 → (startsArea f i && eqb (rightsAt (f i)) 1) ≡ false → protectStage i ≡ protectStage (suc i)
+  protect-stays : (i : ℕ) → i < 64 → (readOnlyStart f i) ≡ false → protectStage i ≡ protectStage (suc i)
   protect-stays i l n =
       ap (λ (x : Slots). built share x bytes)
       (by-cases (startsArea f i) (λ t. protect-not i l t (and-not-right (startsArea f i) _ n t))
@@ -141,8 +141,8 @@ module _ (g : Given) (s share : ℕ) (row : s ≤ 3) (d : Pages) (h : IsSnapshot
   pub protects-go : Goes g s (protects s f) (protectStage 0) (protectStage 64)
   unfolding protects
   protects-go =
-      goes-joined g s (λ i. only (startsArea f i && eqb (rightsAt (f i)) 1) (protectAt s f i)) protectStage 64
-      (λ i l. goes-only g s (startsArea f i && eqb (rightsAt (f i)) 1) (protectAt s f i) (protectStage i) (protectStage (suc i))
+      goes-joined g s (λ i. only (readOnlyStart f i) (protectAt s f i)) protectStage 64
+      (λ i l. goes-only g s (readOnlyStart f i) (protectAt s f i) (protectStage i) (protectStage (suc i))
       (λ t. protect-goes i l (and-left (startsArea f i) _ t) (eqb-true _ 1 (and-right (startsArea f i) _ t))) (protect-stays i l))
 
   pub protect-start : built share (λ i. writable (f i)) bytes ≡ protectStage 0

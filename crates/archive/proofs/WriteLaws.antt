@@ -16,7 +16,7 @@ use Rattle.interface.specs.Slots.{Slots, isMapped, rightsAt, areas, mappedPages
 use Rattle.interface.specs.Outcome.{slotsAfter, copyAfter}
 use Rattle.interface.specs.Refusals.{refusal}
 use Rattle.plain.specs.Machine.{Given, Pages, Core, viewOf, stored, bytesAfter, coreAfter}
-use Rattle.archive.specs.Archive.{only, differs, writeAt, writes}
+use Rattle.archive.specs.Archive.{only, differs, writeAt, addresses, writes}
 use Rattle.archive.proofs.IsSnapshot.{IsSnapshot}
 use Rattle.archive.specs.Segments.{Goes, built, remade, writable, filled}
 use Rattle.archive.proofs.SegmentLaws.{goes-one, goes-only, goes-joined}
@@ -78,7 +78,7 @@ module _ (g : Given) (s share : ℕ) (row : s ≤ 3) (d : Pages) (h : IsSnapshot
   unfolding filledTo
   filled-unmapped a i j m = rw m
 
-  module _ (a : ℕ) (l : a < 16384) where
+  module _ (a : ℕ) (l : a < addresses) where
     abbrev q : Request
     q = writeAt s d a
 
@@ -109,7 +109,8 @@ module _ (g : Given) (s share : ℕ) (row : s ≤ 3) (d : Pages) (h : IsSnapshot
       write-accepted : refusal (viewOf g 0 (writeStage a)) q ≡ 0
       unfolding slotsAfter copyAfter chargeOf
       write-accepted =
-          write-taken (viewOf g 0 (writeStage a)) s row refl a (d .bytes (a / 256) (a % 256)) l byte (rw (mapped-remade (λ r. 3) (f (a / 256))) there)
+          write-taken (viewOf g 0 (writeStage a)) s row refl a (d .bytes (a / 256) (a % 256)) (omega (arith, l)) byte
+          (rw (mapped-remade (λ r. 3) (f (a / 256))) there)
           (rights-writable (f (a / 256)) there)
           (omega (arith, h .charged, remade-charge f (λ r. 3))) (omega (arith, h .few, remade-areas f (λ r. 3)))
 
@@ -129,10 +130,10 @@ module _ (g : Given) (s share : ℕ) (row : s ≤ 3) (d : Pages) (h : IsSnapshot
         (λ m. filled-before a ∙ sym (filled-unmapped (suc a) (a / 256) (a % 256) m)))
         (filled-off a))
 
-  pub writes-go : Goes g s (writes s (g .image) d) (writeStage 0) (writeStage 16384)
+  pub writes-go : Goes g s (writes s (g .image) d) (writeStage 0) (writeStage addresses)
   unfolding writes
   writes-go =
-      goes-joined g s (λ a. only (differs (g .image) d (a / 256) (a % 256)) (writeAt s d a)) writeStage 16384
+      goes-joined g s (λ a. only (differs (g .image) d (a / 256) (a % 256)) (writeAt s d a)) writeStage addresses
       (λ a l. goes-only g s (differs (g .image) d (a / 256) (a % 256)) (writeAt s d a) (writeStage a) (writeStage (suc a)) (write-goes a l) (write-stays a l))
 
   none-yet : (i j : ℕ) → filledTo 0 i j ≡ blank′ i j
@@ -145,14 +146,14 @@ module _ (g : Given) (s share : ℕ) (row : s ≤ 3) (d : Pages) (h : IsSnapshot
   write-start = ap (built share (λ i. writable (f i))) (fun-ext λ i. fun-ext λ j. sym (none-yet i j))
 
   -- all bytes are written
-  all-filled : (i j : ℕ) → filledTo 16384 i j ≡ filled (g .image) d i j
+  all-filled : (i j : ℕ) → filledTo addresses i j ≡ filled (g .image) d i j
   unfolding filledTo
   all-filled i j =
       by-cases (isMapped (f i))
       (λ m. by-cases (ltb j 256)
-      (λ l. rw (m, l, lt-ltb (i * 256 + j) 16384 (omega (arith, h .inside i m, ltb-true j 256 l))))
+      (λ l. rw (m, l, lt-ltb (i * 256 + j) addresses (omega (arith, h .inside i m, ltb-true j 256 l))))
       (λ l. rw (m, l)))
       (λ m. rw m)
 
-  pub write-end : writeStage 16384 ≡ built share (λ i. writable (f i)) (filled (g .image) d)
+  pub write-end : writeStage addresses ≡ built share (λ i. writable (f i)) (filled (g .image) d)
   write-end = ap (built share (λ i. writable (f i))) (fun-ext λ i. fun-ext λ j. all-filled i j)

@@ -65,8 +65,12 @@ differs image d i j = isMapped (d .slots i) && not (eqb (d .bytes i j) (backingB
 abbrev pub writeAt : ℕ → Pages → ℕ → Request
 writeAt s d a = requestOf Write s a (d .bytes (a / 256) (a % 256)) 0 0 0
 
+-- "addresses 0 to 16,383"
+abbrev pub addresses : ℕ
+addresses = 16384
+
 unfoldable pub writes : ℕ → List ℕ → Pages → List Request
-writes s image d = joined (λ a. only (differs image d (a / 256) (a % 256)) (writeAt s d a)) 16384
+writes s image d = joined (λ a. only (differs image d (a / 256) (a % 256)) (writeAt s d a)) addresses
 
 -- "a protect for each area with rights 1, in page order"
 abbrev pub protectAt : ℕ → Slots → ℕ → Request

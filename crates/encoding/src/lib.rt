@@ -1,6 +1,7 @@
 // The state in bytes, so that a host can keep it between calls: a sandbox and the whole state written, read and tested.
 // It promises: `encode` writes the bytes of a state, `decode` gives the state of bytes, `is_state` tells which bytes are a state's, each as the layout has it.
-// It stands on `layout` for the definitions, what they promise and the code of the least parts, on `places` for areas and runs, and on `state` for what is written.
+// It stands on `layout` for the definitions, what they promise and the code of the least parts, on `places` for areas and runs, and on `state` for what is
+// written.
 ghost use mathlib.Core.Path.{_≡_};
 ghost use lib.ListN.{length};
 ghost use Rattle.layout.specs.Layout.{heldAt, stateSize, sandboxBytes, stateBytes, stateFrom, areSandboxes, isState};

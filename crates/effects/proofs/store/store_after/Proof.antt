@@ -94,7 +94,8 @@ returns-2 : tie.Need-returns-2
 returns-2 c =
     let s = behind (c .before .before .before .before .before .before .before .before .before .before .before) in
     rw (same-sandbox s)
-    (unmapped (s .args .image .now) (s .args .frames) (s .args .q) (worldIn s) _ (c .before .before .before .before .before .before .before .before .before .if2 .taken)
+    (unmapped (s .args .image .now) (s .args .frames) (s .args .q) (worldIn s) _
+    (c .before .before .before .before .before .before .before .before .before .if2 .taken)
     (c .before .before .before .before .free-range .ensures))
 
 write-requires : tie.Need-write-requires
@@ -142,7 +143,8 @@ same-length-8 c = search needs
 returns-5 : tie.Need-returns-5
 returns-5 c =
     let s = behind (c .before .before .before .before .before .before .before .before .before .before .before .before .before .before) in
-    rewound (s .args .image .now) (s .args .frames) (s .args .q) (worldIn s) _ _ (c .before .before .before .before .before .before .before .before .before .if5 .taken)
+    rewound (s .args .image .now) (s .args .frames) (s .args .q) (worldIn s) _ _
+    (c .before .before .before .before .before .before .before .before .before .if5 .taken)
     (rw (← same-sandbox s) (c .before .before .before .before .rewind .ensures))
     (rw (← same-sandbox s) (c .before .before .before .before .before .before .before .gathered .ensures (s .args .machine .held) (s .args .pool .now)))
 

@@ -25,7 +25,11 @@ same-length-2 c = search needs
 returns-2 : tie.Need-returns-2
 returns-2 c =
     let start = c .before .before .before .before .before .before .before .before in
-    rw (← page-there 256 (start .args .pool .now) (sourceBytes (start .args .image .now) (start .args .source)) (start .args .entry) (c .before .before .before .before .before .if1 .left), ← c .before .before .before .frame-of .ensures)
+    rw (
+      ← page-there 256 (start .args .pool .now) (sourceBytes (start .args .image .now) (start .args .source)) (start .args .entry)
+          (c .before .before .before .before .before .if1 .left),
+      ← c .before .before .before .frame-of .ensures,
+    )
     (c .before .before .copy-frame .ensures)
 
 pub fill-frame-spec : {M : Type 1} → statement M

@@ -28,13 +28,18 @@ same-length-3 : tie.Need-same-length-3
 same-length-3 c = search needs
 
 returns-2 : tie.Need-returns-2
-returns-2 c = c .before .before .before .before .free-front .ensures ∙ restore-free 256 _ _ _ _ _ (not-true _ (c .before .before .before .before .before .before .before .if2 .taken))
+returns-2 c = c .before .before .before .before .free-front .ensures
+    ∙ restore-free 256 _ _ _ _ _ (not-true _ (c .before .before .before .before .before .before .before .if2 .taken))
 
 back-requires : tie.Need-back-requires
 back-requires c κs = search needs
 
 frame-of-requires : tie.Need-frame-of-requires
-frame-of-requires c κs = (omega arith, rw (c .before .before .before .before .before .front .ensures) (c .before .before .before .before .before .before .before .before .before .before .pre .1 .1 .0 .few _))
+frame-of-requires c κs = (
+  omega arith,
+  rw (c .before .before .before .before .before .front .ensures)
+      (c .before .before .before .before .before .before .before .before .before .before .pre .1 .1 .0 .few _),
+)
 
 fill-frame-requires : tie.Need-fill-frame-requires
 fill-frame-requires c κs =
@@ -43,7 +48,8 @@ fill-frame-requires c κs =
     let front = c .before .before .before .before .before .before .front in
     let back = c .before .before .back in
     let few : (front .result ≤ 128) × (back .result ≤ 128) = (rw (front .ensures) (g .few _), rw (back .ensures) (g .few _)) in
-    let room : (front .result * 256 ≤ length (start .args .pool .now)) × (back .result * 256 ≤ length (start .args .pool .now)) = (rw (front .ensures) (g .room _), rw (back .ensures) (g .room _)) in
+    let room : (front .result * 256 ≤ length (start .args .pool .now)) × (back .result * 256 ≤ length (start .args .pool .now)) =
+    (rw (front .ensures) (g .room _), rw (back .ensures) (g .room _)) in
     (omega (arith, c .frame-of .ensures), (omega arith, (omega arith, omega arith)))
 
 same-length-4 : tie.Need-same-length-4
@@ -58,7 +64,9 @@ returns-3 c =
     let back = c .before .before .before .before .before .back in
     let fill = c .before .before .fill-frame in
     restore-fill 256 _ _ _ _ _ (front .result) (back .result) (fill .last .0)
-    (not-false _ (c .before .before .before .before .before .before .before .if2 .left)) (front .ensures) (c .before .before .before .before .before .before .before .before .if1 .left) (back .ensures) (rw (← c .before .before .before .frame-of .ensures) (fill .ensures))
+    (not-false _ (c .before .before .before .before .before .before .before .if2 .left)) (front .ensures)
+    (c .before .before .before .before .before .before .before .before .if1 .left) (back .ensures)
+    (rw (← c .before .before .before .frame-of .ensures) (fill .ensures))
 
 pub restore-page-spec : {M : Type 1} → statement M
 restore-page-spec =

@@ -13,8 +13,17 @@ fill-frame-requires : tie.Need-fill-frame-requires
 fill-frame-requires c κs =
     let start = c .before .before .before .before .before .before in
     let g = start .pre .1 .1 .0 in
-    let under = c .before .back-if in
-    (start .pre .1 .1 .1 .1 .1, (rw (under .ensures) (few-if 256 _ _ g _ (start .args .committed)), (rw (under .ensures) (room-if 256 _ _ g _ (start .args .committed)), omega arith)))
+    let under = c .before .back-if in (
+      start .pre .1 .1 .1 .1 .1,
+      (
+        rw (under .ensures) (few-if 256 _ _ g _ (start .args .committed)),
+        (
+          rw (under .ensures)
+              (room-if 256 _ _ g _ (start .args .committed)),
+          omega arith,
+        ),
+      ),
+    )
 
 front-index-requires : tie.Need-front-index-requires
 front-index-requires c κs = search needs
@@ -46,7 +55,14 @@ returns c =
     let start = c .before .before .before .before .before .before .before .before .before .before .before .before in
     let s : Store = kept (start .args .held) (start .args .pool .now) (start .args .table .now) in
     let bytes = sourceBytes (start .args .image .now) (start .args .source) in
-    rw (← under-if 256 s (backOf (start .args .sandbox) (start .args .page .0)) bytes (start .args .committed), ← c .before .before .before .before .before .before .before .back-if .ensures, c .with .ensures, c .before .before .before .before .before .fill-frame .ensures, c .before .before .front-index .ensures)
+    rw (
+      ← under-if 256 s (backOf (start .args .sandbox) (start .args .page .0)) bytes
+          (start .args .committed),
+      ← c .before .before .before .before .before .before .before .back-if .ensures,
+      c .with .ensures,
+      c .before .before .before .before .before .fill-frame .ensures,
+      c .before .before .front-index .ensures,
+    )
 
 pub take-spec : {M : Type 1} → statement M
 take-spec =

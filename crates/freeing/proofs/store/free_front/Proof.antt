@@ -29,10 +29,20 @@ slice-write-table : tie.Need-slice-write-table
 slice-write-table c = search needs
 
 clear-frame-requires : tie.Need-clear-frame-requires
-clear-frame-requires c κs = omega (arith, c .before .before .before .before .before .before .before .pre .1 .1 .room (c .before .before .before .before .front-index .result), c .before .frame-of .ensures)
+clear-frame-requires c κs = omega (
+  arith,
+  c .before .before .before .before .before .before .before .pre .1 .1 .room
+      (c .before .before .before .before .front-index .result),
+  c .before .frame-of .ensures,
+)
 
 without-requires : tie.Need-without-requires
-without-requires c κs = omega (arith, c .before .before .before .before .before .before .before .before .before .before .pre .1 .1 .few (c .before .before .before .before .before .before .before .front-index .result), c .before .before .before .before .frame-of .ensures)
+without-requires c κs = omega (
+  arith,
+  c .before .before .before .before .before .before .before .before .before .before .pre .1 .1 .few
+      (c .before .before .before .before .before .before .before .front-index .result),
+  c .before .before .before .before .frame-of .ensures,
+)
 
 same-length : tie.Need-same-length
 same-length c = search needs
@@ -42,7 +52,14 @@ same-length-2 c = search needs
 
 returns-2 : tie.Need-returns-2
 unfolding free put
-returns-2 c = rw (← c .before .before .before .before .before .before .before .before .front-index .ensures, ne-eqb _ _ (c .before .before .before .before .before .before .if1 .left), c .without .ensures, c .before .before .before .clear-frame .ensures, c .before .before .before .before .before .frame-of .ensures)
+returns-2 c = rw (
+  ← c .before .before .before .before .before .before .before .before .front-index .ensures,
+  ne-eqb _ _
+      (c .before .before .before .before .before .before .if1 .left),
+  c .without .ensures,
+  c .before .before .before .clear-frame .ensures,
+  c .before .before .before .before .before .frame-of .ensures,
+)
 
 pub free-front-spec : {M : Type 1} → statement M
 free-front-spec =

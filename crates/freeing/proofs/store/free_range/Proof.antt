@@ -10,7 +10,8 @@ use Rattle.freeing.proofs.store.free_range.Statement.{statement}
 use Rattle.freeing.proofs.store.free_range.Tie as tie
 
 abbrev Inv-loop : tie.InvT-loop
-Inv-loop pool₀ table₀ sandbox first n h₀ i₀ pool table h i = (i ≤ n) × (length pool ≡ length pool₀) × (length table ≡ length table₀) × Ranged 256 pool table × (kept h pool table ≡ freeTo 256 (frontOf sandbox (first .0)) (kept h₀ pool₀ table₀) i)
+Inv-loop pool₀ table₀ sandbox first n h₀ i₀ pool table h i = (i ≤ n) × (length pool ≡ length pool₀) ×
+    (length table ≡ length table₀) × Ranged 256 pool table × (kept h pool table ≡ freeTo 256 (frontOf sandbox (first .0)) (kept h₀ pool₀ table₀) i)
 
 abbrev μ-loop : tie.MeasureT-loop
 μ-loop pool₀ table₀ sandbox first n h₀ i₀ pool table h i = n - i

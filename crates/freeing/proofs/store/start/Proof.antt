@@ -18,7 +18,11 @@ same-length-2 : tie.Need-same-length-2
 same-length-2 c = search needs
 
 returns : tie.Need-returns
-returns c = rw (c .none .ensures, c .before .before .before .before .before .before .before .clear-pool .ensures, c .before .before .before .clear-table .ensures, c .before .before .before .before .before .before .before .before .before .before .before .pre)
+returns c =
+    let table = c .before .before .before in
+    let pool = table .before .before .before .before in
+    let start = pool .before .before .before .before in
+    rw (c .none .ensures, pool .clear-pool .ensures, table .clear-table .ensures, start .pre)
 
 pub start-spec : {M : Type 1} → statement M
 start-spec =
