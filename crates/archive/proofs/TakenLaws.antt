@@ -7,13 +7,13 @@ use borrow.Author.Tests.{lt-ltb, le-ltb, le-leb, ne-eqb}
 use Rattle.interface.specs.Requests.{requestOf, Open, Map, Protect, Write, Snapshot}
 use Rattle.interface.specs.Slots.{isMapped, rightsAt, areas, allAre}
 use Rattle.interface.specs.Limits.{within, backingOk}
-use Rattle.interface.specs.Refusals.{View, isTaken, allMapped, slotsThen, chargeThen, refusal}
+use Rattle.interface.specs.Refusals.{View, isTaken, allMapped, slotsThen, chargeThen, applies, refusal}
 
 module _ (v : View) (s : ℕ) (row : s ≤ 3) where
   pub open-taken : (share : ℕ) → v .opened ≡ false → 1 ≤ share → share ≤ 128 → v .shares + share ≤ v .frames
       → chargeThen v (requestOf Open s share 0 0 0 0) ≤ share → areas (slotsThen v (requestOf Open s share 0 0 0 0)) ≤ 8
       → refusal v (requestOf Open s share 0 0 0 0) ≡ 0
-  unfolding refusal within allMapped
+  unfolding applies refusal within allMapped
   open-taken share o l m p c a =
       rw (le-ltb 3 s row, o, le-leb 1 share l, le-leb share 128 m, le-ltb _ _ p, le-ltb share _ c, le-ltb 8 _ a)
 
@@ -22,7 +22,7 @@ module _ (v : View) (s : ℕ) (row : s ≤ 3) where
         → allAre false (v .slots) i n ≡ true
         → chargeThen v (requestOf Map s i n kind p 3) ≤ v .share → areas (slotsThen v (requestOf Map s i n kind p 3)) ≤ 8
         → refusal v (requestOf Map s i n kind p 3) ≡ 0
-    unfolding refusal within allMapped
+    unfolding applies refusal within allMapped
     map-taken i n kind p l m e b u c a =
         rw (
           le-ltb 3 s row,
@@ -42,13 +42,13 @@ module _ (v : View) (s : ℕ) (row : s ≤ 3) where
     pub write-taken : (a b : ℕ) → a < 16384 → b < 256 → isMapped (v .slots (a / 256)) ≡ true → rightsAt (v .slots (a / 256)) ≡ 3
         → chargeThen v (requestOf Write s a b 0 0 0) ≤ v .share → areas (slotsThen v (requestOf Write s a b 0 0 0)) ≤ 8
         → refusal v (requestOf Write s a b 0 0 0) ≡ 0
-    unfolding refusal within allMapped
+    unfolding applies refusal within allMapped
     write-taken a b l m h r c f = rw (le-ltb 3 s row, opened, lt-ltb a 16384 l, lt-ltb b 256 m, h, r, le-ltb (v .share) _ c, le-ltb 8 _ f)
 
     pub protect-taken : (i n : ℕ) → i < 64 → 1 ≤ n → i + n ≤ 64 → allAre true (v .slots) i n ≡ true
         → chargeThen v (requestOf Protect s i n 1 0 0) ≤ v .share → areas (slotsThen v (requestOf Protect s i n 1 0 0)) ≤ 8
         → refusal v (requestOf Protect s i n 1 0 0) ≡ 0
-    unfolding refusal within allMapped
+    unfolding applies refusal within allMapped
     protect-taken i n l m e u c f =
         rw (
           le-ltb 3 s row,
@@ -66,5 +66,5 @@ module _ (v : View) (s : ℕ) (row : s ≤ 3) where
     pub snapshot-taken : isTaken (v .copy) ≡ false
         → chargeThen v (requestOf Snapshot s 0 0 0 0 0) ≤ v .share → areas (slotsThen v (requestOf Snapshot s 0 0 0 0 0)) ≤ 8
         → refusal v (requestOf Snapshot s 0 0 0 0 0) ≡ 0
-    unfolding refusal within allMapped
+    unfolding applies refusal within allMapped
     snapshot-taken u c f = rw (le-ltb 3 s row, opened, u, le-ltb (v .share) _ c, le-ltb 8 _ f)

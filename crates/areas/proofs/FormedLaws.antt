@@ -16,7 +16,8 @@ use Rattle.interface.specs.Runs.{isAnonymous}
 use Rattle.interface.specs.Limits.{rightsOk}
 use Rattle.areas.specs.declared.area.Area.{Area}
 use Rattle.areas.specs.declared.area.Areas.{Areas}
-use Rattle.areas.specs.Areas.{none, startOf, Near}
+use Rattle.interface.specs.Slots.{startOf}
+use Rattle.areas.specs.Areas.{none, Near}
 use Rattle.areas.specs.Formed.{ImagesExist, Proper, Apart, WellFormed, imagesExist, proper, isApart, isNone, placeOk, wellFormed}
 
 -- the test of an area

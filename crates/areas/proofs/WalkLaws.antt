@@ -14,7 +14,8 @@ use Rattle.basics.proofs.RangeLaws.{inside-yes, inside-below, inside-past}
 use Rattle.interface.specs.declared.page.Slot.the-variants.{Unmapped}
 use Rattle.areas.specs.declared.area.Area.{Area}
 use Rattle.areas.specs.declared.area.Areas.{Areas}
-use Rattle.areas.specs.Areas.{none, covers, slots, startOf, Near}
+use Rattle.interface.specs.Slots.{startOf}
+use Rattle.areas.specs.Areas.{none, covers, slots, Near}
 use Rattle.areas.specs.Formed.{WellFormed}
 use Rattle.areas.specs.Walk.{Formed, slotHere}
 use Rattle.areas.proofs.SlotLaws.{covers-none, slot-past, slot-hit}

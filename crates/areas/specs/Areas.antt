@@ -7,11 +7,11 @@ use lib.ListN.{getD, replicate}
 use Rattle.basics.specs.Choice.{_when_else_}
 use Rattle.basics.specs.Ranges.{inside}
 use Rattle.interface.specs.declared.page.Backing.{Backing}
-use Rattle.interface.specs.declared.page.Backing.the-variants.{Anonymous, Image}
+use Rattle.interface.specs.declared.page.Backing.the-variants.{Anonymous}
 use Rattle.interface.specs.declared.page.Attributes.{Attributes}
 use Rattle.interface.specs.declared.page.Slot.{Slot}
 use Rattle.interface.specs.declared.page.Slot.the-variants.{Unmapped}
-use Rattle.interface.specs.Slots.{Slots, isMapped, isUncommitted}
+use Rattle.interface.specs.Slots.{Slots, isMapped, isUncommitted, startOf}
 use Rattle.interface.specs.Outcome.{pageOn}
 use Rattle.areas.specs.declared.area.Area.{Area}
 use Rattle.areas.specs.declared.area.Areas.{Areas}
@@ -48,11 +48,6 @@ slots s page = slotIn (s .list) page
 -- nothing is mapped from page 64 on: "Each has 64 pages"
 unfoldable pub Bounded : Slots → Type 0
 Bounded f = (page : ℕ) → 64 ≤ page → f page ≡ Unmapped
-
--- the first image page of a backing, 0 of an anonymous one
-abbrev pub startOf : Backing → ℕ
-startOf Anonymous = 0
-startOf (Image first) = first .0
 
 -- every area's first image page is at most 64, so that the image page of each of 64 pages is a byte
 pub record Near (l : List Area) : Type 0 where

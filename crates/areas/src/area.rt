@@ -1,12 +1,13 @@
 // An area, a sandbox's areas, and what stands at a page as they say it.
 ghost use mathlib.Core.Path.{_≡_};
 ghost use Prim.Native.Nat.{_≤_, _<_};
-ghost use Rattle.areas.specs.Areas.{none, empty, attributesOf, covers, slotOf, slots, startOf, Near};
+ghost use Rattle.interface.specs.Slots.{startOf};
+ghost use Rattle.areas.specs.Areas.{none, empty, attributesOf, covers, slotOf, slots, Near};
 ghost use Rattle.areas.specs.Formed.{goesOn};
 use crate::basic::is_inside;
 use crate::basic::is_same;
-use crate::slot::follows;
-use crate::slot::page_on;
+use slots::follows;
+use slots::page_on;
 use interface::page::Attributes;
 use interface::page::Backing;
 use interface::page::PageNo;

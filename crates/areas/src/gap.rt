@@ -5,7 +5,7 @@ ghost use Rattle.interface.specs.Slots.{allAre, gapAt, lowestGap};
 ghost use Rattle.areas.specs.Areas.{slots, Near};
 use crate::area::Areas;
 use crate::basic::is_same;
-use crate::slot::is_mapped;
+use slots::is_mapped;
 use interface::page::PageNo;
 
 impl Areas {

@@ -7,5 +7,4 @@ pub mod area;
 pub mod basic;
 mod count;
 mod gap;
-pub mod slot;
 mod walk;

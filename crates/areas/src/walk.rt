@@ -3,7 +3,7 @@ ghost use mathlib.Core.Path.{_≡_};
 ghost use mathlib.Core.Bool.{_&&_};
 ghost use Prim.Native.Nat.{_+_, _≤_, _<_};
 ghost use lib.Dec.{leb, ltb};
-ghost use Rattle.areas.specs.Areas.{startOf};
+ghost use Rattle.interface.specs.Slots.{startOf};
 ghost use Rattle.areas.specs.Walk.{slotHere};
 use crate::area::Area;
 use interface::page::PageNo;

@@ -18,12 +18,12 @@ use Rattle.marks.specs.Named.{usedBelow}
 use Rattle.marks.specs.Marks.{from}
 use Rattle.table.specs.Store.{entry, frontOf, backOf, contents}
 use Rattle.areas.specs.Areas.{slots}
-use Rattle.state.specs.World.{World, sandboxAt, sharesOf, pagesIn, started, lengthsOk, viewAt, rowsOf}
+use Rattle.state.specs.World.{World, sandboxAt, sharesOf, pagesIn, started, lengthsOk, rowsOf}
 use Rattle.state.specs.Start.{startedBy}
 use Rattle.state.specs.Sound.{Sound}
 use Rattle.content.specs.Content.{pageRead}
 use Rattle.memory.specs.Memory.{heldBy}
-use Rattle.machine.specs.Step.{Chosen, Outcome, Stepped}
+use Rattle.machine.specs.Step.{viewAt, Chosen, Outcome, Stepped}
 use Rattle.plain.specs.Machine.{Given, fresh, copySlots, copyBytes, answers}
 use Rattle.plain.specs.Lists.{upTo, naming, toldLater, Rewound}
 use Rattle.simulation.specs.Lent.{Lent}

@@ -12,14 +12,14 @@ use interface::request::Request;
 pub fn is_call(q: Request) -> bool
     ensures { λ r. ⌜ r ≡ isCall q ⌝ }
 {
-    (1 <= q.code) & (q.code <= 10)
+    (Request::OPEN <= q.code) & (q.code <= Request::LAST_CALL)
 }
 
 // Whether it is refused without a snapshot: row 8, "rewind without a snapshot", and call 10.
 pub fn needs_snapshot(q: Request) -> bool
     ensures { λ r. ⌜ r ≡ needsSnapshot q ⌝ }
 {
-    (q.code == 8) | (q.code == 10)
+    (q.code == Request::REWIND) | (q.code == Request::COMPARE)
 }
 
 // The number that is printed: 0, or the refusal's.

@@ -31,13 +31,13 @@ use Rattle.packing.specs.Pack.{pack}
 use Rattle.packing.proofs.PackLaws.{areas-fit}
 use Rattle.packing.proofs.KeptLaws.{repack-slots, pack-slots}
 use Rattle.state.specs.declared.sandbox.Sandbox.{Sandbox}
-use Rattle.state.specs.World.{World, sandboxAt, withPresent, closedSandbox, pagesIn, viewAt}
+use Rattle.state.specs.World.{World, sandboxAt, withPresent, closedSandbox, pagesIn}
 use Rattle.state.specs.Sound.{SoundAt, Sound}
 use Rattle.state.proofs.TestLaws.{slots-inside}
 use Rattle.state.proofs.SettledLaws.{settled}
 use Rattle.rules.specs.After.{packedAfter, takenAfter, snapshotAfter}
 use Rattle.memory.specs.Memory.{givesAt, runsAfter, storeAfter, valueAt}
-use Rattle.machine.specs.Step.{numberAt, step, takes, Outcome, Stepped}
+use Rattle.machine.specs.Step.{viewAt, numberAt, step, takes, Outcome, Stepped}
 use Rattle.simulation.proofs.StepLaws.{number-is, accepted-leaves, gives-takes}
 use Rattle.simulation.proofs.AnySound.{stays-sound}
 use Rattle.claims.specs.Demands.{Run, none, more}

@@ -18,7 +18,7 @@ use Rattle.interface.specs.Requests.{Open, isCall}
 use Rattle.interface.specs.Slots.{follows, joins, areas, mappedPages, uncommittedPages, lowestGap, chargeOf}
 use Rattle.interface.specs.Limits.{within}
 use Rattle.interface.specs.Outcome.{firstOf, slotsAfter, copyAfter}
-use Rattle.interface.specs.Refusals.{allMapped, refusal}
+use Rattle.interface.specs.Refusals.{allMapped, applies, refusal}
 use Rattle.interface.specs.Examples.{refused, requestsOf, getsOf, call₁}
 use Rattle.frames.specs.Word.{bit, putBit}
 use Rattle.frames.specs.Frames.{mark, held as heldMark}
@@ -150,7 +150,7 @@ all-get-lent (c ∷ cs) e =
     (λ pool table image p t i o s. lent-answer pool table image q o s ∙ rw (p, t, i) (same-answer _ _ (given .0)), all-get-lent cs (given .1))
 
 pub lendings-get : AllGetLent lendings
-unfolding lendingsOk lentAnswer within allMapped firstOf slotsAfter copyAfter refusal coreValue held
+unfolding lendingsOk lentAnswer within allMapped firstOf slotsAfter copyAfter applies refusal coreValue held
     count sum every lowest inside over follows joins areas mappedPages uncommittedPages lowestGap chargeOf
 lendings-get = all-get-lent lendings refl
 

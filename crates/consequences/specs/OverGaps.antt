@@ -12,9 +12,9 @@ use Rattle.interface.specs.Slots.{Slots, isMapped, areas, allAre}
 use Rattle.interface.specs.Examples.{ok, refused}
 use Rattle.interface.specs.Gaps.{Unmaps, isHole, mappedAlone, allOk}
 use Rattle.areas.specs.Areas.{slots}
-use Rattle.state.specs.World.{World, sandboxAt, viewAt}
+use Rattle.state.specs.World.{World, sandboxAt}
 use Rattle.state.specs.Sound.{Sound}
-use Rattle.machine.specs.Step.{Outcome, Stepped}
+use Rattle.machine.specs.Step.{viewAt, Outcome, Stepped}
 use Rattle.claims.specs.Demands.{Run}
 
 -- the pages of the sandbox that a request names

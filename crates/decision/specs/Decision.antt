@@ -7,6 +7,7 @@ use Rattle.interface.specs.declared.request.Request.{Request}
 use Rattle.interface.specs.Answers.{refusalNumber}
 use Rattle.interface.specs.Refusals.{View, refusal}
 use Rattle.areas.specs.declared.area.Areas.{Areas}
+use Rattle.areas.specs.Areas.{empty}
 use Rattle.state.specs.declared.sandbox.Sandbox.{Sandbox}
 use Rattle.decision.specs.declared.Verdict.{Verdict}
 use Rattle.decision.specs.declared.Verdict.the-variants.{Accepted, Refused}
@@ -18,9 +19,9 @@ abbrev pub verdictNumber : Verdict → ℕ
 verdictNumber Accepted = 0
 verdictNumber (Refused why) = refusalNumber why
 
--- the areas afterwards: those that result where the request is accepted, the present ones where it is refused ("state .. unchanged")
+-- the areas afterwards: those that result where the request is accepted, none where it is refused
 abbrev pub areasLeft : View → Request → Sandbox → Areas
-areasLeft v q b = presentAfter q b when eqb (refusal v q) 0 else b .present
+areasLeft v q b = presentAfter q b when eqb (refusal v q) 0 else empty
 
 -- the verdict is that of the table, and the areas are those afterwards
 pub record Decided (v : View) (q : Request) (b : Sandbox) (r : Decision) : Type 0 where

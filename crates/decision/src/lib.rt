@@ -1,24 +1,34 @@
 // The decision: the rows of "Turned back" from 4 on, in their order. No lent memory is touched here.
-// It promises: `decide` gives the number of `interface`'s one table of refusals, for any request of a sandbox in a sound state, and the areas afterwards.
-// It stands on `rules` for the tests of the rows and for what results, and on `limits` for row 6.
+// It promises: `decide` gives the number of `interface`'s one table of refusals, for any call of a sound state, and the areas afterwards.
+// It stands on `rules` for the tests of the rows and for what results, on `limits` for row 6, and on `totals` for the shares together.
 ghost use mathlib.Core.Path.{_≡_};
-ghost use mathlib.Core.Bool.{true};
-ghost use Prim.Native.Nat.{_≤_};
+ghost use mathlib.Core.Bool.{true, false};
+ghost use Prim.Native.Nat.{_<_};
+ghost use Rattle.interface.specs.Numbers.{Sandboxes};
 ghost use Rattle.interface.specs.Requests.{isCall};
+ghost use Rattle.interface.specs.declared.answer.Refusal.the-variants.{NotOpen};
+ghost use Rattle.interface.specs.Refusals.{applies};
 ghost use Rattle.interface.specs.Settled.{Settled};
-ghost use Rattle.rules.specs.Ready.{Ready, viewFrom};
+ghost use Rattle.areas.specs.Areas.{empty};
+ghost use Rattle.state.specs.World.{sandboxIn, sharesIn, viewFrom};
+ghost use Rattle.rules.specs.Ready.{Ready};
 ghost use Rattle.decision.specs.Decision.{Decided};
 use areas::area::Areas;
 use interface::answer::Refusal;
 use interface::request::Request;
 use limits::within_limits;
 use rules::after::packed_after;
-use rules::rows::all_mapped;
-use rules::rows::exceeds;
-use rules::rows::lacks_gap;
-use rules::rows::lacks_right;
-use rules::rows::meets_mapped;
+use rules::rows::already_mapped;
+use rules::rows::already_open;
+use rules::rows::no_gap;
+use rules::rows::no_snapshot;
+use rules::rows::not_mapped;
+use rules::rows::not_open;
+use rules::rows::not_writable;
+use rules::rows::share_exceeded;
+use rules::rows::snapshot_taken;
 use state::sandbox::Sandbox;
+use totals::shares;
 
 // Whether a request is accepted, or why it is refused.
 pub enum Verdict {
@@ -26,69 +36,86 @@ pub enum Verdict {
     Refused(Refusal),
 }
 
-// A verdict, and the areas that the request leaves: those that result, or, where it is refused, the present ones.
+// A verdict, and the areas that an accepted request leaves; no areas where it is refused.
 pub struct Decision {
     pub verdict: Verdict,
     pub areas: Areas,
 }
 
-// What becomes of a request for one of the four sandboxes, in a sound state: `frames` of the pool, `images` pages of the image, and the `shares` of all.
-pub fn decide(b: Sandbox, frames: u8, images: u8, shares: u16, q: Request) -> Decision
+// What becomes of a call in a sound state, over so many `frames` of the pool and pages of the image.
+pub fn decide(sandboxes: [Sandbox; 4], frames: u8, images: u8, q: Request) -> Decision
     requires { ⌜ isCall q ≡ true ⌝ }
-    requires { ⌜ q .sandbox ≤ 3 ⌝ }
+    requires { ⌜ (q .sandbox < Sandboxes → Ready images (sandboxIn sandboxes (q .sandbox))) ⌝ }
+    requires { ⌜ (q .sandbox < Sandboxes
+        → Settled (viewFrom true frames images (sharesIn sandboxes) (sandboxIn sandboxes (q .sandbox)))) ⌝ }
+    ensures { λ r. ⌜ (let b = sandboxIn sandboxes (q .sandbox) in
+        Decided (viewFrom true frames images (sharesIn sandboxes) b) q b r) ⌝ }
+{
+    if q.sandbox as usize >= Request::SANDBOXES {
+        return refuse(Refusal::NotOpen);
+    }
+    let k = q.sandbox as usize;
+    let b = sandboxes[k];
+    if not_open(b.opened, q) {
+        return refuse(Refusal::NotOpen);
+    }
+    decide_further(b, frames, images, shares(sandboxes), q)
+}
+
+// The rows from 5 on, of the sandbox that the call names; row 4 does not apply.
+fn decide_further(b: Sandbox, frames: u8, images: u8, shares: u16, q: Request) -> Decision
+    requires { ⌜ isCall q ≡ true ⌝ }
+    requires { ⌜ applies (viewFrom true frames images shares b) q NotOpen ≡ false ⌝ }
     requires { ⌜ Ready images b ⌝ }
-    requires { ⌜ Settled (viewFrom frames images shares b) ⌝ }
-    requires { ⌜ shares ≤ 1020 ⌝ }
-    ensures { λ r. ⌜ Decided (viewFrom frames images shares b) q b r ⌝ }
+    requires { ⌜ Settled (viewFrom true frames images shares b) ⌝ }
+    ensures { λ r. ⌜ Decided (viewFrom true frames images shares b) q b r ⌝ }
 {
     let present = b.present;
-    if (q.code != 1) & !b.opened {
-        return refuse(present, Refusal::NotOpen);
-    }
-    if (q.code == 1) & b.opened {
-        return refuse(present, Refusal::AlreadyOpen);
+    if already_open(b.opened, q) {
+        return refuse(Refusal::AlreadyOpen);
     }
     if !within_limits(q, images) {
-        return refuse(present, Refusal::OutsideLimits);
+        return refuse(Refusal::OutsideLimits);
     }
-    if (q.code == 7) & b.taken {
-        return refuse(present, Refusal::SnapshotTaken);
+    if snapshot_taken(b, q) {
+        return refuse(Refusal::SnapshotTaken);
     }
-    if codes::needs_snapshot(q) & !b.taken {
-        return refuse(present, Refusal::NoSnapshot);
+    if no_snapshot(b, q) {
+        return refuse(Refusal::NoSnapshot);
     }
-    if !all_mapped(present, q) {
-        return refuse(present, Refusal::NotMapped);
+    if not_mapped(present, q) {
+        return refuse(Refusal::NotMapped);
     }
-    if meets_mapped(present, q) {
-        return refuse(present, Refusal::AlreadyMapped);
+    if already_mapped(present, q) {
+        return refuse(Refusal::AlreadyMapped);
     }
-    if lacks_gap(present, q) {
-        return refuse(present, Refusal::NoGap);
+    if no_gap(present, q) {
+        return refuse(Refusal::NoGap);
     }
-    if lacks_right(present, q) {
-        return refuse(present, Refusal::NotWritable);
+    if not_writable(present, q) {
+        return refuse(Refusal::NotWritable);
     }
-    if exceeds(b, frames, images, shares, q) {
-        return refuse(present, Refusal::ShareExceeded);
+    if share_exceeded(b, frames, shares, q) {
+        return refuse(Refusal::ShareExceeded);
     }
-    let packed = packed_after(b, images, q);
-    let areas = packed.areas;
+    let packed = packed_after(b, q);
     if !packed.fits {
-        return refuse(present, Refusal::TooManyAreas);
+        return refuse(Refusal::TooManyAreas);
     }
+    let areas = packed.areas;
     Decision {
         verdict: Verdict::Accepted,
         areas: areas,
     }
 }
 
-// A refusal; the present areas stay.
-fn refuse(present: Areas, why: Refusal) -> Decision
-    ensures { λ r. ⌜ r ≡ record { verdict = Verdict.Refused why; areas = present } ⌝ }
+// A refusal, and no areas.
+fn refuse(why: Refusal) -> Decision
+    ensures { λ r. ⌜ r ≡ record { verdict = Verdict.Refused why; areas = empty } ⌝ }
 {
+    let areas = Areas::empty();
     Decision {
         verdict: Verdict::Refused(why),
-        areas: present,
+        areas: areas,
     }
 }

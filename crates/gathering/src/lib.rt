@@ -17,7 +17,7 @@ ghost use Rattle.areas.specs.Walk.{Formed};
 ghost use Rattle.gathering.specs.AreaRun.{withEntry, frontsTo, runOf};
 use areas::area::Area;
 use areas::area::Areas;
-use areas::slot::is_anonymous;
+use slots::is_anonymous;
 use frames::Held;
 use interface::page::PageNo;
 use runs::Runs;

@@ -4,16 +4,20 @@ use mathlib.Core.Path.{_≡_}
 use mathlib.Core.Bool.{true, false, not, _&&_}
 use native.Mathlib.Omega.{arith}
 use lib.Dec.{leb, ltb, eqb}
-use borrow.Author.Tests.{leb-true, ltb-false, eqb-true, eqb-false, not-false}
-use Rattle.basics.proofs.TestLaws.{by-cases, passed, and-left, and-right, and-not-right, or-left, or-right}
+use borrow.Author.Tests.{leb-true, ltb-true, ltb-false, eqb-true, eqb-false, not-false}
+use Rattle.basics.proofs.TestLaws.{by-cases, and-left, and-right, and-not-right, or-left, or-right}
 use Rattle.basics.proofs.LoopLaws.{lowest-range, lowest-passes, lowest-least}
+use Rattle.interface.specs.declared.answer.Refusal.{Refusal}
+use Rattle.interface.specs.declared.answer.Refusal.the-variants.{NoSuchCall, Unsound, NotOpen, AlreadyOpen, OutsideLimits, SnapshotTaken, NoSnapshot}
+use Rattle.interface.specs.declared.answer.Refusal.the-variants.{NotMapped, AlreadyMapped, NoGap, NotWritable, ShareExceeded, TooManyAreas}
 use Rattle.interface.specs.declared.request.Request.{Request}
 use Rattle.interface.specs.Requests.{_is_, Open, Map, Write, Snapshot, needsSnapshot}
 use Rattle.interface.specs.Slots.{Slots, allAre, gapAt, lowestGap}
 use Rattle.interface.specs.Limits.{within}
 use Rattle.interface.specs.Outcome.{firstOf}
-use Rattle.interface.specs.Refusals.{View, refusal}
+use Rattle.interface.specs.Refusals.{View, applies, refusal}
 use Rattle.interface.specs.Accepted.{Accepted}
+use Rattle.interface.proofs.TableLaws.{all-past}
 
 -- the lowest gap is at most 64, and what is below 64 is a gap
 pub gap-range : (f : Slots) (n : ℕ) → lowestGap f n ≤ 64
@@ -34,36 +38,33 @@ gap-lowest f n i h = lowest-least (gapAt f n) 0 64 i (omega arith) h
 pub gap-fits : (f : Slots) (n : ℕ) → lowestGap f n < 64 → lowestGap f n + n ≤ 64
 gap-fits f n h = omega (arith, leb-true n (64 - lowestGap f n) (and-left (leb n (64 - lowestGap f n)) _ (gap-found f n h)))
 
+-- no row applies
+pub no-row : (v : View) (q : Request) → refusal v q ≡ 0 → (row : Refusal) → applies v q row ≡ false
+unfolding applies refusal
+no-row v q e = all-past (applies v q) e
+
 pub accepted : (v : View) (q : Request) → refusal v q ≡ 0 → Accepted v q
-unfolding refusal
+unfolding applies
 accepted v q e =
-    let r2 = passed 1 _ _ e in
-    let r4 = passed 3 _ _ (r2 .1) in
-    let r5 = passed 4 _ _ (r4 .1) in
-    let r6 = passed 5 _ _ (r5 .1) in
-    let r7 = passed 6 _ _ (r6 .1) in
-    let r8 = passed 7 _ _ (r7 .1) in
-    let r9 = passed 8 _ _ (r8 .1) in
-    let r10 = passed 9 _ _ (r9 .1) in
-    let r11 = passed 10 _ _ (r10 .1) in
-    let r12 = passed 11 _ _ (r11 .1) in
-    let r13 = passed 12 _ _ (r12 .1) in
-    let r14 = passed 13 _ _ (r13 .1) in
+    let past = no-row v q e in
+    let opening = past NotOpen in
+    let share = past ShareExceeded in
     record {
-      coded = not-false _ (r2 .0);
-      inRow = ltb-false 3 (q .sandbox) (or-left _ _ (r4 .0));
-      opened = λ o. not-false _ (and-not-right (not (q is Open)) _ (or-right (ltb 3 (q .sandbox)) _ (r4 .0)) (rw o));
-      closed = λ o. and-not-right (q is Open) (v .opened) (r5 .0) o;
-      inLimits = not-false _ (r6 .0);
-      untaken = and-not-right (q is Snapshot) _ (r7 .0);
-      taken = λ o. not-false _ (and-not-right (needsSnapshot q) _ (r8 .0) o);
-      mapped = not-false _ (r9 .0);
-      free = λ o n. not-false _ (and-not-right (q is Map && not (eqb (q .p1) 64)) _ (r10 .0) (rw (o, n)));
-      hasGap = λ o n. gap-some (v .slots) (q .p2) (and-not-right (q is Map && eqb (q .p1) 64) _ (r11 .0) (rw (o, n)));
-      writable = λ o. eqb-true _ 3 (not-false _ (and-not-right (q is Write) _ (r12 .0) o));
-      pooled = λ o. ltb-false _ _ (and-not-right (q is Open) _ (or-left _ _ (r13 .0)) o);
-      charged = ltb-false _ _ (or-right (q is Open && ltb (v .frames) (v .shares + q .p1)) _ (r13 .0));
-      inAreas = ltb-false 8 _ (r14 .0);
+      coded = not-false _ (past NoSuchCall);
+      sound = not-false _ (past Unsound);
+      inRow = ltb-true (q .sandbox) 4 (not-false _ (or-left _ _ opening));
+      opened = λ o. not-false _ (and-not-right (not (q is Open)) _ (or-right (not (ltb (q .sandbox) 4)) _ opening) (rw o));
+      closed = λ o. and-not-right (q is Open) (v .opened) (past AlreadyOpen) o;
+      inLimits = not-false _ (past OutsideLimits);
+      untaken = and-not-right (q is Snapshot) _ (past SnapshotTaken);
+      taken = λ o. not-false _ (and-not-right (needsSnapshot q) _ (past NoSnapshot) o);
+      mapped = not-false _ (past NotMapped);
+      free = λ o n. not-false _ (and-not-right (q is Map && not (eqb (q .p1) 64)) _ (past AlreadyMapped) (rw (o, n)));
+      hasGap = λ o n. gap-some (v .slots) (q .p2) (and-not-right (q is Map && eqb (q .p1) 64) _ (past NoGap) (rw (o, n)));
+      writable = λ o. eqb-true _ 3 (not-false _ (and-not-right (q is Write) _ (past NotWritable) o));
+      pooled = λ o. ltb-false _ _ (and-not-right (q is Open) _ (or-left _ _ share) o);
+      charged = ltb-false _ _ (or-right (q is Open && ltb (v .frames) (v .shares + q .p1)) _ share);
+      inAreas = ltb-false 8 _ (past TooManyAreas);
     }
 
 -- the pages of a map end at page 63 at the latest

@@ -1,4 +1,5 @@
 pub mod SlotLaws
+pub mod TableLaws
 pub mod KindLaws
 pub mod AcceptedLaws
 pub mod ChargeLaws

@@ -1,5 +1,5 @@
--- Request A9, the rows of the archive on both sides of each: of a closed sandbox, of an open one without a snapshot, and of one with a snapshot. Its roll has
--- 86 bytes, two lines.
+-- Request A9, the rows of the archive on both sides of each: in an unsound state, of a closed sandbox, of an open one without a snapshot, and of one with a
+-- snapshot. Its roll has 86 bytes, two lines.
 use Prim.Native.Nat.{ℕ}
 use mathlib.Core.Path.{_≡_}
 use mathlib.Core.Bool.{Bool, true, false}
@@ -10,17 +10,20 @@ use Rattle.interface.specs.Slots.{Slots}
 use Rattle.interface.specs.Refusals.{View, archiveRefusal}
 
 -- a sandbox with share 8 over a pool of 128 frames, nothing mapped
-abbrev pub seen : Bool → Option Slots → View
-seen isOpen copy = record { frames = 128; imagePages = 0; shares = 8; opened = isOpen; share = 8; slots = λ i. Unmapped; copy = copy }
+abbrev pub seen : Bool → Bool → Option Slots → View
+seen isSound isOpen copy = record { sound = isSound; frames = 128; imagePages = 0; shares = 8; opened = isOpen; share = 8; slots = λ i. Unmapped; copy = copy }
 
 abbrev pub shut : View
-shut = seen false none
+shut = seen true false none
 
 abbrev pub bare : View
-bare = seen true none
+bare = seen true true none
 
 abbrev pub snapped : View
-snapped = seen true (some (λ i. Unmapped))
+snapped = seen true true (some (λ i. Unmapped))
+
+abbrev pub unsound : View
+unsound = seen false true (some (λ i. Unmapped))
 
 -- view, sandbox and bytes of output memory, and the number
 pub record Row : Type 0 where
@@ -34,6 +37,8 @@ row view sandbox room number = record { view = view; sandbox = sandbox; room = r
 
 abbrev pub archiveRows : List Row
 archiveRows =
+    -- "lent length wrong, or state unsound", whatever is asked for
+    row unsound 0 86 3 ∷ row unsound 4 0 3 ∷
     -- "sandbox above 3", open or not, whatever the room
     row snapped 3 86 0 ∷ row snapped 4 86 4 ∷ row snapped 65535 86 4 ∷ row bare 4 86 4 ∷ row shut 4 0 4 ∷
     -- "not open": before "Without a snapshot it is refusal 8"

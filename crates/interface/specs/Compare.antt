@@ -3,6 +3,7 @@ use Prim.Native.Nat.{ℕ}
 use mathlib.Core.Bool.{Bool, true, false, not, _&&_}
 use lib.Dec.{eqb}
 use Rattle.basics.specs.Ranges.{lowest}
+use Rattle.interface.specs.Numbers.{PageCount}
 use Rattle.interface.specs.declared.page.Slot.{Slot}
 use Rattle.interface.specs.declared.page.Slot.the-variants.{Unmapped, Mapped}
 use Rattle.interface.specs.Slots.{Slots}
@@ -17,4 +18,4 @@ agree (Mapped t) (Mapped c) sameBytes = eqb (t .rights) (c .rights) && sameBytes
 
 -- "the lowest page number at which the sandbox and its snapshot differ .., and 64 if they nowhere differ": of all 64 pages
 unfoldable pub lowestDifference : Slots → Slots → (ℕ → Bool) → ℕ
-lowestDifference present snapshot sameBytes = lowest (λ i. not (agree (present i) (snapshot i) (sameBytes i))) 0 64
+lowestDifference present snapshot sameBytes = lowest (λ i. not (agree (present i) (snapshot i) (sameBytes i))) 0 PageCount

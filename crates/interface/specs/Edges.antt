@@ -32,6 +32,12 @@ pagesEdges pages =
     pages 0 0 gives refused 6 ∷ pages 0 64 gives ok 0 ∷ pages 0 65 gives refused 6 ∷ pages 0 65535 gives refused 6 ∷
     pages 1 63 gives ok 0 ∷ pages 1 64 gives refused 6 ∷ pages 63 2 gives refused 6 ∷ []
 
+-- of a closed sandbox in an unsound state: "lent length wrong, or state unsound" behind row 2 and before all others
+abbrev pub unsoundEdges : List Line
+unsoundEdges =
+    call 0 gives refused 2 ∷ call 11 gives refused 2 ∷ call₁ Open 8 gives refused 3 ∷ inSandbox 4 (call₁ Open 8) gives refused 3 ∷
+    call Report gives refused 3 ∷ call₁ Open 0 gives refused 3 ∷ []
+
 -- of a closed sandbox, over a pool of 128 frames
 abbrev pub closedEdges : List Line
 closedEdges =
@@ -103,10 +109,10 @@ eightEdges =
     call₂ Unmap 0 64 gives ok 0 ∷ call₂ Unmap 1 3 gives ok 0 ∷ call₂ Unmap 2 2 gives ok 0 ∷ call₂ Unmap 1 2 gives ok 0 ∷ call₂ Unmap 1 1 gives ok 0 ∷
     call₂ Unmap 15 49 gives ok 0 ∷ call₃ Protect 0 3 1 gives refused 9 ∷ call₃ Protect 1 2 1 gives refused 9 ∷ call₃ Protect 2 2 1 gives refused 9 ∷ []
 
--- ---- the four sandboxes, as refusals are decided from them: a pool of 128 frames, an image of 2 pages, no other share, no snapshot
+-- ---- the sandboxes, as refusals are decided from them: a pool of 128 frames, an image of 2 pages, no other share, no snapshot
 
-abbrev pub viewOf : Bool → ℕ → Slots → View
-viewOf isOpen n f = record { frames = 128; imagePages = 2; shares = n; opened = isOpen; share = n; slots = f; copy = none }
+abbrev pub viewOf : Bool → Bool → ℕ → Slots → View
+viewOf isSound isOpen n f = record { sound = isSound; frames = 128; imagePages = 2; shares = n; opened = isOpen; share = n; slots = f; copy = none }
 
 -- all 64 pages mapped, as by `2 0 0 64 0 0 3`
 abbrev pub full : Slots
@@ -121,8 +127,9 @@ unfoldable pub numbered : View → List Line → Bool
 numbered v [] = true
 numbered v (l ∷ ls) = eqb (refusal v (l .request)) (l .gets .number) && numbered v ls
 
--- of all four
+-- of all of them
 unfoldable pub edgesHold : Bool
 edgesHold =
-    numbered (viewOf false 0 (λ i. Unmapped)) closedEdges && (numbered (viewOf true 128 (λ i. Unmapped)) bareEdges
-    && (numbered (viewOf true 128 full) fullEdges && numbered (viewOf true 16 eight) eightEdges))
+    numbered (viewOf false false 0 (λ i. Unmapped)) unsoundEdges && (numbered (viewOf true false 0 (λ i. Unmapped)) closedEdges
+    && (numbered (viewOf true true 128 (λ i. Unmapped)) bareEdges
+    && (numbered (viewOf true true 128 full) fullEdges && numbered (viewOf true true 16 eight) eightEdges)))

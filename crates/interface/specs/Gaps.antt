@@ -1,10 +1,11 @@
 -- Request A2, "Unmapping over gaps": an unmap that only row 14 can refuse, and the mapped pages of its range as unmaps that name these alone.
-use Prim.Native.Nat.{ℕ, zero, suc, _-_, _≤_}
+use Prim.Native.Nat.{ℕ, zero, suc, _-_, _<_}
 use mathlib.Core.Path.{_≡_}
 use mathlib.Core.Bool.{Bool, true, false, _&&_, _||_}
 use mathlib.Core.List.{List, [], _∷_}
 use Rattle.basics.specs.Choice.{_when_else_}
 use Rattle.basics.specs.Ranges.{every, inside}
+use Rattle.interface.specs.Numbers.{Sandboxes}
 use Rattle.interface.specs.declared.request.Request.{Request}
 use Rattle.interface.specs.Answers.{Answered}
 use Rattle.interface.specs.Requests.{Unmap}
@@ -13,10 +14,12 @@ use Rattle.interface.specs.Limits.{within}
 use Rattle.interface.specs.Refusals.{View}
 use Rattle.interface.specs.Examples.{ok, call₂, inSandbox}
 
--- an unmap to which rows 4 and 6 do not apply: "sandbox above 3; or, but for open, not open"; "a parameter outside its limits .. an unused one not 0"
+-- an unmap to which rows 3, 4 and 6 do not apply: "state unsound"; "sandbox above 3; or, but for open, not open"; "a parameter outside its limits .. an
+-- unused one not 0"
 pub record Unmaps (v : View) (q : Request) : Type 0 where
   pub called : q .code ≡ Unmap
-  pub row : q .sandbox ≤ 3
+  pub sound : v .sound ≡ true
+  pub row : q .sandbox < Sandboxes
   pub opened : v .opened ≡ true
   pub limits : within (v .imagePages) q ≡ true
 

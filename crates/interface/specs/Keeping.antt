@@ -6,6 +6,7 @@ use mathlib.Core.Bool.{Bool, true, false, _&&_}
 use lib.Dec.{eqb}
 use Rattle.basics.specs.Ranges.{count}
 use Rattle.basics.specs.Longest.{byAge, Longest}
+use Rattle.interface.specs.Numbers.{PageCount}
 use Rattle.interface.specs.declared.page.Backing.the-variants.{Anonymous}
 use Rattle.interface.specs.declared.page.Slot.{Slot}
 use Rattle.interface.specs.declared.request.Request.{Request}
@@ -33,7 +34,7 @@ AreasAreSpared = (f : Slots) (a i j : ℕ) → isOfArea f a i ≡ true → isOfA
 
 -- "the frames of each uncommitted anonymous area, if any, are cleared and kept as one run, whose length is its number of frames": its pages' fronts
 abbrev pub runOf : Slots → (ℕ → Bool) → ℕ → ℕ
-runOf f front a = count (λ i. isOfArea f a i && (front i && isSpared (f i))) 64
+runOf f front a = count (λ i. isOfArea f a i && (front i && isSpared (f i))) PageCount
 
 -- "At most 8 runs are kept, the longest. All ties go to the older run; of one rewind's runs the lower page is older.": of the old runs and, after them,
 -- those of the areas in page order, the 8 longest are left. (An area without such a frame has length 0, which is no run and gives way to every run.)

@@ -1,4 +1,5 @@
 -- In reading order.
+pub mod Numbers
 pub mod Answers
 pub mod Requests
 pub mod Slots

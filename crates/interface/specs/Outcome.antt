@@ -5,6 +5,7 @@ use mathlib.Core.Option.{Option, some}
 use lib.Dec.{eqb}
 use Rattle.basics.specs.Choice.{_when_else_}
 use Rattle.basics.specs.Ranges.{over}
+use Rattle.interface.specs.Numbers.{AnyPage}
 use Rattle.interface.specs.declared.page.Attributes.{Attributes}
 use Rattle.interface.specs.declared.page.Slot.{Slot}
 use Rattle.interface.specs.declared.page.Slot.the-variants.{Unmapped, Mapped}
@@ -14,7 +15,7 @@ use Rattle.interface.specs.Slots.{Slots, withRights, withCommitted, adva
 
 -- "p1 first page, or 64 for the lowest gap that fits"
 unfoldable pub firstOf : Slots → Request → ℕ
-firstOf f q = lowestGap f (q .p2) when eqb (q .p1) 64 else q .p1
+firstOf f q = lowestGap f (q .p2) when eqb (q .p1) AnyPage else q .p1
 
 -- what a map makes of each of its pages: "The new pages are uncommitted."
 abbrev pub newPage : Request → Attributes

@@ -1,10 +1,17 @@
--- "Turned back": the refusals in the order of document 01's table. Rows 1 (the player's) and 3 (lent lengths, soundness) stand apart.
+-- "Turned back": which row of document 01's table applies to a request. Row 1 is the player's, of lines that are no request.
 use Prim.Native.Nat.{ℕ, _+_}
 use mathlib.Core.Bool.{Bool, true, false, not, _&&_, _||_}
+use mathlib.Core.List.{List, [], _∷_}
 use mathlib.Core.Option.{Option, some, none}
 use lib.Dec.{ltb, eqb}
 use Rattle.basics.specs.Choice.{_when_else_}
+use Rattle.interface.specs.Numbers.{Sandboxes, PageCount, AnyPage, ReadWrite, MostAreas}
+use Rattle.interface.specs.declared.answer.Refusal.{Refusal}
+use Rattle.interface.specs.declared.answer.Refusal.the-variants.{Malformed, NoSuchCall, Unsound, NotOpen, AlreadyOpen, OutsideLimits}
+use Rattle.interface.specs.declared.answer.Refusal.the-variants.{SnapshotTaken, NoSnapshot, NotMapped, AlreadyMapped, NoGap, NotWritable}
+use Rattle.interface.specs.declared.answer.Refusal.the-variants.{ShareExceeded, TooManyAreas, OutputTooShort}
 use Rattle.interface.specs.declared.request.Request.{Request}
+use Rattle.interface.specs.Answers.{refusalNumber}
 use Rattle.interface.specs.Requests.{_is_, Open, Map, Protect, Read, Write, Snapshot, isCall, pageOf, needsSnapshot}
 use Rattle.interface.specs.Slots.{Slots, isMapped, rightsAt, areas, allAre, lowestGap, chargeOf}
 use Rattle.interface.specs.Limits.{within}
@@ -12,6 +19,8 @@ use Rattle.interface.specs.Outcome.{slotsAfter, copyAfter, shareAfter}
 
 -- what a refusal is decided from
 pub record View : Type 0 where
+  -- whether all lent lengths are right and the state is sound; always so of the plain machine, which has neither
+  pub sound : Bool
   -- frames of the pool, pages of the image, the shares of all sandboxes together
   pub frames : ℕ
   pub imagePages : ℕ
@@ -41,43 +50,63 @@ slotsThen v q = slotsAfter q (v .slots) (v .copy)
 abbrev pub chargeThen : View → Request → ℕ
 chargeThen v q = chargeOf (slotsThen v q) (copyAfter q (slotsThen v q) (v .copy))
 
--- "When several apply, the lowest number is answered": the first row that applies, or 0
-unfoldable pub refusal : View → Request → ℕ
-refusal v q =
-    -- "call code not 1 to 9", now 1 to 10
-    2 when not (isCall q) else
-    -- "sandbox above 3; or, but for open, not open"
-    4 when ltb 3 (q .sandbox) || not (q is Open) && not (v .opened) else
-    -- "open of an open sandbox"
-    5 when q is Open && v .opened else
-    -- "a parameter outside its limits .. an unused one not 0"
-    6 when not (within (v .imagePages) q) else
-    -- "snapshot already taken"
-    7 when q is Snapshot && isTaken (v .copy) else
-    -- "rewind without a snapshot"; call 10: "Without a snapshot it is refusal 8."
-    8 when needsSnapshot q && not (isTaken (v .copy)) else
-    -- "unmap, protect, read or write meets an unmapped page"; A2: "Refusal 9 remains for protect, read and write."
-    9 when not (allMapped (v .slots) q) else
-    -- "map at a named page meets a mapped page"
-    10 when q is Map && not (eqb (q .p1) 64) && not (allAre false (v .slots) (q .p1) (q .p2)) else
-    -- "map at 64 and no run of p2 unmapped pages exists"
-    11 when q is Map && eqb (q .p1) 64 && eqb (lowestGap (v .slots) (q .p2)) 64 else
-    -- "write without the write right"
-    12 when q is Write && not (eqb (rightsAt (v .slots (pageOf q))) 3) else
-    -- "shares would exceed the pool, or the charge the share"
-    13 when q is Open && ltb (v .frames) (v .shares + q .p1) || ltb (shareAfter q (v .share)) (chargeThen v q) else
-    -- "more than 8 areas would result"
-    14 when ltb 8 (areas (slotsThen v q)) else
-    0
+-- the table, a clause a row: whether the row applies
+unfoldable pub applies : View → Request → Refusal → Bool
+-- no call is refused so: a request is a line that was read
+applies v q Malformed = false
+-- "call code not 1 to 9", now 1 to 10
+applies v q NoSuchCall = not (isCall q)
+-- "lent length wrong, or state unsound"
+applies v q Unsound = not (v .sound)
+-- "sandbox above 3; or, but for open, not open"
+applies v q NotOpen = not (ltb (q .sandbox) Sandboxes) || not (q is Open) && not (v .opened)
+-- "open of an open sandbox"
+applies v q AlreadyOpen = q is Open && v .opened
+-- "a parameter outside its limits .. an unused one not 0"
+applies v q OutsideLimits = not (within (v .imagePages) q)
+-- "snapshot already taken"
+applies v q SnapshotTaken = q is Snapshot && isTaken (v .copy)
+-- "rewind without a snapshot"; call 10: "Without a snapshot it is refusal 8."
+applies v q NoSnapshot = needsSnapshot q && not (isTaken (v .copy))
+-- "unmap, protect, read or write meets an unmapped page"; A2: "Refusal 9 remains for protect, read and write."
+applies v q NotMapped = not (allMapped (v .slots) q)
+-- "map at a named page meets a mapped page"
+applies v q AlreadyMapped = q is Map && not (eqb (q .p1) AnyPage) && not (allAre false (v .slots) (q .p1) (q .p2))
+-- "map at 64 and no run of p2 unmapped pages exists"
+applies v q NoGap = q is Map && eqb (q .p1) AnyPage && eqb (lowestGap (v .slots) (q .p2)) PageCount
+-- "write without the write right"
+applies v q NotWritable = q is Write && not (eqb (rightsAt (v .slots (pageOf q))) ReadWrite)
+-- "shares would exceed the pool, or the charge the share"
+applies v q ShareExceeded = q is Open && ltb (v .frames) (v .shares + q .p1) || ltb (shareAfter q (v .share)) (chargeThen v q)
+-- "more than 8 areas would result"
+applies v q TooManyAreas = ltb MostAreas (areas (slotsThen v q))
+-- the archive's alone (request A9)
+applies v q OutputTooShort = false
 
--- Request A9, the roll for the archive box, which is asked for by no call: of a sandbox, the bytes of its roll and those of the output memory. The first row
--- that applies, or 0; rows 3, 4 and 8 are those of the calls.
+-- the rows in the order of their numbers
+abbrev pub rows : List Refusal
+rows =
+    Malformed ∷ NoSuchCall ∷ Unsound ∷ NotOpen ∷ AlreadyOpen ∷ OutsideLimits ∷ SnapshotTaken ∷ NoSnapshot ∷ NotMapped ∷ AlreadyMapped ∷ NoGap ∷
+    NotWritable ∷ ShareExceeded ∷ TooManyAreas ∷ OutputTooShort ∷ []
+
+-- "When several apply, the lowest number is answered": the number of the first row that applies, or 0
+abbrev pub firstRow : (Refusal → Bool) → List Refusal → ℕ
+firstRow test [] = 0
+firstRow test (row ∷ later) = refusalNumber row when test row else firstRow test later
+
+unfoldable pub refusal : View → Request → ℕ
+refusal v q = firstRow (applies v q) rows
+
+-- Request A9, the roll for the archive box, which is asked for by no call: of a sandbox, the bytes of its roll and those of the output memory. Rows 3, 4 and 8
+-- are those of the calls.
 unfoldable pub archiveRefusal : View → ℕ → ℕ → ℕ → ℕ
 archiveRefusal v sandbox bytes room =
+    -- "lent length wrong, or state unsound"
+    refusalNumber Unsound when not (v .sound) else
     -- "sandbox above 3; or, but for open, not open"
-    4 when ltb 3 sandbox || not (v .opened) else
+    refusalNumber NotOpen when not (ltb sandbox Sandboxes) || not (v .opened) else
     -- "Without a snapshot it is refusal 8"
-    8 when not (isTaken (v .copy)) else
+    refusalNumber NoSnapshot when not (isTaken (v .copy)) else
     -- "Turned away: 15, output memory shorter than the roll, after 14."
-    15 when ltb room bytes else
+    refusalNumber OutputTooShort when ltb room bytes else
     0

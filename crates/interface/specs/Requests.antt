@@ -3,6 +3,7 @@ use Prim.Native.Nat.{ℕ, _/_, _%_}
 use mathlib.Core.Bool.{Bool, _&&_, _||_}
 use lib.Dec.{leb, eqb}
 use Rattle.basics.specs.Choice.{_when_else_}
+use Rattle.interface.specs.Numbers.{PageBytes, AnonymousBacking}
 use Rattle.interface.specs.declared.page.Backing.{Backing}
 use Rattle.interface.specs.declared.page.Backing.the-variants.{Anonymous, Image}
 use Rattle.interface.specs.declared.request.Request.{Request}
@@ -43,25 +44,29 @@ Report = 9
 abbrev pub Compare : ℕ
 Compare = 10
 
+-- the greatest of them: "A call number added here or later is no longer refusal 2."
+abbrev pub LastCall : ℕ
+LastCall = Compare
+
 -- the request is this call
 infix 50 _is_
 abbrev pub _is_ : Request → ℕ → Bool
 q is c = eqb (q .code) c
 
--- "call code not 1 to 9", and A1: "A call number added here or later is no longer refusal 2."
+-- "call code not 1 to 9", now 1 to 10
 abbrev pub isCall : Request → Bool
-isCall q = leb 1 (q .code) && leb (q .code) 10
+isCall q = leb Open (q .code) && leb (q .code) LastCall
 
 -- the page and the place in it of an address: "a page has 256 bytes"
 abbrev pub pageOf : Request → ℕ
-pageOf q = q .p1 / 256
+pageOf q = q .p1 / PageBytes
 
 abbrev pub offsetOf : Request → ℕ
-offsetOf q = q .p1 % 256
+offsetOf q = q .p1 % PageBytes
 
 -- "p3 backing, 0 anonymous, 1 image; p4 first image page"
 abbrev pub backingOf : Request → Backing
-backingOf q = Anonymous when eqb (q .p3) 0 else Image (record { 0 = q .p4 })
+backingOf q = Anonymous when eqb (q .p3) AnonymousBacking else Image (record { 0 = q .p4 })
 
 -- the calls that are refused without a snapshot: "rewind without a snapshot", and of call 10: "Without a snapshot it is refusal 8."
 abbrev pub needsSnapshot : Request → Bool

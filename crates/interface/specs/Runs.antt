@@ -6,6 +6,7 @@ use lib.Dec.{leb, ltb, eqb}
 use Rattle.basics.specs.Choice.{_when_else_}
 use Rattle.basics.specs.Ranges.{one}
 use Rattle.basics.specs.Rows.{best, longer, fitter, walked}
+use Rattle.interface.specs.Numbers.{PageCount, AnyPage, AnonymousBacking}
 use Rattle.interface.specs.declared.page.Backing.{Backing}
 use Rattle.interface.specs.declared.page.Backing.the-variants.{Anonymous, Image}
 use Rattle.interface.specs.declared.page.Slot.{Slot}
@@ -29,7 +30,7 @@ isSpared (Mapped t) = not (t .committed) && isAnonymous (t .backing)
 
 -- 'An anonymous map at 64 takes ..'
 abbrev pub takesRun : Request → Bool
-takesRun q = q is Map && (eqb (q .p1) 64 && eqb (q .p3) 0)
+takesRun q = q is Map && (eqb (q .p1) AnyPage && eqb (q .p3) AnonymousBacking)
 
 -- '.. the shortest run at least as long as its pages; if none is that long, the longest': its place
 unfoldable pub runFor : ℕ → (ℕ → ℕ) → ℕ
@@ -50,4 +51,4 @@ givesUp front share held = not front && ltb share (held + 1)
 -- the lengths that a rewind leaves: "the frames of each uncommitted anonymous area, if any, are .. kept as one run, whose length is its number of frames";
 -- "of one rewind's runs the lower page is older". Area by area in page order; an area without such frames makes a run of none, which changes nothing.
 unfoldable pub runsRewound : Slots → (ℕ → Bool) → (ℕ → ℕ) → ℕ → ℕ
-runsRewound f front lengths = walked (λ length. length) runPlaces 0 (startsArea f) (λ i length. length + one (front i && isSpared (f i))) lengths 64
+runsRewound f front lengths = walked (λ length. length) runPlaces 0 (startsArea f) (λ i length. length + one (front i && isSpared (f i))) lengths PageCount

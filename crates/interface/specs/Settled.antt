@@ -3,6 +3,7 @@
 use Prim.Native.Nat.{ℕ, _≤_}
 use mathlib.Core.Path.{_≡_}
 use mathlib.Core.Bool.{true}
+use Rattle.interface.specs.Numbers.{MostAreas}
 use Rattle.interface.specs.Slots.{isMapped, isCommitted, areas, chargeOf, copied}
 use Rattle.interface.specs.Refusals.{View}
 
@@ -10,7 +11,7 @@ pub record Settled (v : View) : Type 0 where
   -- "It never exceeds the share"
   pub charged : chargeOf (v .slots) (v .copy) ≤ v .share
   -- "A sandbox has at most 8", and so has its snapshot
-  pub few : areas (v .slots) ≤ 8
-  pub copyFew : areas (copied (v .copy)) ≤ 8
+  pub few : areas (v .slots) ≤ MostAreas
+  pub copyFew : areas (copied (v .copy)) ≤ MostAreas
   -- the snapshot's pages are committed
   pub copyMarked : (i : ℕ) → isMapped (copied (v .copy) i) ≡ true → isCommitted (copied (v .copy) i) ≡ true

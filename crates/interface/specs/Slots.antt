@@ -5,6 +5,7 @@ use mathlib.Core.Option.{Option, some, none}
 use lib.Dec.{leb, eqb}
 use Rattle.basics.specs.Choice.{same}
 use Rattle.basics.specs.Ranges.{count, every, lowest}
+use Rattle.interface.specs.Numbers.{PageCount}
 use Rattle.interface.specs.declared.page.Backing.{Backing}
 use Rattle.interface.specs.declared.page.Backing.the-variants.{Anonymous, Image}
 use Rattle.interface.specs.declared.page.Slot.{Slot}
@@ -51,6 +52,11 @@ abbrev pub advance : Backing → ℕ → Backing
 advance Anonymous pages = Anonymous
 advance (Image first) pages = Image (record { 0 = first .0 + pages })
 
+-- the first image page of a backing, 0 of an anonymous one
+abbrev pub startOf : Backing → ℕ
+startOf Anonymous = 0
+startOf (Image first) = first .0
+
 -- whether the second backing is the first one, so many pages on
 unfoldable pub follows : Backing → ℕ → Backing → Bool
 follows Anonymous pages Anonymous = true
@@ -74,13 +80,13 @@ abbrev pub startsArea : Slots → ℕ → Bool
 startsArea f i = isMapped (f i) && not (joins (previous f i) (f i))
 
 unfoldable pub areas : Slots → ℕ
-areas f = count (startsArea f) 64
+areas f = count (startsArea f) PageCount
 
 unfoldable pub mappedPages : Slots → ℕ
-mappedPages f = count (λ i. isMapped (f i)) 64
+mappedPages f = count (λ i. isMapped (f i)) PageCount
 
 unfoldable pub uncommittedPages : Slots → ℕ
-uncommittedPages f = count (λ i. isUncommitted (f i)) 64
+uncommittedPages f = count (λ i. isUncommitted (f i)) PageCount
 
 -- whether the n pages from first on are all mapped (or, with false, all unmapped)
 abbrev pub allAre : Bool → Slots → ℕ → ℕ → Bool
@@ -88,11 +94,11 @@ allAre mapped f first n = every (λ i. same mapped (isMapped (f i))) first n
 
 -- whether n unmapped pages run from this page on
 abbrev pub gapAt : Slots → ℕ → ℕ → Bool
-gapAt f n first = leb n (64 - first) && allAre false f first n
+gapAt f n first = leb n (PageCount - first) && allAre false f first n
 
 -- "the lowest gap that fits"; 64 where "no run of p2 unmapped pages exists"
 unfoldable pub lowestGap : Slots → ℕ → ℕ
-lowestGap f n = lowest (gapAt f n) 0 64
+lowestGap f n = lowest (gapAt f n) 0 PageCount
 
 -- the snapshot's slots; without a snapshot nothing is mapped there
 abbrev pub copied : Option Slots → Slots

@@ -4,3 +4,12 @@
 pub mod answer;
 pub mod page;
 pub mod request;
+
+pub use answer::Answer;
+pub use answer::Refusal;
+pub use page::Attributes;
+pub use page::Backing;
+pub use page::ImagePageNo;
+pub use page::PageNo;
+pub use page::Slot;
+pub use request::Request;

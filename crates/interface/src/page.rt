@@ -8,6 +8,8 @@ impl PageNo {
     pub const COUNT: usize = 64;
     // "a page has 256 bytes"
     pub const BYTES: usize = 256;
+    // "so addresses 0 to 16,383"
+    pub const ADDRESSES: usize = PageNo::COUNT * PageNo::BYTES;
 }
 
 // An image page number: which of the image's pages.

@@ -17,7 +17,8 @@ use Rattle.runs.specs.Row.{row}
 use Rattle.kept.specs.Spare.{Words}
 use Rattle.areas.specs.declared.area.Area.{Area}
 use Rattle.areas.specs.declared.area.Areas.{Areas}
-use Rattle.areas.specs.Areas.{none, startOf}
+use Rattle.interface.specs.Slots.{startOf}
+use Rattle.areas.specs.Areas.{none}
 use Rattle.state.specs.declared.sandbox.Sandbox.{Sandbox}
 use Rattle.state.specs.declared.sandbox.Machine.{Machine}
 use Rattle.state.specs.World.{closedSandbox}

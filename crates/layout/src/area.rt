@@ -1,7 +1,7 @@
 // An area in bytes.
 ghost use mathlib.Core.Path.{_≡_};
 ghost use lib.ListN.{length};
-ghost use Rattle.areas.specs.Areas.{startOf};
+ghost use Rattle.interface.specs.Slots.{startOf};
 ghost use Rattle.layout.specs.Layout.{areaSize, kindOf, areaBytes, backingFrom, areaFrom, isArea};
 use crate::word::flag;
 use areas::area::Area;

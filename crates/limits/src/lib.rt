@@ -3,7 +3,12 @@
 // It stands on `interface`, whose definitions it computes.
 ghost use mathlib.Core.Path.{_≡_};
 ghost use Prim.Native.Nat.{_+_};
-ghost use Rattle.interface.specs.Limits.{between, rightsOk, pagesOk, placeOk, backingOk, usesThree, usesTwo, usesOne, usesNone, within};
+ghost use lib.Dec.{ltb};
+ghost use Rattle.interface.specs.Numbers.{PageCount, Addresses, ByteValues};
+ghost use Rattle.interface.specs.Limits.{between, rightsOk, pagesOk, placeOk, backingOk};
+ghost use Rattle.interface.specs.Limits.{usesThree, usesTwo, usesOne, usesNone, within};
+use interface::page::Attributes;
+use interface::page::PageNo;
 use interface::request::Request;
 
 // Whether every parameter of the request is within its limits; `images` is the number of the image's pages.
@@ -11,25 +16,15 @@ pub fn within_limits(q: Request, images: u8) -> bool
     ensures { λ r. ⌜ r ≡ within images q ⌝ }
 {
     let code = q.code;
-    if code == 1 {
-        return is_between(1, 128, q.p1) & uses_one(q);
+    match code {
+        Request::OPEN => is_between(1, Request::MOST_SHARE, q.p1) & uses_one(q),
+        Request::MAP => place_ok(q.p1, q.p2) & (backing_ok(q, images) & rights_ok(q.p5)),
+        Request::UNMAP => pages_ok(q.p1, q.p2) & uses_two(q),
+        Request::PROTECT => pages_ok(q.p1, q.p2) & (rights_ok(q.p3) & uses_three(q)),
+        Request::READ => is_address(q.p1) & uses_one(q),
+        Request::WRITE => is_address(q.p1) & (is_byte(q.p2) & uses_two(q)),
+        _ => uses_none(q),
     }
-    if code == 2 {
-        return place_ok(q.p1, q.p2) & (backing_ok(q, images) & rights_ok(q.p5));
-    }
-    if code == 3 {
-        return pages_ok(q.p1, q.p2) & uses_two(q);
-    }
-    if code == 4 {
-        return pages_ok(q.p1, q.p2) & (rights_ok(q.p3) & uses_three(q));
-    }
-    if code == 5 {
-        return (q.p1 < 16384) & uses_one(q);
-    }
-    if code == 6 {
-        return (q.p1 < 16384) & ((q.p2 < 256) & uses_two(q));
-    }
-    uses_none(q)
 }
 
 fn is_between(low: u16, high: u16, n: u16) -> bool
@@ -38,35 +33,54 @@ fn is_between(low: u16, high: u16, n: u16) -> bool
     (low <= n) & (n <= high)
 }
 
+// "so addresses 0 to 16,383"
+fn is_address(n: u16) -> bool
+    ensures { λ r. ⌜ r ≡ ltb n Addresses ⌝ }
+{
+    (n as usize) < PageNo::ADDRESSES
+}
+
+// A byte is 0 to 255.
+fn is_byte(n: u16) -> bool
+    ensures { λ r. ⌜ r ≡ ltb n ByteValues ⌝ }
+{
+    n < Request::BYTE_VALUES
+}
+
+// "p2 pages, 1 to 64"
+fn is_count(n: u16) -> bool
+    ensures { λ r. ⌜ r ≡ between 1 PageCount n ⌝ }
+{
+    (1 <= n) & (n as usize <= PageNo::COUNT)
+}
+
 fn rights_ok(rights: u16) -> bool
     ensures { λ r. ⌜ r ≡ rightsOk rights ⌝ }
 {
-    (rights == 1) | (rights == 3)
+    (rights == Attributes::READ as u16) | (rights == Attributes::READ_WRITE as u16)
 }
 
 fn pages_ok(first: u16, n: u16) -> bool
     ensures { λ r. ⌜ r ≡ pagesOk first n ⌝ }
 {
-    let end = first as u32 + n as u32;
-    (first <= 63) & (((1 <= n) & (n <= 64)) & (end <= 64))
+    let end = first as usize + n as usize;
+    ((first as usize) < PageNo::COUNT) & (is_count(n) & (end <= PageNo::COUNT))
 }
 
 fn place_ok(first: u16, n: u16) -> bool
     ensures { λ r. ⌜ r ≡ placeOk first n ⌝ }
 {
-    let end = first as u32 + n as u32;
-    ((first == 64) & ((1 <= n) & (n <= 64)))
-        | ((first <= 63) & (((1 <= n) & (n <= 64)) & (end <= 64)))
+    ((first == Request::ANY_PAGE) & is_count(n)) | pages_ok(first, n)
 }
 
 fn backing_ok(q: Request, images: u8) -> bool
     ensures { λ r. ⌜ r ≡ backingOk images q ⌝ }
 {
-    if q.p3 == 0 {
+    if q.p3 == Request::ANONYMOUS {
         return q.p4 == 0;
     }
     let end = q.p4 as u32 + q.p2 as u32;
-    (q.p3 == 1) & (end <= images as u32)
+    (q.p3 == Request::IMAGE) & (end <= images as u32)
 }
 
 fn uses_three(q: Request) -> bool

@@ -16,13 +16,13 @@ use Rattle.interface.specs.declared.request.Request.{Request}
 use Rattle.interface.specs.Answers.{refusalNumber}
 use Rattle.interface.specs.Requests.{Write, isCall, pageOf}
 use Rattle.interface.specs.Slots.{isMapped}
-use Rattle.interface.specs.Refusals.{allMapped, refusal}
+use Rattle.interface.specs.Refusals.{allMapped, applies, refusal}
 use Rattle.interface.proofs.AcceptedLaws.{accepted, map-fits}
 use Rattle.table.specs.Store.{Store}
 use Rattle.runs.specs.declared.Runs.{Runs}
 use Rattle.areas.specs.Areas.{slots}
 use Rattle.state.specs.declared.sandbox.Sandbox.{Sandbox}
-use Rattle.state.specs.World.{World, sandboxAt, withRuns, framesOf, pagesIn, viewAt}
+use Rattle.state.specs.World.{World, sandboxAt, withRuns, framesOf, pagesIn}
 use Rattle.state.specs.Test.{soundb}
 use Rattle.state.proofs.TestLaws.{Tested}
 use Rattle.state.proofs.Room.{room-left, frame-there}
@@ -30,7 +30,7 @@ use Rattle.rules.specs.After.{sandboxAfter}
 use Rattle.rules.specs.Ready.{Ready}
 use Rattle.rules.proofs.FitLaws.{fit, page-small}
 use Rattle.memory.specs.Memory.{valueAt}
-use Rattle.machine.specs.Step.{Outcome, Stepped, numberAt, takes, gives, step}
+use Rattle.machine.specs.Step.{viewAt, Outcome, Stepped, numberAt, takes, gives, step}
 use Rattle.memory.specs.Parts.{Asked, StoreStepped}
 use Rattle.machine.specs.Parts.{Performed}
 
@@ -78,7 +78,7 @@ module _ (image : List ℕ) (w : World) (q : Request) where
   number-three e s = rw (e, s)
 
   pub number-four : isCall q ≡ true → soundb image w ≡ true → 3 < q .sandbox → 4 ≡ numberAt image w q
-  unfolding numberAt refusal
+  unfolding numberAt applies refusal
   number-four e s h = rw (e, s, lt-ltb 3 (q .sandbox) h)
 
   pub number-rest : isCall q ≡ true → soundb image w ≡ true → refusal (viewAt image w (q .sandbox)) q ≡ numberAt image w q

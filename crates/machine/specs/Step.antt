@@ -1,18 +1,19 @@
 -- The step of the machine: what a request answers and leaves, given the frame that a write takes and the one that it gives up, where it does.
 use mathlib.Core.Path.{_≡_}
 use mathlib.Core.Logic.{_⊎_}
-use mathlib.Core.Bool.{Bool, true, not, _&&_}
+use mathlib.Core.Bool.{Bool, true, _&&_}
 use mathlib.Core.List.{List}
 use Prim.Native.Nat.{ℕ}
 use lib.Dec.{eqb}
+use lib.ListN.{length}
 use Rattle.basics.specs.Choice.{_when_else_}
 use Rattle.interface.specs.declared.request.Request.{Request}
 use Rattle.interface.specs.Answers.{Answered}
-use Rattle.interface.specs.Requests.{_is_, Write, isCall, pageOf}
-use Rattle.interface.specs.Refusals.{refusal}
+use Rattle.interface.specs.Requests.{_is_, Write, pageOf}
+use Rattle.interface.specs.Refusals.{View, refusal}
 use Rattle.table.specs.Store.{entry, frontOf}
 use Rattle.state.specs.declared.sandbox.Sandbox.{Sandbox}
-use Rattle.state.specs.World.{World, sandboxAt, withSandbox, withRuns, framesOf, viewAt}
+use Rattle.state.specs.World.{World, sandboxAt, withSandbox, withRuns, framesOf, pagesIn, sharesOf, viewFrom}
 use Rattle.state.specs.Test.{soundb}
 use Rattle.rules.specs.After.{sandboxAfter}
 use Rattle.runs.specs.Row.{InLongest}
@@ -20,12 +21,13 @@ use Rattle.memory.specs.Memory.{Unheld, givesAt, runsAfter, storeAfter, valueAt
 
 -- ---- the step
 
--- row 2, then row 3 "lent length wrong, or state unsound", then the table
+-- what refusals are decided from: of sandbox s, with row 3, "lent length wrong, or state unsound"
+abbrev pub viewAt : List ℕ → World → ℕ → View
+viewAt image w s = viewFrom (soundb image w) (framesOf w) (pagesIn (length image)) (sharesOf w) (sandboxAt w s)
+
+-- the number of the refusal, or 0
 unfoldable pub numberAt : List ℕ → World → Request → ℕ
-numberAt image w q =
-    2 when not (isCall q) else
-    3 when not (soundb image w) else
-    refusal (viewAt image w (q .sandbox)) q
+numberAt image w q = refusal (viewAt image w (q .sandbox)) q
 
 -- the sandbox with the runs that result
 abbrev pub sandboxThen : ℕ → World → Request → Sandbox

@@ -12,7 +12,8 @@ use Rattle.interface.specs.Slots.{Slots, withRights, withCommitted}
 use Rattle.interface.specs.Outcome.{pageOn}
 use Rattle.areas.specs.declared.area.Area.{Area}
 use Rattle.areas.specs.declared.area.Areas.{Areas}
-use Rattle.areas.specs.Areas.{none, empty, startOf}
+use Rattle.interface.specs.Slots.{startOf}
+use Rattle.areas.specs.Areas.{none, empty}
 use Rattle.areas.specs.Formed.{goesOn}
 use Rattle.packing.specs.declared.pack.Packed.{Packed}
 use Rattle.packing.specs.declared.pack.Change.{Change}

@@ -6,7 +6,7 @@ ghost use Rattle.interface.specs.Limits.{rightsOk};
 ghost use Rattle.areas.specs.Formed.{imagesExist, proper, isApart, isNone, placeOk, wellFormed};
 use areas::area::Area;
 use areas::area::Areas;
-use areas::slot::is_anonymous;
+use slots::is_anonymous;
 use interface::page::Backing;
 use interface::page::PageNo;
 

@@ -7,10 +7,10 @@ ghost use Rattle.packing.specs.Pack.{single, longer, start, last, contin
 use areas::area::Area;
 use areas::area::Areas;
 use areas::basic::is_inside;
-use areas::slot::is_mapped;
-use areas::slot::page_on;
-use areas::slot::with_committed;
-use areas::slot::with_rights;
+use slots::is_mapped;
+use slots::page_on;
+use slots::with_committed;
+use slots::with_rights;
 use interface::page::Attributes;
 use interface::page::PageNo;
 use interface::page::Slot;

@@ -7,7 +7,7 @@ use Rattle.interface.specs.Slots.{follows, joins, areas, mappedPages, uncommitt
 use Rattle.interface.specs.Compare.{agree, lowestDifference}
 use Rattle.interface.specs.Limits.{within}
 use Rattle.interface.specs.Outcome.{firstOf, slotsAfter, copyAfter}
-use Rattle.interface.specs.Refusals.{allMapped, refusal}
+use Rattle.interface.specs.Refusals.{allMapped, applies, refusal}
 use Rattle.interface.specs.Runs.{runFor, granted, longestRun, runsRewound}
 use Rattle.plain.specs.Machine.{bytesAfter, frontAfter, backAfter, copiedBackAfter, runsAfter, held, differing, coreValue, answer, after, answers}
 use Rattle.plain.specs.Cases.{cases, casesOver, noImage, allGiven}
@@ -16,32 +16,29 @@ use Rattle.plain.specs.StillClean.{stillClean}
 use Rattle.plain.specs.OverGaps.{overGaps}
 use Rattle.plain.specs.KeptRuns.{keptRuns}
 
+-- all tables at once, so that what they unfold is said once
+all-computed :
+    (allGiven (casesOver noImage cases) ≡ true)
+    × (allGiven turnedBackCases ≡ true)
+    × (allGiven stillClean ≡ true)
+    × (allGiven overGaps ≡ true)
+    × (allGiven keptRuns ≡ true)
+unfolding allGiven count sum every lowest inside over alike follows joins areas mappedPages uncommittedPages lowestGap chargeOf agree lowestDifference
+    within firstOf slotsAfter copyAfter allMapped applies refusal bytesAfter frontAfter backAfter copiedBackAfter
+    best movedUp push walkTo walked runFor granted longestRun runsRewound runsAfter held differing coreValue answer after answers
+all-computed = (refl, refl, refl, refl, refl)
+
 pub starred-cases : allGiven (casesOver noImage cases) ≡ true
-unfolding allGiven count sum every lowest inside over follows joins areas mappedPages uncommittedPages lowestGap chargeOf
-    within firstOf slotsAfter copyAfter allMapped refusal bytesAfter frontAfter backAfter copiedBackAfter
-    best movedUp push walkTo walked runFor granted longestRun runsRewound runsAfter held coreValue answer after answers
-starred-cases = refl
+starred-cases = all-computed .0
 
 pub turned-back : allGiven turnedBackCases ≡ true
-unfolding allGiven count sum every lowest inside over alike follows joins areas mappedPages uncommittedPages lowestGap chargeOf agree lowestDifference
-    within firstOf slotsAfter copyAfter allMapped refusal bytesAfter frontAfter backAfter copiedBackAfter
-    best movedUp push walkTo walked runFor granted longestRun runsRewound runsAfter held differing coreValue answer after answers
-turned-back = refl
+turned-back = all-computed .1
 
 pub still-clean : allGiven stillClean ≡ true
-unfolding allGiven count sum every lowest inside over alike follows joins areas mappedPages uncommittedPages lowestGap chargeOf agree lowestDifference
-    within firstOf slotsAfter copyAfter allMapped refusal bytesAfter frontAfter backAfter copiedBackAfter
-    best movedUp push walkTo walked runFor granted longestRun runsRewound runsAfter held differing coreValue answer after answers
-still-clean = refl
+still-clean = all-computed .2
 
 pub over-gaps : allGiven overGaps ≡ true
-unfolding allGiven count sum every lowest inside over alike follows joins areas mappedPages uncommittedPages lowestGap chargeOf agree lowestDifference
-    within firstOf slotsAfter copyAfter allMapped refusal bytesAfter frontAfter backAfter copiedBackAfter
-    best movedUp push walkTo walked runFor granted longestRun runsRewound runsAfter held differing coreValue answer after answers
-over-gaps = refl
+over-gaps = all-computed .3
 
 pub kept-runs : allGiven keptRuns ≡ true
-unfolding allGiven count sum every lowest inside over alike follows joins areas mappedPages uncommittedPages lowestGap chargeOf agree lowestDifference
-    within firstOf slotsAfter copyAfter allMapped refusal bytesAfter frontAfter backAfter copiedBackAfter
-    best movedUp push walkTo walked runFor granted longestRun runsRewound runsAfter held differing coreValue answer after answers
-kept-runs = refl
+kept-runs = all-computed .4

@@ -6,7 +6,7 @@ use mathlib.Core.List.{List, [], _∷_, _++_}
 use native.Mathlib.Omega.{arith}
 use lib.Dec.{ltb}
 use lib.ListN.{length}
-use borrow.Author.Tests.{eqb-true, le-ltb, ltb-true}
+use borrow.Author.Tests.{eqb-true, le-ltb, ltb-true, lt-ltb}
 use Rattle.basics.specs.Choice.{_when_else_}
 use Rattle.basics.proofs.TestLaws.{by-cases, and-left}
 use Rattle.basics.proofs.LoopLaws.{alike-at, alike-of}
@@ -16,7 +16,7 @@ use Rattle.interface.specs.Requests.{_is_, Read, Snapshot, pageOf, offsetOf}
 use Rattle.interface.specs.Slots.{isMapped, areas, chargeOf, copied}
 use Rattle.interface.specs.Limits.{within}
 use Rattle.interface.specs.Outcome.{slotsAfter, copyAfter}
-use Rattle.interface.specs.Refusals.{View, allMapped, refusal}
+use Rattle.interface.specs.Refusals.{View, allMapped, applies, refusal}
 use Rattle.interface.specs.Accepted.{Accepted}
 use Rattle.interface.specs.Examples.{ok}
 use Rattle.interface.proofs.AcceptedLaws.{accepted}
@@ -37,19 +37,19 @@ restored-clean c e =
     (λ i l. rw (alike-of (c .pages .bytes i) (c .pages .bytes i) 256 (λ j m. refl)) (agree-self (c .pages .slots i))))
 
 -- call 10 of such a sandbox
-clean-answer : (g : Given) (p : Plain) (s : ℕ) → s ≤ 3 → p s .core .opened ≡ true → Keeps (p s) → Restored (p s .core) → answer g p (compareOf s) ≡ ok 64
-unfolding answer coreValue refusal within allMapped slotsAfter copyAfter
+clean-answer : (g : Given) (p : Plain) (s : ℕ) → s < 4 → p s .core .opened ≡ true → Keeps (p s) → Restored (p s .core) → answer g p (compareOf s) ≡ ok 64
+unfolding answer coreValue applies refusal within allMapped slotsAfter copyAfter
 clean-answer g p s row o k e =
     let charged = le-ltb _ _ (k .charged) in
-    let number : numberAt g p (compareOf s) ≡ 0 = rw (le-ltb 3 s row, o, e, rw e at charged, le-ltb 8 _ (k .inAreas)) in
+    let number : numberAt g p (compareOf s) ≡ 0 = rw (lt-ltb s 4 row, o, e, rw e at charged, le-ltb 8 _ (k .inAreas)) in
     rw (number, restored-clean (p s .core) e)
 
 -- the sandbox of an accepted request: one of the four, and open after it
-then-open : {g : Given} {s c : ℕ} {qs : List Request} {q : Request} → Then g s c qs q → (s ≤ 3) × (upTo g (qs ++ q ∷ []) s .core .opened ≡ true)
+then-open : {g : Given} {s c : ℕ} {qs : List Request} {q : Request} → Then g s c qs q → (s < 4) × (upTo g (qs ++ q ∷ []) s .core .opened ≡ true)
 then-open {g} {s} {q} t = (rw (t .names) at (accepted _ q (t .taken) .inRow), ap (λ (c : Core). c .opened) (then-core g s t))
 
 -- a rewound sandbox is one of the four, and open
-rewound-open : (g : Given) (s : ℕ) (qs : List Request) → Rewound g s qs → (s ≤ 3) × (upTo g qs s .core .opened ≡ true)
+rewound-open : (g : Given) (s : ℕ) (qs : List Request) → Rewound g s qs → (s < 4) × (upTo g qs s .core .opened ≡ true)
 rewound-open g s _ (back t) = then-open t
 rewound-open g s _ (still {qs} q r e) = rw e (rewound-open g s qs r)
 
@@ -65,13 +65,13 @@ clean-while-rewound g s qs k r =
     clean-answer g (upTo g qs) s (here .0) (here .1) k (rewound-restored g s qs r)
 
 -- a read within its limits where another call is accepted: refused by row 9 or by none
-read-number : (v : View) (q : Request) → q .code ≡ Read → q .sandbox ≤ 3 → v .opened ≡ true → within (v .imagePages) q ≡ true
+read-number : (v : View) (q : Request) → q .code ≡ Read → v .sound ≡ true → q .sandbox < 4 → v .opened ≡ true → within (v .imagePages) q ≡ true
     → chargeOf (v .slots) (v .copy) ≤ v .share → areas (v .slots) ≤ 8 → refusal v q ≡ 0 when isMapped (v .slots (pageOf q)) else 9
-unfolding refusal allMapped slotsAfter copyAfter
-read-number v q e row o limits charged few =
+unfolding applies refusal allMapped slotsAfter copyAfter
+read-number v q e sound row o limits charged few =
     by-cases (isMapped (v .slots (pageOf q)))
-    (λ m. rw (limits, e, le-ltb 3 (q .sandbox) row, o, m, le-ltb _ _ charged, le-ltb 8 _ few))
-    (λ m. rw (limits, e, le-ltb 3 (q .sandbox) row, o, m))
+    (λ m. rw (limits, e, sound, lt-ltb (q .sandbox) 4 row, o, m, le-ltb _ _ charged, le-ltb 8 _ few))
+    (λ m. rw (limits, e, sound, lt-ltb (q .sandbox) 4 row, o, m))
 
 -- a read's address lies in one of the 64 pages
 read-page : (images : ℕ) (q : Request) → (q is Read) ≡ true → within images q ≡ true → q .p1 < 16384
@@ -105,7 +105,8 @@ read-clean g p q e r w =
     let core : Core = p (q .sandbox) .core in
     let ten = accepted-compare g p (q .sandbox) e in
     let number : numberAt g p q ≡ 0 when isMapped (core .pages .slots (pageOf q)) else 9 =
-    read-number (viewOf g (shares p) core) q (eqb-true (q .code) Read r) (ten .0 .inRow) (ten .0 .opened refl) w (ten .0 .charged) (ten .0 .inAreas) in
+    let coded = eqb-true (q .code) Read r in
+    read-number (viewOf g (shares p) core) q coded refl (ten .0 .inRow) (ten .0 .opened refl) w (ten .0 .charged) (ten .0 .inAreas) in
     let below : q .p1 < 16384 = read-page _ q r w in
     let page : pageOf q < 64 = omega arith in
     let place : offsetOf q < 256 = omega arith in

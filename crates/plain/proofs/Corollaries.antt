@@ -9,7 +9,7 @@ use Rattle.interface.specs.declared.request.Request.{Request}
 use Rattle.interface.specs.Requests.{_is_, Open, Read, Rewind, Report, Compare}
 use Rattle.interface.specs.Slots.{isCommitted, copied}
 use Rattle.interface.specs.Outcome.{slotsAfter, copyAfter}
-use Rattle.interface.specs.Refusals.{refusal}
+use Rattle.interface.specs.Refusals.{applies, refusal}
 use Rattle.interface.specs.Runs.{isSpared, runsRewound}
 use Rattle.interface.proofs.AcceptedLaws.{accepted}
 use Rattle.interface.proofs.RunLaws.{spared-uncommitted}
@@ -49,7 +49,7 @@ reads-change-nothing g p q e =
     (λ t. let c = eqb-true (q .code) Compare (rw (r, t) at e) in idle-call g p q Compare c refl (λ o. rw (c, o))))
 
 pub only-open-meets-others : (g : Given) → OnlyOpenMeetsOthers g
-unfolding refusal
+unfolding applies refusal
 only-open-meets-others g p p′ q o e = rw (o, e)
 
 -- what an accepted request leaves of its sandbox

@@ -6,7 +6,7 @@ use mathlib.Core.Bool.{true, false, _||_, false≢true}
 use mathlib.Core.Option.{Option, some, none, Option·some-ne-none}
 use native.Mathlib.Omega.{arith}
 use lib.Dec.{eqb}
-use borrow.Author.Tests.{eqb-true, eq-eqb, le-ltb, leb-true}
+use borrow.Author.Tests.{eqb-true, eq-eqb, le-ltb, leb-true, lt-ltb}
 use Rattle.basics.specs.Ranges.{count, sum, over}
 use Rattle.basics.proofs.TestLaws.{by-cases, when-cases, and-left, and-right, never}
 use Rattle.basics.proofs.RangeLaws.{inside-end, over-in, over-cases, over-both}
@@ -17,7 +17,7 @@ use Rattle.interface.specs.Requests.{_is_, Open, Map, Unmap, Write, Snapshot, R
 use Rattle.interface.specs.Slots.{Slots, isMapped, isCommitted, withCommitted, areas, mappedPages, chargeOf, copied}
 use Rattle.interface.specs.Limits.{within}
 use Rattle.interface.specs.Outcome.{firstOf, newPage, pageOn, slotsAfter, copyAfter, shareAfter}
-use Rattle.interface.specs.Refusals.{isTaken, allMapped, refusal}
+use Rattle.interface.specs.Refusals.{isTaken, allMapped, applies, refusal}
 use Rattle.interface.specs.Accepted.{Accepted}
 use Rattle.interface.proofs.SlotLaws.{mapped-rights, committed-rights, mapped-commit, committed-mapped}
 use Rattle.interface.proofs.KindLaws.{Kind, kind, isMap, isUnmap, isProtect, isWrite, isSnapshot, isRewind, isOther}
@@ -234,7 +234,7 @@ pub holds-fresh : (g : Given) → Holds g fresh
 unfolding sum
 holds-fresh g = record { each = λ s. keeps-closed; pooled = omega arith }
 
-shares-put : (p : Plain) (s : ℕ) (k : Kept) → s ≤ 3 → shares (put s k p) + p s .core .share ≡ shares p + k .core .share
+shares-put : (p : Plain) (s : ℕ) (k : Kept) → s < 4 → shares (put s k p) + p s .core .share ≡ shares p + k .core .share
 shares-put p s k h = sum-put (λ (x : Kept). x .core .share) p s k 4 (omega arith)
 
 holds-accepted : (g : Given) (p : Plain) (q : Request) → Holds g p → numberAt g p q ≡ 0 → Holds g (put (q .sandbox) (keptAfter g q (p (q .sandbox))) p)
@@ -259,10 +259,10 @@ holds-after g p q h = when-cases (Holds g) (eqb (numberAt g p q) 0) (λ e. holds
 
 -- a next write is accepted and leaves the page with a front
 pub next-write : (g : Given) (p : Plain) → Holds g p → NextWrite g p
-unfolding refusal allMapped slotsAfter copyAfter after frontAfter
+unfolding applies refusal allMapped slotsAfter copyAfter after frontAfter
 next-write g p h q e row o limits there right =
     let own = h .each (q .sandbox) in
-    let number : numberAt g p q ≡ 0 = rw (limits, e, le-ltb 3 (q .sandbox) row, there, right, le-ltb _ _ (own .charged), le-ltb 8 _ (own .inAreas), o) in
+    let number : numberAt g p q ≡ 0 = rw (limits, e, lt-ltb (q .sandbox) 4 row, there, right, le-ltb _ _ (own .charged), le-ltb 8 _ (own .inAreas), o) in
     (number, rw (number, eq-eqb (q .sandbox) (q .sandbox) refl, e, eq-eqb (pageOf q) (pageOf q) refl))
 
 -- a sandbox with a snapshot is open, and its rewind is accepted
@@ -272,7 +272,7 @@ taken-open k h t =
     (λ e. never (isTaken (copySlots (k .core))) t (ap (λ (x : Kept). isTaken (copySlots (x .core))) (h .closedEmpty e)))
 
 pub next-rewind : (g : Given) (p : Plain) → Holds g p → NextRewind g p
-unfolding refusal allMapped slotsAfter copyAfter
+unfolding applies refusal allMapped slotsAfter copyAfter
 next-rewind g p h q e row limits taken =
     let own = h .each (q .sandbox) in
-    rw (limits, e, le-ltb 3 (q .sandbox) row, taken, le-ltb _ _ (own .copyCharged), le-ltb 8 _ (own .copyAreas), taken-open (p (q .sandbox)) own taken)
+    rw (limits, e, lt-ltb (q .sandbox) 4 row, taken, le-ltb _ _ (own .copyCharged), le-ltb 8 _ (own .copyAreas), taken-open (p (q .sandbox)) own taken)

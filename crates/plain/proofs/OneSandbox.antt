@@ -12,7 +12,7 @@ use Rattle.interface.specs.declared.request.Request.{Request}
 use Rattle.interface.specs.Answers.{Answered}
 use Rattle.interface.specs.Requests.{_is_, Open, Snapshot, Rewind}
 use Rattle.interface.specs.Outcome.{slotsAfter, copyAfter}
-use Rattle.interface.specs.Refusals.{refusal}
+use Rattle.interface.specs.Refusals.{applies, refusal}
 use Rattle.interface.specs.Accepted.{Accepted}
 use Rattle.interface.proofs.AcceptedLaws.{accepted}
 use Rattle.plain.specs.Machine.{Given, Pages, Core, Kept, Plain, viewOf, shares, bytesAfter, coreAfter, keptAfter}
@@ -58,7 +58,7 @@ core-then g total q k = by-cases (eqb (refusal (viewOf g total (k .core)) q) 0) 
 
 -- the shares of others do not matter to an open sandbox
 pub shares-apart : (g : Given) (t u : ℕ) (q : Request) (c : Core) → c .opened ≡ true → refusal (viewOf g t c) q ≡ refusal (viewOf g u c) q
-unfolding refusal
+unfolding applies refusal
 shares-apart g t u q c o = by-cases (q is Open) (λ e. rw (e, o)) (λ e. rw e)
 
 -- From its snapshot on a sandbox is open, with this share and this copy, whatever is called.

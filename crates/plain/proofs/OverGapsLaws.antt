@@ -1,5 +1,5 @@
 -- Unmapping over gaps, of the plain machine: its laws of unmapping, and with them what is claimed (specs/Claims).
-use Prim.Native.Nat.{ℕ, zero, suc, _+_, _≤_}
+use Prim.Native.Nat.{ℕ, zero, suc, _+_, _≤_, _<_}
 use mathlib.Core.Path.{_≡_, refl, sym, ap, _∙_, fun-ext}
 use mathlib.Core.Bool.{true, false}
 use mathlib.Core.List.{List, _∷_}
@@ -51,7 +51,7 @@ module _ (g : Given) (s : ℕ) where
 
 -- ---- the machine
 
-module _ (g : Given) (s : ℕ) (row : s ≤ 3) where
+module _ (g : Given) (s : ℕ) (row : s < 4) where
   abbrev slotsIn : Plain → Slots
   slotsIn p = p s .core .pages .slots
 
@@ -83,7 +83,7 @@ module _ (g : Given) (s : ℕ) (row : s ≤ 3) where
 
     module _ (a n : ℕ) (l : a + suc n ≤ 64) (few : areas (without a (suc n) (slotsIn p)) ≤ 8) where
       number : numberAt g p (unmapOf s a (suc n)) ≡ 0
-      number = unmap-accepted _ _ settled (unmaps-of (viewOf g (shares p) (p s .core)) s a n row (G .opened) l) few
+      number = unmap-accepted _ _ settled (unmaps-of (viewOf g (shares p) (p s .core)) s a n refl row (G .opened) l) few
 
       leaves : after g p (unmapOf s a (suc n)) ≡ unmappedAt p a (suc n)
       unfolding after

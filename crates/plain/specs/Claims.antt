@@ -8,6 +8,7 @@ use lib.Dec.{eqb}
 use lib.ListN.{length}
 use Rattle.basics.specs.Choice.{_when_else_}
 use Rattle.basics.specs.Ranges.{count}
+use Rattle.interface.specs.Numbers.{Sandboxes, PageCount, PageBytes, ReadWrite, MostAreas, MostShare}
 use Rattle.interface.specs.declared.request.Request.{Request}
 use Rattle.interface.specs.Answers.{Answered}
 use Rattle.interface.specs.Requests.{_is_, Open, Read, Write, Snapshot, Rewind, Report, Compare, pageOf, offsetOf}
@@ -46,7 +47,7 @@ RewoundIsRestored g = (s : ℕ) (qs : List Request) → Rewound g s qs → Resto
 pub record Keeps (k : Kept) : Type 0 where
   -- "It never exceeds the share"; "A sandbox has at most 8"
   pub charged : chargeOf (k .core .pages .slots) (copySlots (k .core)) ≤ k .core .share
-  pub inAreas : areas (k .core .pages .slots) ≤ 8
+  pub inAreas : areas (k .core .pages .slots) ≤ MostAreas
   -- fronts stand on mapped pages; committed pages and backs are snapshot pages
   pub frontMapped : (i : ℕ) → k .traces .front i ≡ true → isMapped (k .core .pages .slots i) ≡ true
   pub committedIn : (i : ℕ) → isCommitted (k .core .pages .slots i) ≡ true → isMapped (copied (copySlots (k .core)) i) ≡ true
@@ -56,13 +57,13 @@ pub record Keeps (k : Kept) : Type 0 where
   -- the back marks are always those of the copy
   pub backCopied : k .traces .back ≡ k .traces .copiedBack
   -- no page past 63
-  pub inside : (i : ℕ) → isMapped (k .core .pages .slots i) ≡ true → i < 64
-  pub copyInside : (i : ℕ) → isMapped (copied (copySlots (k .core)) i) ≡ true → i < 64
+  pub inside : (i : ℕ) → isMapped (k .core .pages .slots i) ≡ true → i < PageCount
+  pub copyInside : (i : ℕ) → isMapped (copied (copySlots (k .core)) i) ≡ true → i < PageCount
   -- the copy keeps the limits too, so that a rewind is never refused by them
   pub copyCharged : chargeOf (copied (copySlots (k .core))) (copySlots (k .core)) ≤ k .core .share
-  pub copyAreas : areas (copied (copySlots (k .core))) ≤ 8
+  pub copyAreas : areas (copied (copySlots (k .core))) ≤ MostAreas
   -- an open sandbox has a share of 1 to 128; a closed one has nothing
-  pub openShare : k .core .opened ≡ true → (1 ≤ k .core .share) × (k .core .share ≤ 128)
+  pub openShare : k .core .opened ≡ true → (1 ≤ k .core .share) × (k .core .share ≤ MostShare)
   pub closedEmpty : k .core .opened ≡ false → k ≡ closed
 
 -- of all sandboxes: "the shares together never exceed the pool"
@@ -85,19 +86,19 @@ pub record Reads (g : Given) (k : Kept) : Type 0 where
 
 -- "a sandbox's mapped pages and backs together are at most its share"
 abbrev pub Covered : Kept → Type 0
-Covered k = mappedPages (k .core .pages .slots) + count (k .traces .back) 64 ≤ k .core .share
+Covered k = mappedPages (k .core .pages .slots) + count (k .traces .back) PageCount ≤ k .core .share
 
 -- "a next write within its limits, to any mapped page with rights 3, is accepted and leaves the page with a front"
 abbrev pub NextWrite : Given → Plain → Type 0
 NextWrite g p =
-    (q : Request) → q .code ≡ Write → q .sandbox ≤ 3 → p (q .sandbox) .core .opened ≡ true → within (length (g .image) / 256) q ≡ true
-    → isMapped (p (q .sandbox) .core .pages .slots (pageOf q)) ≡ true → rightsAt (p (q .sandbox) .core .pages .slots (pageOf q)) ≡ 3
+    (q : Request) → q .code ≡ Write → q .sandbox < Sandboxes → p (q .sandbox) .core .opened ≡ true → within (length (g .image) / PageBytes) q ≡ true
+    → isMapped (p (q .sandbox) .core .pages .slots (pageOf q)) ≡ true → rightsAt (p (q .sandbox) .core .pages .slots (pageOf q)) ≡ ReadWrite
     → (numberAt g p q ≡ 0) × (after g p q (q .sandbox) .traces .front (pageOf q) ≡ true)
 
 -- after a snapshot a rewind is never refused
 abbrev pub NextRewind : Given → Plain → Type 0
 NextRewind g p =
-    (q : Request) → q .code ≡ Rewind → q .sandbox ≤ 3 → within (length (g .image) / 256) q ≡ true
+    (q : Request) → q .code ≡ Rewind → q .sandbox < Sandboxes → within (length (g .image) / PageBytes) q ≡ true
     → isTaken (copySlots (p (q .sandbox) .core)) ≡ true → numberAt g p q ≡ 0
 
 -- all of this, after every list
@@ -136,11 +137,11 @@ compareOf s = inSandbox s (call Compare)
 -- right after an accepted snapshot call 10 answers 64
 abbrev pub CleanAfterSnapshot : Given → Type 0
 CleanAfterSnapshot g =
-    (s : ℕ) (qs : List Request) (q : Request) → Then g s Snapshot qs q → answer g (upTo g (qs ++ q ∷ [])) (compareOf s) ≡ ok 64
+    (s : ℕ) (qs : List Request) (q : Request) → Then g s Snapshot qs q → answer g (upTo g (qs ++ q ∷ [])) (compareOf s) ≡ ok PageCount
 
 -- and right after an accepted rewind: "until a later call changes what the plain machine keeps for it"
 abbrev pub CleanWhileRewound : Given → Type 0
-CleanWhileRewound g = (s : ℕ) (qs : List Request) → Rewound g s qs → answer g (upTo g qs) (compareOf s) ≡ ok 64
+CleanWhileRewound g = (s : ℕ) (qs : List Request) → Rewound g s qs → answer g (upTo g qs) (compareOf s) ≡ ok PageCount
 
 -- what a read within its limits would answer of the copy: its byte, or that the page is not mapped there
 abbrev pub copyAnswer : Core → Request → Answered
@@ -149,8 +150,8 @@ copyAnswer c q = ok (copyBytes (c .copy) (pageOf q) (offsetOf q)) when isMapped 
 -- where call 10 answers 64, every read answers what the copy has
 abbrev pub CleanReadsCopy : Given → Type 0
 CleanReadsCopy g =
-    (p : Plain) (s : ℕ) → answer g p (compareOf s) ≡ ok 64
-    → (q : Request) → (q is Read) ≡ true → q .sandbox ≡ s → within (length (g .image) / 256) q ≡ true → answer g p q ≡ copyAnswer (p s .core) q
+    (p : Plain) (s : ℕ) → answer g p (compareOf s) ≡ ok PageCount
+    → (q : Request) → (q is Read) ≡ true → q .sandbox ≡ s → within (length (g .image) / PageBytes) q ≡ true → answer g p q ≡ copyAnswer (p s .core) q
 
 -- ---- request A2, "Unmapping over gaps": of an unmap within its limits, of an open sandbox, after every list
 

@@ -7,6 +7,7 @@ use mathlib.Core.List.{List, [], _∷_}
 use lib.Dec.{eqb}
 use Rattle.basics.specs.Choice.{_when_else_}
 use Rattle.basics.specs.Ranges.{count}
+use Rattle.interface.specs.Numbers.{PageCount}
 use Rattle.interface.specs.declared.request.Request.{Request}
 use Rattle.interface.specs.Answers.{Answered}
 use Rattle.interface.specs.Requests.{_is_, Report}
@@ -63,4 +64,4 @@ ToldAlike g = (s : ℕ) (qs : List Request) → toldTo s qs (answers g fresh qs)
 abbrev pub CountsMarks : Given → Type 0
 CountsMarks g =
     (qs : List Request) (q : Request) → (q is Report) ≡ true → numberAt g (bareUpTo g qs) q ≡ 0
-    → let traces = bareUpTo g qs (q .sandbox) .traces in answer g (bareUpTo g qs) q .value ≡ count (traces .front) 64 + count (traces .back) 64
+    → let traces = bareUpTo g qs (q .sandbox) .traces in answer g (bareUpTo g qs) q .value ≡ count (traces .front) PageCount + count (traces .back) PageCount

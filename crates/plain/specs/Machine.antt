@@ -8,6 +8,7 @@ use lib.ListN.{length, getD}
 use Rattle.basics.specs.Choice.{_when_else_}
 use Rattle.basics.specs.Ranges.{count, sum, over, alike}
 use Rattle.basics.specs.Rows.{inPlace}
+use Rattle.interface.specs.Numbers.{Sandboxes, PageCount, PageBytes}
 use Rattle.interface.specs.declared.page.Backing.{Backing}
 use Rattle.interface.specs.declared.page.Backing.the-variants.{Anonymous, Image}
 use Rattle.interface.specs.declared.page.Slot.the-variants.{Unmapped}
@@ -79,7 +80,7 @@ copyBytes (some d) i j = d .bytes i j
 -- "bytes, zero or the image's": byte j of a page with this backing that was never written
 abbrev pub backingByte : List ℕ → Backing → ℕ → ℕ
 backingByte image Anonymous j = 0
-backingByte image (Image p) j = getD image (256 * p .0 + j) 0
+backingByte image (Image p) j = getD image (PageBytes * p .0 + j) 0
 
 -- the bytes of page i of a map whose first page is this one
 abbrev pub newBytes : Given → Request → ℕ → ℕ → ℕ → ℕ
@@ -111,7 +112,7 @@ coreAfter g q c = record {
 
 -- the frames held: "report counts front and back marks", and kept frames "count in call 9"
 unfoldable pub held : Traces → ℕ
-held t = count (t .front) 64 + count (t .back) 64 + sum (t .runs) runPlaces
+held t = count (t .front) PageCount + count (t .back) PageCount + sum (t .runs) runPlaces
 
 -- "Unmap takes away .. front mark"; "Write .. sets its page's front mark"; "Snapshot .. turns front marks into back marks";
 -- Rewind: "a front mark stays only where the page was still committed"
@@ -166,7 +167,7 @@ keptAfter g q k = record { core = coreAfter g q (k .core); traces = tracesAfter 
 
 -- request A1: "the lowest page number at which the sandbox and its snapshot differ in being mapped, in rights or in bytes", all 256 bytes compared
 unfoldable pub differing : Core → ℕ
-differing c = lowestDifference (c .pages .slots) (copied (copySlots c)) (λ i. alike (c .pages .bytes i) (copyBytes (c .copy) i) 256)
+differing c = lowestDifference (c .pages .slots) (copied (copySlots c)) (λ i. alike (c .pages .bytes i) (copyBytes (c .copy) i) PageBytes)
 
 -- map: "Value: first page"; read: "Value: the byte"; snapshot: "Value: pages committed"; call 10: the page; "Value 0 where none is named"
 unfoldable pub coreValue : Given → Request → Core → ℕ
@@ -191,13 +192,14 @@ valueAt g q k = traceValue q (k .traces) when mayTell q else coreValue g q (k .c
 
 -- "the shares together"
 abbrev pub shares : Plain → ℕ
-shares p = sum (λ s. p s .core .share) 4
+shares p = sum (λ s. p s .core .share) Sandboxes
 
--- "Areas and charge are counted from its pages and its copy."
+-- "Areas and charge are counted from its pages and its copy." It has no lent memory and no state that could be unsound.
 abbrev pub viewOf : Given → ℕ → Core → View
 viewOf g total c = record {
+  sound = true;
   frames = g .frames;
-  imagePages = length (g .image) / 256;
+  imagePages = length (g .image) / PageBytes;
   shares = total;
   opened = c .opened;
   share = c .share;

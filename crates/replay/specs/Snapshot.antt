@@ -7,7 +7,8 @@ use Rattle.basics.specs.Choice.{_when_else_}
 use Rattle.interface.specs.declared.request.Request.{Request}
 use Rattle.interface.specs.Refusals.{archiveRefusal}
 use Rattle.areas.specs.Areas.{slots}
-use Rattle.state.specs.World.{World, sandboxAt, viewAt}
+use Rattle.state.specs.World.{World, sandboxAt}
+use Rattle.machine.specs.Step.{viewAt}
 use Rattle.state.specs.Test.{soundb}
 use Rattle.content.specs.Content.{copyRead}
 use Rattle.plain.specs.Machine.{Pages}

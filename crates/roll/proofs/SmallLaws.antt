@@ -39,11 +39,11 @@ use Rattle.runs.specs.Row.{row}
 use Rattle.kept.specs.Spare.{keptBy}
 use Rattle.areas.specs.Areas.{slots}
 use Rattle.state.specs.declared.sandbox.Sandbox.{Sandbox}
-use Rattle.state.specs.World.{World, sandboxAt, viewAt}
+use Rattle.state.specs.World.{World, sandboxAt}
 use Rattle.state.specs.Test.{soundb}
 use Rattle.content.specs.Content.{backingPage, pageUnder, pageRead, differing}
 use Rattle.memory.specs.Memory.{heldBy, valueAt}
-use Rattle.machine.specs.Step.{Outcome, Stepped, step, numberAt}
+use Rattle.machine.specs.Step.{viewAt, Outcome, Stepped, step, numberAt}
 use Rattle.roll.specs.Play.{FitsLine}
 
 -- each element is a byte

@@ -9,7 +9,10 @@ use Rattle.basics.proofs.TestLaws.{by-cases, and-left, and-right}
 use Rattle.interface.specs.declared.request.Request.{Request}
 use Rattle.interface.specs.Requests.{_is_, Map, Protect, Read, Write, backingOf}
 use Rattle.interface.specs.Limits.{between, rightsOk, pagesOk, placeOk, backingOk, usesOne, usesTwo, usesThree, within}
-use Rattle.areas.specs.Areas.{startOf}
+use Rattle.interface.specs.Slots.{startOf}
+use Rattle.interface.specs.Refusals.{isTaken}
+use Rattle.state.specs.declared.sandbox.Sandbox.{Sandbox}
+use Rattle.state.specs.World.{copyOf}
 use Rattle.rules.specs.Ready.{Fit}
 
 rights-small : (r : ℕ) → rightsOk r ≡ true → r ≤ 3
@@ -18,7 +21,7 @@ rights-small r h =
     (λ e. let h₁ : eqb r 3 ≡ true = rw e at h in omega (arith, eqb-true r 3 h₁))
 
 pages-end : (first n : ℕ) → pagesOk first n ≡ true → first + n ≤ 64
-pages-end first n h = leb-true (first + n) 64 (and-right (between 1 64 n) (leb (first + n) 64) (and-right (leb first 63) _ h))
+pages-end first n h = leb-true (first + n) 64 (and-right (between 1 64 n) (leb (first + n) 64) (and-right (ltb first 64) _ h))
 
 place-named : (first n : ℕ) → placeOk first n ≡ true → (first ≡ 64 → ⊥) → first + n ≤ 64
 place-named first n h d =
@@ -30,7 +33,7 @@ place-small first n h =
     by-cases (eqb first 64)
     (λ e. by-cases (between 1 64 n)
     (λ b. (omega (arith, eqb-true first 64 e), leb-true n 64 (and-right (leb 1 n) (leb n 64) b)))
-    (λ b. absurd (false≢true (and-left false (leb (first + n) 64) (and-right (leb first 63) (false && leb (first + n) 64) (rw (e, b) at h))))))
+    (λ b. absurd (false≢true (and-left false (leb (first + n) 64) (and-right (ltb first 64) (false && leb (first + n) 64) (rw (e, b) at h))))))
     (λ e.
     let h₁ : pagesOk first n ≡ true = rw e at h in
     (omega (arith, pages-end first n h₁), omega (arith, pages-end first n h₁)))
@@ -86,3 +89,7 @@ page-small address h = omega arith
 pub start-small : (q : Request) → Fit q → q .code ≡ Map → startOf (backingOf q) ≤ 64
 start-small q f e =
     by-cases (eqb (q .p3) 0) (λ t. rw t (omega arith)) (λ t. rw t (f .image e (eqb-false (q .p3) 0 t)))
+
+-- whether there is a snapshot
+pub taken-copy : (b : Sandbox) → isTaken (copyOf b) ≡ b .taken
+taken-copy b = by-cases (b .taken) (λ e. rw e) (λ e. rw e)

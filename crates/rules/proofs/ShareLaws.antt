@@ -9,30 +9,31 @@ use Rattle.basics.specs.Choice.{same}
 use Rattle.basics.proofs.TestLaws.{by-cases}
 use Rattle.basics.proofs.RangeLaws.{inside-first, inside-end}
 use Rattle.basics.proofs.LoopLaws.{every-at}
+use Rattle.interface.specs.declared.answer.Refusal.the-variants.{ShareExceeded}
 use Rattle.interface.specs.declared.request.Request.{Request}
 use Rattle.interface.specs.Requests.{_is_, Open, Map, Snapshot}
 use Rattle.interface.specs.Slots.{isMapped, mappedPages, chargeOf}
 use Rattle.interface.specs.Outcome.{firstOf, newPage, slotsAfter, copyAfter, shareAfter}
-use Rattle.interface.specs.Refusals.{View, chargeThen}
+use Rattle.interface.specs.Refusals.{View, chargeThen, applies}
 use Rattle.interface.specs.Settled.{Settled}
 use Rattle.interface.proofs.KindLaws.{kind}
 use Rattle.interface.proofs.ChargeLaws.{map-charge, snapshot-charge}
 use Rattle.interface.proofs.RowLaws.{row-13}
 use Rattle.areas.specs.Areas.{slots}
 use Rattle.state.specs.declared.sandbox.Sandbox.{Sandbox}
-use Rattle.state.specs.World.{copyOf}
-use Rattle.rules.specs.Ready.{Ready, Passed, viewFrom}
+use Rattle.state.specs.World.{copyOf, viewFrom}
+use Rattle.rules.specs.Ready.{Ready, Passed}
 
 module _ (frames images shares : ℕ) (b : Sandbox) (q : Request) where
   abbrev pub view : View
-  view = viewFrom frames images shares b
+  view = viewFrom true frames images shares b
 
   -- the row's condition
   abbrev pub exceeded : Bool
-  exceeded = q is Open && ltb frames (shares + q .p1) || ltb (shareAfter q (b .share)) (chargeThen view q)
+  exceeded = applies view q ShareExceeded
 
   -- a closed sandbox is charged nothing
-  open-charge : Ready images b → Passed view q → q .code ≡ Open → ltb (shareAfter q (b .share)) (chargeThen view q) ≡ false
+  open-charge : {n : ℕ} → Ready n b → Passed view q → q .code ≡ Open → ltb (shareAfter q (b .share)) (chargeThen view q) ≡ false
   unfolding slotsAfter copyAfter
   open-charge r p e =
       let less : chargeOf (slots (b .present)) (copyOf b) ≤ q .p1 = omega (arith, r .charged, r .closed (p .closed e)) in
@@ -56,23 +57,27 @@ module _ (frames images shares : ℕ) (b : Sandbox) (q : Request) where
   unfolding slotsAfter copyAfter
   snapshot-then e = rw e (snapshot-charge (slots (b .present)))
 
-  pub exceeds-open : Ready images b → Passed view q → q .code ≡ Open → ltb frames (shares + q .p1) ≡ exceeded
+  pub exceeds-open : {n : ℕ} → Ready n b → Passed view q → q .code ≡ Open → ltb frames (shares + q .p1) ≡ exceeded
+  unfolding applies
   exceeds-open r p e =
       let o : (q is Open) ≡ true = rw e in
       by-cases (ltb frames (shares + q .p1)) (λ x. rw (open-charge r p e, o, x)) (λ x. rw (open-charge r p e, o, x))
 
   pub exceeds-map : Passed view q → q .code ≡ Map → (charge : ℕ) → charge ≡ chargeOf (slots (b .present)) (copyOf b)
       → ltb (b .share) (charge + q .p2) ≡ exceeded
+  unfolding applies
   exceeds-map p e charge h =
       let o : (q is Open) ≡ false = rw e in
       rw (map-then p e, o, h)
 
   pub exceeds-snapshot : q .code ≡ Snapshot → (pages : ℕ) → pages ≡ mappedPages (slots (b .present)) → ltb (b .share) (2 * pages) ≡ exceeded
+  unfolding applies
   exceeds-snapshot e pages h =
       let o : (q is Open) ≡ false = rw e in
       rw (snapshot-then e, o, h)
 
   pub exceeds-not : Settled view → Passed view q → (q .code ≡ Open → ⊥) → (q .code ≡ Map → ⊥) → (q .code ≡ Snapshot → ⊥) → false ≡ exceeded
+  unfolding applies
   exceeds-not s p o m n =
       let noOpen : (q is Open) ≡ false = ne-eqb _ _ o in
       rw (row-13 view s q (kind q) noOpen (ne-eqb _ _ m) (ne-eqb _ _ n) (λ t. p .taken (eqb-true _ _ t)), noOpen)

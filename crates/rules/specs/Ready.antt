@@ -2,6 +2,7 @@
 use mathlib.Core.Path.{_≡_}
 use mathlib.Core.Bool.{true, false}
 use Prim.Native.Nat.{ℕ, _+_, _≤_, _<_}
+use Rattle.interface.specs.Numbers.{PageCount, Addresses, AnyPage, AnonymousBacking, ReadWrite, MostShare, MostImagePages, ByteValues}
 use Rattle.interface.specs.declared.request.Request.{Request}
 use Rattle.interface.specs.Requests.{Open, Map, Unmap, Protect, Read, Write, Rewind}
 use Rattle.interface.specs.Slots.{isCommitted, backingAt, allAre, chargeOf}
@@ -14,18 +15,18 @@ use Rattle.state.specs.World.{copyOf}
 
 -- what the limits of its parameters say of a request, over an image of at most 64 pages
 pub record Fit (q : Request) : Type 0 where
-  pub share : q .code ≡ Open → q .p1 ≤ 128
-  pub place : q .code ≡ Map → (q .p1 ≤ 64) × (q .p2 ≤ 64) × (q .p5 ≤ 3)
-  pub named : q .code ≡ Map → (q .p1 ≡ 64 → ⊥) → q .p1 + q .p2 ≤ 64
-  pub image : q .code ≡ Map → (q .p3 ≡ 0 → ⊥) → q .p4 ≤ 64
-  pub unmapped : q .code ≡ Unmap → q .p1 + q .p2 ≤ 64
-  pub protected : q .code ≡ Protect → (q .p1 + q .p2 ≤ 64) × (q .p3 ≤ 3)
-  pub read : q .code ≡ Read → q .p1 < 16384
-  pub written : q .code ≡ Write → (q .p1 < 16384) × (q .p2 < 256)
+  pub share : q .code ≡ Open → q .p1 ≤ MostShare
+  pub place : q .code ≡ Map → (q .p1 ≤ AnyPage) × (q .p2 ≤ PageCount) × (q .p5 ≤ ReadWrite)
+  pub named : q .code ≡ Map → (q .p1 ≡ AnyPage → ⊥) → q .p1 + q .p2 ≤ PageCount
+  pub image : q .code ≡ Map → (q .p3 ≡ AnonymousBacking → ⊥) → q .p4 ≤ MostImagePages
+  pub unmapped : q .code ≡ Unmap → q .p1 + q .p2 ≤ PageCount
+  pub protected : q .code ≡ Protect → (q .p1 + q .p2 ≤ PageCount) × (q .p3 ≤ ReadWrite)
+  pub read : q .code ≡ Read → q .p1 < Addresses
+  pub written : q .code ≡ Write → (q .p1 < Addresses) × (q .p2 < ByteValues)
 
 -- a sandbox of a sound state, over an image of so many pages, at most 64
 pub record Ready (images : ℕ) (b : Sandbox) : Type 0 where
-  pub few : images ≤ 64
+  pub few : images ≤ MostImagePages
   pub present : WellFormed images (b .present)
   pub snapshot : WellFormed images (b .snapshot)
   -- "committed pages .. agree with them in backing"
@@ -39,17 +40,5 @@ pub record Passed (v : View) (q : Request) : Type 0 where
   pub fit : Fit q
   pub closed : q .code ≡ Open → v .opened ≡ false
   pub taken : q .code ≡ Rewind → isTaken (v .copy) ≡ true
-  pub fits : q .code ≡ Map → firstOf (v .slots) q + q .p2 ≤ 64
+  pub fits : q .code ≡ Map → firstOf (v .slots) q + q .p2 ≤ PageCount
   pub free : q .code ≡ Map → allAre false (v .slots) (firstOf (v .slots) q) (q .p2) ≡ true
-
--- the view of a sandbox, with the frames of the pool, the pages of the image, and the shares of all
-abbrev pub viewFrom : ℕ → ℕ → ℕ → Sandbox → View
-viewFrom frames images shares b = record {
-  frames = frames;
-  imagePages = images;
-  shares = shares;
-  opened = b .opened;
-  share = b .share;
-  slots = slots (b .present);
-  copy = copyOf b;
-}

@@ -1,5 +1,7 @@
 // What an accepted request makes of its sandbox.
 ghost use mathlib.Core.Path.{_≡_};
+ghost use mathlib.Core.Bool.{true};
+ghost use Prim.Native.Nat.{ℕ};
 ghost use Rattle.interface.specs.Requests.{Map, backingOf};
 ghost use Rattle.interface.specs.Outcome.{firstOf, newPage, shareAfter};
 ghost use Rattle.areas.specs.Areas.{slots, Near};
@@ -17,40 +19,38 @@ use packing::pack::repack;
 use state::sandbox::Sandbox;
 
 // The areas that result, and whether they fit.
-pub fn packed_after(b: Sandbox, images: u8, q: Request) -> Packed
-    requires { ⌜ Ready images b ⌝ }
+pub fn packed_after(b: Sandbox, q: Request) -> Packed
+    requires { ⌜ ((images : ℕ) × Ready images b) ⌝ }
     requires { ⌜ Fit q ⌝ }
     ensures { λ r. ⌜ r ≡ packedAfter q b ⌝ }
 {
     let code = q.code;
     let present = b.present;
-    if code == 2 {
-        let first = first_of(present, q);
-        return repack(present, PageNo(first), q.p2 as u8, Change::Map(new_page(q)));
+    match code {
+        Request::MAP => {
+            let first = first_of(present, q);
+            repack(present, PageNo(first), q.p2 as u8, Change::Map(new_page(q)))
+        }
+        Request::UNMAP => repack(present, PageNo(q.p1 as u8), q.p2 as u8, Change::Unmap),
+        Request::PROTECT => {
+            let change = Change::Protect(q.p3 as u8);
+            repack(present, PageNo(q.p1 as u8), q.p2 as u8, change)
+        }
+        Request::SNAPSHOT => repack(present, PageNo(0), Areas::PAGES, Change::Commit),
+        Request::REWIND => {
+            let snapshot = b.snapshot;
+            whole(snapshot)
+        }
+        _ => whole(present),
     }
-    if code == 3 {
-        return repack(present, PageNo(q.p1 as u8), q.p2 as u8, Change::Unmap);
-    }
-    if code == 4 {
-        return repack(
-            present,
-            PageNo(q.p1 as u8),
-            q.p2 as u8,
-            Change::Protect(q.p3 as u8),
-        );
-    }
-    if code == 7 {
-        return repack(present, PageNo(0), 64, Change::Commit);
-    }
-    if code == 8 {
-        let snapshot = b.snapshot;
-        return Packed {
-            areas: snapshot,
-            fits: true,
-        };
-    }
+}
+
+// Areas that were not packed anew.
+fn whole(areas: Areas) -> Packed
+    ensures { λ r. ⌜ r ≡ record { areas = areas; fits = true } ⌝ }
+{
     Packed {
-        areas: present,
+        areas: areas,
         fits: true,
     }
 }
@@ -62,7 +62,7 @@ pub fn first_of(present: Areas, q: Request) -> u8
     requires { ⌜ Fit q ⌝ }
     ensures { λ r. ⌜ r ≡ firstOf (slots present) q ⌝ }
 {
-    if q.p1 == 64 {
+    if q.p1 == Request::ANY_PAGE {
         return present.lowest_gap(q.p2 as u8);
     }
     q.p1 as u8
@@ -87,7 +87,7 @@ fn backing_of(q: Request) -> Backing
     requires { ⌜ Fit q ⌝ }
     ensures { λ r. ⌜ r ≡ backingOf q ⌝ }
 {
-    if q.p3 == 0 {
+    if q.p3 == Request::ANONYMOUS {
         return Backing::Anonymous;
     }
     Backing::Image(ImagePageNo(q.p4 as u8))
@@ -111,7 +111,7 @@ pub fn sandbox_after(b: Sandbox, q: Request, present: Areas) -> Sandbox
 fn snapshot_after(q: Request, present: Areas, snapshot: Areas) -> Areas
     ensures { λ r. ⌜ r ≡ snapshotAfter q present snapshot ⌝ }
 {
-    if q.code == 7 {
+    if q.code == Request::SNAPSHOT {
         return present;
     }
     snapshot
@@ -120,7 +120,7 @@ fn snapshot_after(q: Request, present: Areas, snapshot: Areas) -> Areas
 fn taken_after(q: Request, taken: bool) -> bool
     ensures { λ r. ⌜ r ≡ takenAfter q taken ⌝ }
 {
-    if q.code == 7 {
+    if q.code == Request::SNAPSHOT {
         return true;
     }
     taken
@@ -130,7 +130,7 @@ fn share_after(q: Request, share: u8) -> u8
     requires { ⌜ Fit q ⌝ }
     ensures { λ r. ⌜ r ≡ shareAfter q share ⌝ }
 {
-    if q.code == 1 {
+    if q.code == Request::OPEN {
         return q.p1 as u8;
     }
     share

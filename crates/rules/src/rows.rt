@@ -1,99 +1,129 @@
-// The rows of "Turned back" that ask about pages and limits, each a test with the table's own condition.
+// The rows of "Turned back" from 4 on, as tests: each says of a sandbox whether the row of the one table applies.
 ghost use mathlib.Core.Path.{_≡_};
-ghost use mathlib.Core.Bool.{true, false, not, _&&_, _||_};
-ghost use Prim.Native.Nat.{_+_, _≤_};
-ghost use lib.Dec.{ltb, eqb};
-ghost use Rattle.interface.specs.Requests.{_is_, Open, Map, Write, pageOf};
-ghost use Rattle.interface.specs.Slots.{allAre, lowestGap, rightsAt};
-ghost use Rattle.interface.specs.Outcome.{shareAfter};
-ghost use Rattle.interface.specs.Refusals.{allMapped, chargeThen};
+ghost use mathlib.Core.Bool.{true};
+ghost use Prim.Native.Nat.{ℕ, _<_};
+ghost use Rattle.interface.specs.declared.answer.Refusal.the-variants.{NotOpen, AlreadyOpen, SnapshotTaken, NoSnapshot};
+ghost use Rattle.interface.specs.declared.answer.Refusal.the-variants.{NotMapped, AlreadyMapped, NoGap, NotWritable};
+ghost use Rattle.interface.specs.declared.answer.Refusal.the-variants.{ShareExceeded};
+ghost use Rattle.interface.specs.Numbers.{Sandboxes, Addresses};
+ghost use Rattle.interface.specs.Requests.{pageOf};
+ghost use Rattle.interface.specs.Refusals.{View, applies};
 ghost use Rattle.interface.specs.Settled.{Settled};
 ghost use Rattle.areas.specs.Areas.{slots, Near};
-ghost use Rattle.rules.specs.Ready.{Fit, Ready, Passed, viewFrom};
+ghost use Rattle.state.specs.World.{copyOf, viewFrom};
+ghost use Rattle.rules.specs.Ready.{Fit, Ready, Passed};
 use areas::area::Areas;
-use areas::slot::is_mapped;
-use areas::slot::rights_at;
+use interface::page::Attributes;
 use interface::page::PageNo;
 use interface::request::Request;
+use slots::is_mapped;
+use slots::rights_at;
 use state::sandbox::Sandbox;
 
-// Row 9 does not apply: "Refusal 9 remains for protect, read and write." An unmap passes over unmapped pages.
-pub fn all_mapped(present: Areas, q: Request) -> bool
+// Row 4, of one of the four sandboxes: "but for open, not open".
+pub fn not_open(opened: bool, q: Request) -> bool
+    requires { ⌜ q .sandbox < Sandboxes ⌝ }
+    ensures { λ r. ⌜ ((v : View) → v .opened ≡ opened → r ≡ applies v q NotOpen) ⌝ }
+{
+    (q.code != Request::OPEN) & !opened
+}
+
+// Row 5: "open of an open sandbox".
+pub fn already_open(opened: bool, q: Request) -> bool
+    ensures { λ r. ⌜ ((v : View) → v .opened ≡ opened → r ≡ applies v q AlreadyOpen) ⌝ }
+{
+    (q.code == Request::OPEN) & opened
+}
+
+// Row 7: "snapshot already taken".
+pub fn snapshot_taken(b: Sandbox, q: Request) -> bool
+    ensures { λ r. ⌜ ((v : View) → v .copy ≡ copyOf b → r ≡ applies v q SnapshotTaken) ⌝ }
+{
+    (q.code == Request::SNAPSHOT) & b.taken
+}
+
+// Row 8: "rewind without a snapshot", and call 10.
+pub fn no_snapshot(b: Sandbox, q: Request) -> bool
+    ensures { λ r. ⌜ ((v : View) → v .copy ≡ copyOf b → r ≡ applies v q NoSnapshot) ⌝ }
+{
+    codes::needs_snapshot(q) & !b.taken
+}
+
+// Row 9: "Refusal 9 remains for protect, read and write." An unmap passes over unmapped pages.
+pub fn not_mapped(present: Areas, q: Request) -> bool
     requires { ⌜ Near (present .list) ⌝ }
     requires { ⌜ Fit q ⌝ }
-    ensures { λ r. ⌜ r ≡ allMapped (slots present) q ⌝ }
+    ensures { λ r. ⌜ ((v : View) → v .slots ≡ slots present → r ≡ applies v q NotMapped) ⌝ }
 {
     let code = q.code;
-    if code == 4 {
-        return present.all_are(true, PageNo(q.p1 as u8), q.p2 as u8);
+    if code == Request::PROTECT {
+        return !present.all_are(true, PageNo(q.p1 as u8), q.p2 as u8);
     }
-    if (code == 5) | (code == 6) {
-        return is_mapped(present.slot(PageNo((q.p1 / 256) as u8)));
+    if (code == Request::READ) | (code == Request::WRITE) {
+        return !is_mapped(present.slot(page_of(q)));
     }
-    true
+    false
 }
 
 // Row 10: "map at a named page meets a mapped page".
-pub fn meets_mapped(present: Areas, q: Request) -> bool
+pub fn already_mapped(present: Areas, q: Request) -> bool
     requires { ⌜ Near (present .list) ⌝ }
     requires { ⌜ Fit q ⌝ }
-    ensures { λ r. ⌜ r ≡ (q is Map && not (eqb (q .p1) 64) && not (allAre false (slots present) (q .p1) (q .p2))) ⌝ }
+    ensures { λ r. ⌜ ((v : View) → v .slots ≡ slots present → r ≡ applies v q AlreadyMapped) ⌝ }
 {
-    if q.code != 2 {
-        return false;
-    }
-    if q.p1 == 64 {
+    if (q.code != Request::MAP) | (q.p1 == Request::ANY_PAGE) {
         return false;
     }
     !present.all_are(false, PageNo(q.p1 as u8), q.p2 as u8)
 }
 
 // Row 11: "map at 64 and no run of p2 unmapped pages exists".
-pub fn lacks_gap(present: Areas, q: Request) -> bool
+pub fn no_gap(present: Areas, q: Request) -> bool
     requires { ⌜ Near (present .list) ⌝ }
     requires { ⌜ Fit q ⌝ }
-    ensures { λ r. ⌜ r ≡ (q is Map && eqb (q .p1) 64 && eqb (lowestGap (slots present) (q .p2)) 64) ⌝ }
+    ensures { λ r. ⌜ ((v : View) → v .slots ≡ slots present → r ≡ applies v q NoGap) ⌝ }
 {
-    if q.code != 2 {
+    if (q.code != Request::MAP) | (q.p1 != Request::ANY_PAGE) {
         return false;
     }
-    if q.p1 != 64 {
-        return false;
-    }
-    present.lowest_gap(q.p2 as u8) == 64
+    present.lowest_gap(q.p2 as u8) == Areas::PAGES
 }
 
 // Row 12: "write without the write right".
-pub fn lacks_right(present: Areas, q: Request) -> bool
+pub fn not_writable(present: Areas, q: Request) -> bool
     requires { ⌜ Near (present .list) ⌝ }
     requires { ⌜ Fit q ⌝ }
-    ensures { λ r. ⌜ r ≡ (q is Write && not (eqb (rightsAt (slots present (pageOf q))) 3)) ⌝ }
+    ensures { λ r. ⌜ ((v : View) → v .slots ≡ slots present → r ≡ applies v q NotWritable) ⌝ }
 {
-    if q.code != 6 {
+    if q.code != Request::WRITE {
         return false;
     }
-    rights_at(present.slot(PageNo((q.p1 / 256) as u8))) != 3
+    rights_at(present.slot(page_of(q))) != Attributes::READ_WRITE
+}
+
+// The page of an address.
+fn page_of(q: Request) -> PageNo
+    requires { ⌜ q .p1 < Addresses ⌝ }
+    ensures { λ r. ⌜ r .0 ≡ pageOf q ⌝ }
+{
+    PageNo((q.p1 as usize / PageNo::BYTES) as u8)
 }
 
 // Row 13: "shares would exceed the pool, or the charge the share". The charge of what would result is counted from the present one: a map adds its
 // pages, a snapshot charges each mapped page twice, and no other call can raise it.
-pub fn exceeds(b: Sandbox, frames: u8, images: u8, shares: u16, q: Request) -> bool
-    requires { ⌜ Ready images b ⌝ }
-    requires { ⌜ Settled (viewFrom frames images shares b) ⌝ }
-    requires { ⌜ Passed (viewFrom frames images shares b) q ⌝ }
-    requires { ⌜ shares ≤ 1020 ⌝ }
-    ensures { λ r. ⌜ r ≡ (q is Open && ltb frames (shares + q .p1) || ltb (shareAfter q (b .share)) (chargeThen (viewFrom frames images shares b) q)) ⌝ }
+pub fn share_exceeded(b: Sandbox, frames: u8, shares: u16, q: Request) -> bool
+    requires { ⌜ ((images : ℕ) × Ready images b) ⌝ }
+    ensures { λ r. ⌜ ((images : ℕ) → let v = viewFrom true frames images shares b in
+        Settled v → Passed v q → r ≡ applies v q ShareExceeded) ⌝ }
 {
     let code = q.code;
-    if code == 1 {
-        return (frames as u32) < shares as u32 + q.p1 as u32;
+    match code {
+        Request::OPEN => (frames as u32) < shares as u32 + q.p1 as u32,
+        Request::MAP => (b.share as u32) < b.charge() as u32 + q.p2 as u32,
+        Request::SNAPSHOT => {
+            let present = b.present;
+            (b.share as u32) < 2 * present.mapped_pages() as u32
+        }
+        _ => false,
     }
-    if code == 2 {
-        return (b.share as u32) < b.charge() as u32 + q.p2 as u32;
-    }
-    if code == 7 {
-        let present = b.present;
-        return (b.share as u32) < 2 * present.mapped_pages() as u32;
-    }
-    false
 }

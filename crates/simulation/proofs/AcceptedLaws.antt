@@ -14,11 +14,11 @@ use Rattle.interface.proofs.KindLaws.{kind}
 use Rattle.frames.specs.Frames.{held}
 use Rattle.table.specs.Store.{entry, frontOf, Tidy}
 use Rattle.state.specs.declared.sandbox.Sandbox.{Sandbox}
-use Rattle.state.specs.World.{World, sandboxAt, framesOf, pagesIn, sharesOf, viewAt, rowsOf}
+use Rattle.state.specs.World.{World, sandboxAt, framesOf, pagesIn, sharesOf, rowsOf}
 use Rattle.state.specs.Sound.{SoundAt}
 use Rattle.state.proofs.TestLaws.{Tested, tested}
 use Rattle.memory.specs.Memory.{givesAt, storeAfter}
-use Rattle.machine.specs.Step.{worldAfter, numberAt, Free, Outcome, Stepped}
+use Rattle.machine.specs.Step.{viewAt, worldAfter, numberAt, Free, Outcome, Stepped}
 use Rattle.plain.specs.Machine.{Given, Kept, keptAfter, viewOf}
 use Rattle.simulation.specs.Lent.{Lent}
 use Rattle.simulation.proofs.StepLaws.{was-sound, was-accepted, number-is, accepted-leaves, frame-free}

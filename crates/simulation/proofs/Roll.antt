@@ -9,7 +9,7 @@ use Rattle.interface.specs.Answers.{Answered}
 use Rattle.interface.specs.Slots.{follows, joins, areas, mappedPages, uncommittedPages, lowestGap, chargeOf}
 use Rattle.interface.specs.Limits.{within}
 use Rattle.interface.specs.Outcome.{firstOf, slotsAfter, copyAfter}
-use Rattle.interface.specs.Refusals.{allMapped, refusal}
+use Rattle.interface.specs.Refusals.{allMapped, applies, refusal}
 use Rattle.frames.specs.declared.Free.{Free}
 use Rattle.frames.specs.declared.Free.the-variants.{Frame, None}
 use Rattle.frames.specs.Word.{bit, putBit}
@@ -57,7 +57,7 @@ roll-played : played (started 8) (requestsOf roll) ≡ getsOf roll
 unfolding chosen played roll
     count sum every lowest inside over
     follows joins areas mappedPages uncommittedPages lowestGap chargeOf
-    within firstOf slotsAfter copyAfter allMapped refusal
+    within firstOf slotsAfter copyAfter allMapped applies refusal
     best movedUp rows.push walkTo walked runFor granted longestRun
     bit putBit held mark countHeld greatest leastHeld bothHeld apartHeld
     partAt setPart zeros frame setFrame

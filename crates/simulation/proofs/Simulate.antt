@@ -16,7 +16,7 @@ use Rattle.interface.specs.Requests.{_is_, Map, Read, Write, Snapshot, Report, 
 use Rattle.interface.specs.Slots.{Slots, isMapped, mappedPages, copied}
 use Rattle.interface.specs.Limits.{usesOne, within}
 use Rattle.interface.specs.Outcome.{firstOf, shareAfter}
-use Rattle.interface.specs.Refusals.{View, allMapped, refusal}
+use Rattle.interface.specs.Refusals.{View, allMapped, applies, refusal}
 use Rattle.interface.specs.Accepted.{Accepted}
 use Rattle.interface.proofs.KindLaws.{kind}
 use Rattle.interface.proofs.AcceptedLaws.{accepted}
@@ -32,10 +32,10 @@ use Rattle.state.specs.declared.sandbox.Sandbox.{Sandbox}
 use Rattle.runs.specs.declared.Runs.{Runs}
 use Rattle.runs.specs.Row.{row}
 use Rattle.kept.specs.Spare.{keptAt, keptBy, Spare}
-use Rattle.state.specs.World.{World, sandboxAt, closedSandbox, framesOf, sharesOf, viewAt, rowsOf}
+use Rattle.state.specs.World.{World, sandboxAt, closedSandbox, framesOf, sharesOf, rowsOf}
 use Rattle.content.specs.Content.{pageRead, copyRead, differing}
 use Rattle.memory.specs.Memory.{givesAt, longestOf, runsAfter, storeAfter, heldBy, valueAt}
-use Rattle.machine.specs.Step.{sandboxThen, worldAfter, numberAt, step, Outcome, Stepped}
+use Rattle.machine.specs.Step.{viewAt, sandboxThen, worldAfter, numberAt, step, Outcome, Stepped}
 use Rattle.plain.specs.Machine.{Given, Kept, Plain, copySlots, copyBytes, shares, viewOf, keptAfter, coreValue, answer, after}
 use Rattle.plain.specs.Machine.{held as heldMarks, differing as plainDiffering, valueAt as plainValue, numberAt as plainNumber}
 use Rattle.plain.proofs.KeptLaws.{holds-after}
@@ -57,11 +57,11 @@ use Rattle.simulation.proofs.SoundLaws.{frames-same, shares-same, agree
 
 -- rows 2 and 4 need no view
 refused-2 : (v : View) (q : Request) → isCall q ≡ false → refusal v q ≡ 2
-unfolding refusal
+unfolding applies refusal
 refused-2 v q c = rw c
 
 refused-4 : (v : View) (q : Request) → isCall q ≡ true → ltb 3 (q .sandbox) ≡ true → refusal v q ≡ 4
-unfolding refusal
+unfolding applies refusal
 refused-4 v q c r = rw (c, r)
 
 -- a sandbox that agrees gives the view that the plain machine has

@@ -21,10 +21,10 @@ use Rattle.runs.specs.Row.{lengthsOf}
 use Rattle.kept.specs.Spare.{Spare}
 use Rattle.kept.proofs.SpareLaws.{run-kept}
 use Rattle.table.specs.Store.{entry, frontOf}
-use Rattle.state.specs.World.{World, sandboxAt, framesOf, viewAt, rowsOf}
+use Rattle.state.specs.World.{World, sandboxAt, framesOf, rowsOf}
 use Rattle.state.specs.Test.{soundb}
 use Rattle.memory.specs.Memory.{givesAt, longestOf}
-use Rattle.machine.specs.Step.{worldAfter, numberAt, step, takes, gives, Free, OfLongest, Outcome, Stepped}
+use Rattle.machine.specs.Step.{viewAt, worldAfter, numberAt, step, takes, gives, Free, OfLongest, Outcome, Stepped}
 
 -- a request that is accepted
 module _ (image : List ℕ) (w : World) (q : Request) (n : numberAt image w q ≡ 0) where

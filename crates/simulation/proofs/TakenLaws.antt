@@ -18,12 +18,12 @@ use Rattle.frames.specs.Frames.{leastHeld}
 use Rattle.frames.proofs.PairLaws.{least-found}
 use Rattle.table.specs.Store.{entry, frontOf}
 use Rattle.areas.specs.Areas.{slots}
-use Rattle.state.specs.World.{World, sandboxAt, viewAt, rowsOf}
+use Rattle.state.specs.World.{World, sandboxAt, rowsOf}
 use Rattle.state.specs.Sound.{Sound}
 use Rattle.state.proofs.TestLaws.{Tested, tested, sound-of}
 use Rattle.state.proofs.Room.{holds, frame-there, kept-there}
 use Rattle.memory.specs.Memory.{givesAt, longestOf}
-use Rattle.machine.specs.Step.{takes, gives, Free, OfLongest, Chosen}
+use Rattle.machine.specs.Step.{viewAt, takes, gives, Free, OfLongest, Chosen}
 use Rattle.simulation.proofs.StepLaws.{was-accepted, Taking, taking, gives-takes}
 use Rattle.simulation.proofs.StoreSteps.{write-page}
 

@@ -13,10 +13,10 @@ ghost use Rattle.state.specs.Test.{namesNone, pageOk, pagesOk, recordOk, sandbo
 use crate::spare::runs_ok;
 use crate::spare::spare_ok;
 use areas::area::Areas;
-use areas::slot::backing_at;
-use areas::slot::follows;
-use areas::slot::is_committed;
-use areas::slot::is_mapped;
+use slots::backing_at;
+use slots::follows;
+use slots::is_committed;
+use slots::is_mapped;
 use interface::page::PageNo;
 use interface::page::Slot;
 use packing::formed::well_formed;

@@ -7,6 +7,7 @@ use lib.Dec.{eqb}
 use lib.ListN.{length, getD, set, replicate}
 use Rattle.basics.specs.Choice.{_when_else_}
 use Rattle.basics.specs.Ranges.{sum}
+use Rattle.interface.specs.Numbers.{Sandboxes, PageBytes, MostFrames, MostImagePages, TableEntries}
 use Rattle.interface.specs.Slots.{Slots}
 use Rattle.interface.specs.Limits.{between}
 use Rattle.interface.specs.Refusals.{View}
@@ -34,15 +35,19 @@ closedSandbox = record { opened = false; share = 0; present = empty; taken = fal
 
 -- "A fresh state has four closed sandboxes and no held frame"
 abbrev pub freshMachine : Machine
-freshMachine = record { sandboxes = replicate 4 closedSandbox; held = noneHeld }
+freshMachine = record { sandboxes = replicate Sandboxes closedSandbox; held = noneHeld }
 
 -- the world that a start leaves over a pool of this many frames: "starting clears pool and table"
 abbrev pub started : ℕ → World
-started frames = record { sandboxes = replicate 4 closedSandbox; store = fresh 256 frames }
+started frames = record { sandboxes = replicate Sandboxes closedSandbox; store = fresh PageBytes frames }
 
--- sandbox s; past the row, a closed one
+-- sandbox s of a row; past it, a closed one
+abbrev pub sandboxIn : List Sandbox → ℕ → Sandbox
+sandboxIn row s = getD row s closedSandbox
+
+-- sandbox s
 abbrev pub sandboxAt : World → ℕ → Sandbox
-sandboxAt w s = getD (w .sandboxes) s closedSandbox
+sandboxAt w s = sandboxIn (w .sandboxes) s
 
 -- one setter for each field of a sandbox
 abbrev pub withOpened : Bool → Sandbox → Sandbox
@@ -73,7 +78,7 @@ withSandbox s b w = record { sandboxes = set (w .sandboxes) s b; store = w .stor
 
 -- the number of whole pages in so many bytes
 abbrev pub pagesIn : ℕ → ℕ
-pagesIn bytes = bytes / 256
+pagesIn bytes = bytes / PageBytes
 
 -- frames of the pool
 abbrev pub framesOf : World → ℕ
@@ -84,25 +89,29 @@ abbrev pub copyOf : Sandbox → Option Slots
 copyOf b = some (slots (b .snapshot)) when b .taken else none
 
 -- "the shares together"
-abbrev pub sharesOf : World → ℕ
-sharesOf w = sum (λ s. sandboxAt w s .share) 4
+abbrev pub sharesIn : List Sandbox → ℕ
+sharesIn row = sum (λ s. sandboxIn row s .share) Sandboxes
 
--- what refusals are decided from
-abbrev pub viewAt : List ℕ → World → ℕ → View
-viewAt image w s = record {
-  frames = framesOf w;
-  imagePages = pagesIn (length image);
-  shares = sharesOf w;
-  opened = sandboxAt w s .opened;
-  share = sandboxAt w s .share;
-  slots = slots (sandboxAt w s .present);
-  copy = copyOf (sandboxAt w s);
+abbrev pub sharesOf : World → ℕ
+sharesOf w = sharesIn (w .sandboxes)
+
+-- what refusals are decided from, of this sandbox: whether lengths and state are right, the frames of the pool, the pages of the image, the shares of all
+abbrev pub viewFrom : Bool → ℕ → ℕ → ℕ → Sandbox → View
+viewFrom sound frames imagePages shares b = record {
+  sound = sound;
+  frames = frames;
+  imagePages = imagePages;
+  shares = shares;
+  opened = b .opened;
+  share = b .share;
+  slots = slots (b .present);
+  copy = copyOf b;
 }
 
 -- so many bytes are whole pages, at least low and at most high of them
 abbrev pub wholePages : ℕ → ℕ → ℕ → Bool
-wholePages low high bytes = eqb (bytes % 256) 0 && between low high (bytes / 256)
+wholePages low high bytes = eqb (bytes % PageBytes) 0 && between low high (bytes / PageBytes)
 
 -- "The pool is 1 to 128 frames of 256 bytes. The image, read only, is 0 to 64 pages of 256 bytes. The page table is 512 16-bit numbers"
 abbrev pub lengthsOk : ℕ → ℕ → ℕ → Bool
-lengthsOk pool table image = wholePages 1 128 pool && (eqb table 512 && wholePages 0 64 image)
+lengthsOk pool table image = wholePages 1 MostFrames pool && (eqb table TableEntries && wholePages 0 MostImagePages image)

@@ -10,7 +10,8 @@ use Rattle.interface.specs.Requests.{Snapshot, Rewind}
 use Rattle.interface.specs.Slots.{allAre}
 use Rattle.interface.specs.Gaps.{Unmaps}
 use Rattle.pages.specs.Parts.{zeros}
-use Rattle.state.specs.World.{pagesIn, lengthsOk, viewAt}
+use Rattle.state.specs.World.{pagesIn, lengthsOk}
+use Rattle.machine.specs.Step.{viewAt}
 use Rattle.state.specs.Sound.{Sound}
 use Rattle.layout.specs.Rows.{Bytes}
 use Rattle.layout.specs.Layout.{stateSize, isState}

@@ -1,3 +1,4 @@
+-- The backing of a map: none of the image, or image pages that the image has.
 use borrow.Author.Tests.{eq-eqb, ne-eqb}
 use borrow.Author.Needs.{needs}
 use Rattle.limits.proofs.backing_ok.Statement.{statement}

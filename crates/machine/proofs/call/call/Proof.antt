@@ -12,7 +12,7 @@ use Rattle.interface.specs.declared.answer.Refusal.the-variants.{NoSuchCall, Un
 use Rattle.interface.specs.Requests.{isCall}
 use Rattle.interface.specs.Refusals.{View, refusal}
 use Rattle.state.specs.declared.sandbox.Sandbox.{Sandbox}
-use Rattle.state.specs.World.{World, worldOf, sandboxAt, sharesOf, viewAt, closedSandbox}
+use Rattle.state.specs.World.{World, worldOf, sandboxAt, sharesOf, closedSandbox}
 use Rattle.state.proofs.TestLaws.{Tested, tested}
 use Rattle.state.specs.Test.{soundb}
 use Rattle.state.proofs.SharesLaws.{zeroSandbox}
@@ -22,7 +22,7 @@ use Rattle.decision.specs.declared.Decision.{Decision}
 use Rattle.rules.specs.After.{presentAfter}
 use Rattle.rules.specs.Ready.{viewFrom}
 use Rattle.decision.specs.Decision.{verdictNumber, Decided}
-use Rattle.machine.specs.Step.{numberAt}
+use Rattle.machine.specs.Step.{viewAt, numberAt}
 use Rattle.machine.proofs.CallLaws.{stepped-refused, number-two, number-three, number-four, number-rest, stepped, ready, asked}
 use borrow.Author.Needs.{needs}
 use Rattle.machine.proofs.call.call.Statement.{statement}

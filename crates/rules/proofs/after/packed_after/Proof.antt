@@ -11,15 +11,16 @@ use Rattle.rules.proofs.after.packed_after.Tie as tie
 
 -- the present areas are well formed
 present-formed : (s : tie.Start) → Formed (s .args .b .present)
-present-formed s = settled (s .args .images) (s .args .b .present) (s .pre .0 .present) (s .pre .0 .few)
+present-formed s = settled (s .pre .0 .0) (s .args .b .present) (s .pre .0 .1 .present) (s .pre .0 .1 .few)
 
 first-of-requires : tie.Need-first-of-requires
 first-of-requires c κs =
     let start = c .before .before in
-    (near (start .args .images) (start .args .b .present) (start .pre .0 .present) (start .pre .0 .few), (c .if1 .taken, start .pre .1))
+    let r = start .pre .0 in
+    (near (r .0) (start .args .b .present) (r .1 .present) (r .1 .few), (c .match .keys1, start .pre .1))
 
 cast-repack : tie.Need-cast-repack
-cast-repack c = omega (arith, c .before .before .before .before .pre .1 .place (c .before .before .if1 .taken) .1)
+cast-repack c = omega (arith, c .before .before .before .before .pre .1 .place (c .before .before .match .keys1) .1)
 
 new-page-requires : tie.Need-new-page-requires
 new-page-requires c κs = search needs
@@ -27,81 +28,74 @@ new-page-requires c κs = search needs
 repack-requires : tie.Need-repack-requires
 repack-requires c κs =
     let start = c .before .before .before .before .before in
-    let small = start-small (start .args .q) (start .pre .1) (c .before .before .before .if1 .taken) in
+    let small = start-small (start .args .q) (start .pre .1) (c .before .before .before .match .keys1) in
     (present-formed start, rw (c .new-page .ensures) small)
+
+cast-t13 : tie.Need-cast-t13
+cast-t13 c = omega (arith, c .before .before .before .pre .1 .unmapped (c .before .match .keys2))
+
+cast-repack-2 : tie.Need-cast-repack-2
+cast-repack-2 c = omega (arith, c .before .before .before .before .pre .1 .unmapped (c .before .before .match .keys2))
+
+repack-requires-2 : tie.Need-repack-requires-2
+repack-requires-2 c κs = (present-formed (c .before .before .before .before), omega arith)
+
+cast-t17 : tie.Need-cast-t17
+cast-t17 c = omega (arith, c .before .before .before .pre .1 .protected (c .before .match .keys3) .1)
+
+cast-t17-2 : tie.Need-cast-t17-2
+cast-t17-2 c = omega (arith, c .before .before .before .before .pre .1 .protected (c .before .before .match .keys3) .0)
+
+cast-repack-3 : tie.Need-cast-repack-3
+cast-repack-3 c = omega (arith, c .before .before .before .before .before .pre .1 .protected (c .before .before .before .match .keys3) .0)
+
+repack-requires-3 : tie.Need-repack-requires-3
+repack-requires-3 c κs = (present-formed (c .before .before .before .before .before), omega arith)
+
+repack-requires-4 : tie.Need-repack-requires-4
+repack-requires-4 c κs = (present-formed (c .before .before), omega arith)
+
+whole-requires : tie.Need-whole-requires
+whole-requires c κs = search needs
+
+whole-requires-2 : tie.Need-whole-requires-2
+whole-requires-2 c κs = search needs
 
 returns : tie.Need-returns
 returns c =
-    let start = c .before .before .before .before .before .before in
     let page = c .before .new-page in
     let placing = c .before .before .before in
     let first = placing .first-of in
-    packed-map (start .args .q) (start .args .b) (c .repack .result) (placing .before .if1 .taken) (first .result) (page .result)
+    let start = placing .before .before .before in
+    packed-map (start .args .q) (start .args .b) (c .repack .result) (placing .before .match .keys1) (first .result) (page .result)
     (first .ensures) (page .ensures) (c .repack .ensures)
-
-cast-t13 : tie.Need-cast-t13
-cast-t13 c = omega (arith, c .before .before .before .before .pre .1 .unmapped (c .before .if2 .taken))
-
-cast-repack-2 : tie.Need-cast-repack-2
-cast-repack-2 c =
-    let start = c .before .before .before .before .before in
-    omega (arith, start .pre .1 .unmapped (c .before .before .if2 .taken))
-
-repack-requires-2 : tie.Need-repack-requires-2
-repack-requires-2 c κs =
-    let start = c .before .before .before .before .before in
-    (present-formed start, omega arith)
 
 returns-2 : tie.Need-returns-2
 returns-2 c =
-    let start = c .before .before .before .before .before .before in
-    packed-unmap (start .args .q) (start .args .b) (c .repack2 .result) (c .before .before .before .if2 .taken) (c .repack2 .ensures)
-
-cast-t17 : tie.Need-cast-t17
-cast-t17 c = omega (arith, c .before .before .before .before .before .pre .1 .protected (c .before .if3 .taken) .0)
-
-cast-repack-3 : tie.Need-cast-repack-3
-cast-repack-3 c =
-    let start = c .before .before .before .before .before .before in
-    omega (arith, start .pre .1 .protected (c .before .before .if3 .taken) .0)
-
-cast-t20 : tie.Need-cast-t20
-cast-t20 c =
-    let start = c .before .before .before .before .before .before .before in
-    omega (arith, start .pre .1 .protected (c .before .before .before .if3 .taken) .1)
-
-repack-requires-3 : tie.Need-repack-requires-3
-repack-requires-3 c κs =
-    let start = c .before .before .before .before .before .before .before in
-    (present-formed start, omega arith)
+    let start = c .before .before .before .before .before in
+    packed-unmap (start .args .q) (start .args .b) (c .repack2 .result) (c .before .before .before .match .keys2) (c .repack2 .ensures)
 
 returns-3 : tie.Need-returns-3
 returns-3 c =
-    let start = c .before .before .before .before .before .before .before .before in
-    packed-protect (start .args .q) (start .args .b) (c .repack3 .result) (c .before .before .before .before .if3 .taken) (c .repack3 .ensures)
-
-repack-requires-4 : tie.Need-repack-requires-4
-repack-requires-4 c κs =
-    let start = c .before .before .before .before .before in
-    (present-formed start, omega arith)
+    let start = c .before .before .before .before .before .before in
+    packed-protect (start .args .q) (start .args .b) (c .repack3 .result) (c .before .before .before .before .match .keys3) (c .repack3 .ensures)
 
 returns-4 : tie.Need-returns-4
 returns-4 c =
-    let start = c .before .before .before .before .before .before in
-    packed-snapshot (start .args .q) (start .args .b) (c .repack4 .result) (start .args .images) (start .pre .0 .present)
-    (c .before .if4 .taken) (c .repack4 .ensures)
+    let start = c .before .before .before in
+    let r = start .pre .0 in
+    packed-snapshot (start .args .q) (start .args .b) (c .repack4 .result) (r .0) (r .1 .present) (c .before .match .keys4) (c .repack4 .ensures)
 
 returns-5 : tie.Need-returns-5
 returns-5 c =
-    let start = c .before .before .before .before .before .before .before in
-    packed-rewind (start .args .q) (start .args .b) (c .before .if5 .taken)
+    let start = c .before .before .before .before in
+    rw (c .whole .ensures) (packed-rewind (start .args .q) (start .args .b) (c .before .before .match .keys5))
 
 returns-6 : tie.Need-returns-6
 returns-6 c =
-    let start = c .before .before .before .before .before .before in
-    let third = c .before .before in
-    let second = third .before in
-    packed-none (start .args .q) (start .args .b) (second .before .if1 .left) (second .if2 .left) (third .if3 .left) (c .before .if4 .left) (c .if5 .left)
+    let start = c .before .before .before in
+    let no = c .before .match .rest in
+    rw (c .whole2 .ensures) (packed-none (start .args .q) (start .args .b) (no .0 .0 .0 .0 .1) (no .0 .0 .0 .1) (no .0 .0 .1) (no .0 .1) (no .1))
 
 pub packed-after-spec : {M : Type 1} → statement M
 packed-after-spec =
@@ -111,17 +105,19 @@ packed-after-spec =
     cast-repack
     new-page-requires
     repack-requires
-    returns
     cast-t13
     cast-repack-2
     repack-requires-2
-    returns-2
     cast-t17
+    cast-t17-2
     cast-repack-3
-    cast-t20
     repack-requires-3
-    returns-3
     repack-requires-4
+    whole-requires
+    whole-requires-2
+    returns
+    returns-2
+    returns-3
     returns-4
     returns-5
     returns-6)

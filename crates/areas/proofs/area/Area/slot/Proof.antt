@@ -1,6 +1,6 @@
 use mathlib.Core.Path.{_∙_, ap}
 use native.Mathlib.Omega.{arith}
-use Rattle.areas.specs.Areas.{startOf}
+use Rattle.interface.specs.Slots.{startOf}
 use Rattle.areas.proofs.area.Area.slot.Statement.{statement}
 use Rattle.areas.proofs.area.Area.slot.Tie as tie
 

@@ -1,0 +1,317 @@
+-- The rows from 5 on: each test is its row of the table, so that behind it the row does not apply, and before its refusal it is the first that does.
+use mathlib.Core.Path.{_≡_, refl, sym, ap, _∙_}
+use mathlib.Core.Bool.{Bool, true, false, not}
+use borrow.Author.Tests.{not-true, not-false}
+use Rattle.interface.specs.declared.answer.Refusal.{Refusal}
+use Rattle.interface.specs.declared.answer.Refusal.the-variants.{AlreadyOpen, OutsideLimits, SnapshotTaken, NoSnapshot, NotMapped}
+use Rattle.interface.specs.declared.answer.Refusal.the-variants.{AlreadyMapped, NoGap, NotWritable, ShareExceeded, TooManyAreas, OutputTooShort}
+use Rattle.interface.specs.declared.request.Request.{Request}
+use Rattle.interface.specs.Limits.{within}
+use Rattle.interface.specs.Refusals.{View, applies}
+use Rattle.interface.specs.Settled.{Settled}
+use Rattle.areas.specs.Areas.{Near}
+use Rattle.areas.proofs.FormedLaws.{near}
+use Rattle.state.specs.World.{viewFrom}
+use Rattle.rules.specs.Ready.{Ready, Fit, Passed}
+use Rattle.decision.proofs.DecideLaws.{Behind, sound-call, fit-of, passed-of, limits-row, refused, accepted, packed-row}
+use borrow.Author.Needs.{needs}
+use Rattle.decision.proofs.decide_further.Statement.{statement}
+use Rattle.decision.proofs.decide_further.Tie as tie
+
+-- ---- what is handed in
+
+abbrev view : tie.Start → View
+view s = viewFrom true (s .args .frames) (s .args .images) (s .args .shares) (s .args .b)
+
+abbrev request : tie.Start → Request
+request s = s .args .q
+
+ready : (s : tie.Start) → Ready (s .args .images) (s .args .b)
+ready s = s .pre .1 .1 .0
+
+settled : (s : tie.Start) → Settled (view s)
+settled s = s .pre .1 .1 .1
+
+-- no row before this one applies
+abbrev Past : Refusal → tie.Start → Type 0
+Past row s = Behind (view s) (request s) row
+
+-- this row applies, or not
+abbrev Row : Refusal → tie.Start → Bool
+Row row s = applies (view s) (request s) row
+
+past4 : (s : tie.Start) → Past AlreadyOpen s
+past4 s = (s .pre .1 .0, sound-call (view s) (request s) refl (s .pre .0))
+
+-- the present areas can be looked at where the request fits
+to-look-at : (s : tie.Start) → Past SnapshotTaken s → Near (s .args .b .present .list) × Fit (request s)
+to-look-at s p =
+    (near (s .args .images) (s .args .b .present) (ready s .present) (ready s .few), fit-of (view s) (request s) (ready s .few) p)
+
+passed : (s : tie.Start) → Past NotWritable s → Passed (view s) (request s)
+passed s p = passed-of (view s) (request s) (ready s .few) p
+
+-- ---- what each test says of its row: the state at the test, the rows passed, the row's outcome
+
+abbrev at5 : tie.After-already-open → tie.Start
+at5 c = c .before .before
+
+row5 : (c : tie.After-already-open) → c .already-open .result ≡ Row AlreadyOpen (at5 c)
+row5 c = c .already-open .ensures (view (at5 c)) refl
+
+past5 : (c : tie.Else1) → Past OutsideLimits (at5 (c .before))
+past5 c = (sym (row5 (c .before)) ∙ c .if1 .left, past4 (at5 (c .before)))
+
+abbrev at6 : tie.After-within-limits → tie.Start
+at6 c = at5 (c .before .before)
+
+row6 : (c : tie.After-within-limits) → not (c .within-limits .result) ≡ Row OutsideLimits (at6 c)
+row6 c = ap not (c .within-limits .ensures) ∙ limits-row (view (at6 c)) (request (at6 c))
+
+past6 : (c : tie.Else2) → Past SnapshotTaken (at6 (c .before))
+past6 c = (sym (row6 (c .before)) ∙ c .if2 .left, past5 (c .before .before))
+
+abbrev at7 : tie.After-snapshot-taken → tie.Start
+at7 c = at6 (c .before .before)
+
+row7 : (c : tie.After-snapshot-taken) → c .snapshot-taken .result ≡ Row SnapshotTaken (at7 c)
+row7 c = c .snapshot-taken .ensures (view (at7 c)) refl
+
+past7 : (c : tie.Else3) → Past NoSnapshot (at7 (c .before))
+past7 c = (sym (row7 (c .before)) ∙ c .if3 .left, past6 (c .before .before))
+
+abbrev at8 : tie.After-no-snapshot → tie.Start
+at8 c = at7 (c .before .before)
+
+row8 : (c : tie.After-no-snapshot) → c .no-snapshot .result ≡ Row NoSnapshot (at8 c)
+row8 c = c .no-snapshot .ensures (view (at8 c)) refl
+
+past8 : (c : tie.Else4) → Past NotMapped (at8 (c .before))
+past8 c = (sym (row8 (c .before)) ∙ c .if4 .left, past7 (c .before .before))
+
+abbrev at9 : tie.After-not-mapped → tie.Start
+at9 c = at8 (c .before .before)
+
+row9 : (c : tie.After-not-mapped) → c .not-mapped .result ≡ Row NotMapped (at9 c)
+row9 c = c .not-mapped .ensures (view (at9 c)) refl
+
+past9 : (c : tie.Else5) → Past AlreadyMapped (at9 (c .before))
+past9 c = (sym (row9 (c .before)) ∙ c .if5 .left, past8 (c .before .before))
+
+abbrev at10 : tie.After-already-mapped → tie.Start
+at10 c = at9 (c .before .before)
+
+row10 : (c : tie.After-already-mapped) → c .already-mapped .result ≡ Row AlreadyMapped (at10 c)
+row10 c = c .already-mapped .ensures (view (at10 c)) refl
+
+past10 : (c : tie.Else6) → Past NoGap (at10 (c .before))
+past10 c = (sym (row10 (c .before)) ∙ c .if6 .left, past9 (c .before .before))
+
+abbrev at11 : tie.After-no-gap → tie.Start
+at11 c = at10 (c .before .before)
+
+row11 : (c : tie.After-no-gap) → c .no-gap .result ≡ Row NoGap (at11 c)
+row11 c = c .no-gap .ensures (view (at11 c)) refl
+
+past11 : (c : tie.Else7) → Past NotWritable (at11 (c .before))
+past11 c = (sym (row11 (c .before)) ∙ c .if7 .left, past10 (c .before .before))
+
+abbrev at12 : tie.After-not-writable → tie.Start
+at12 c = at11 (c .before .before)
+
+row12 : (c : tie.After-not-writable) → c .not-writable .result ≡ Row NotWritable (at12 c)
+row12 c = c .not-writable .ensures (view (at12 c)) refl
+
+past12 : (c : tie.Else8) → Past ShareExceeded (at12 (c .before))
+past12 c = (sym (row12 (c .before)) ∙ c .if8 .left, past11 (c .before .before))
+
+abbrev at13 : tie.After-share-exceeded → tie.Start
+at13 c = at12 (c .before .before)
+
+row13 : (c : tie.After-share-exceeded) → c .share-exceeded .result ≡ Row ShareExceeded (at13 c)
+row13 c = c .share-exceeded .ensures (at13 c .args .images) (settled (at13 c)) (passed (at13 c) (past12 (c .before) .1))
+
+past13 : (c : tie.Else9) → Past TooManyAreas (at13 (c .before))
+past13 c = (sym (row13 (c .before)) ∙ c .if9 .left, past12 (c .before .before))
+
+abbrev at14 : tie.After-packed-after → tie.Start
+at14 c = at13 (c .before .before)
+
+row14 : (c : tie.After-packed-after) → Row TooManyAreas (at14 c) ≡ not (c .packed-after .result .fits)
+row14 c =
+    let s = at14 c in
+    packed-row (s .args .frames) (s .args .images) (s .args .shares) (s .args .b) (request s) (settled s) (c .packed-after .result) (c .packed-after .ensures)
+
+-- ---- the needs
+
+already-open-requires : tie.Need-already-open-requires
+already-open-requires c κs = search needs
+
+refuse-requires : tie.Need-refuse-requires
+refuse-requires c κs = search needs
+
+returns : tie.Need-returns
+returns c =
+    let s = at5 (c .before .before) in
+    refused (view s) (request s) (s .args .b) AlreadyOpen (c .refuse .result) (c .refuse .ensures)
+    (past4 s) (sym (row5 (c .before .before)) ∙ c .before .if1 .taken)
+
+within-limits-requires : tie.Need-within-limits-requires
+within-limits-requires c κs = search needs
+
+refuse-requires-2 : tie.Need-refuse-requires-2
+refuse-requires-2 c κs = search needs
+
+returns-2 : tie.Need-returns-2
+returns-2 c =
+    let test = c .before .before in
+    let s = at6 test in
+    refused (view s) (request s) (s .args .b) OutsideLimits (c .refuse2 .result) (c .refuse2 .ensures)
+    (past5 (test .before)) (sym (row6 test) ∙ c .before .if2 .taken)
+
+snapshot-taken-requires : tie.Need-snapshot-taken-requires
+snapshot-taken-requires c κs = search needs
+
+refuse-requires-3 : tie.Need-refuse-requires-3
+refuse-requires-3 c κs = search needs
+
+returns-3 : tie.Need-returns-3
+returns-3 c =
+    let test = c .before .before in
+    let s = at7 test in
+    refused (view s) (request s) (s .args .b) SnapshotTaken (c .refuse3 .result) (c .refuse3 .ensures)
+    (past6 (test .before)) (sym (row7 test) ∙ c .before .if3 .taken)
+
+no-snapshot-requires : tie.Need-no-snapshot-requires
+no-snapshot-requires c κs = search needs
+
+refuse-requires-4 : tie.Need-refuse-requires-4
+refuse-requires-4 c κs = search needs
+
+returns-4 : tie.Need-returns-4
+returns-4 c =
+    let test = c .before .before in
+    let s = at8 test in
+    refused (view s) (request s) (s .args .b) NoSnapshot (c .refuse4 .result) (c .refuse4 .ensures)
+    (past7 (test .before)) (sym (row8 test) ∙ c .before .if4 .taken)
+
+not-mapped-requires : tie.Need-not-mapped-requires
+not-mapped-requires c κs = to-look-at (at8 (c .before)) (past8 c .1 .1)
+
+refuse-requires-5 : tie.Need-refuse-requires-5
+refuse-requires-5 c κs = search needs
+
+returns-5 : tie.Need-returns-5
+returns-5 c =
+    let test = c .before .before in
+    let s = at9 test in
+    refused (view s) (request s) (s .args .b) NotMapped (c .refuse5 .result) (c .refuse5 .ensures)
+    (past8 (test .before)) (sym (row9 test) ∙ c .before .if5 .taken)
+
+already-mapped-requires : tie.Need-already-mapped-requires
+already-mapped-requires c κs = to-look-at (at9 (c .before)) (past9 c .1 .1 .1)
+
+refuse-requires-6 : tie.Need-refuse-requires-6
+refuse-requires-6 c κs = search needs
+
+returns-6 : tie.Need-returns-6
+returns-6 c =
+    let test = c .before .before in
+    let s = at10 test in
+    refused (view s) (request s) (s .args .b) AlreadyMapped (c .refuse6 .result) (c .refuse6 .ensures)
+    (past9 (test .before)) (sym (row10 test) ∙ c .before .if6 .taken)
+
+no-gap-requires : tie.Need-no-gap-requires
+no-gap-requires c κs = to-look-at (at10 (c .before)) (past10 c .1 .1 .1 .1)
+
+refuse-requires-7 : tie.Need-refuse-requires-7
+refuse-requires-7 c κs = search needs
+
+returns-7 : tie.Need-returns-7
+returns-7 c =
+    let test = c .before .before in
+    let s = at11 test in
+    refused (view s) (request s) (s .args .b) NoGap (c .refuse7 .result) (c .refuse7 .ensures)
+    (past10 (test .before)) (sym (row11 test) ∙ c .before .if7 .taken)
+
+not-writable-requires : tie.Need-not-writable-requires
+not-writable-requires c κs = to-look-at (at11 (c .before)) (past11 c .1 .1 .1 .1 .1)
+
+refuse-requires-8 : tie.Need-refuse-requires-8
+refuse-requires-8 c κs = search needs
+
+returns-8 : tie.Need-returns-8
+returns-8 c =
+    let test = c .before .before in
+    let s = at12 test in
+    refused (view s) (request s) (s .args .b) NotWritable (c .refuse8 .result) (c .refuse8 .ensures)
+    (past11 (test .before)) (sym (row12 test) ∙ c .before .if8 .taken)
+
+share-exceeded-requires : tie.Need-share-exceeded-requires
+share-exceeded-requires c κs = let s = at12 (c .before) in (s .args .images, ready s)
+
+refuse-requires-9 : tie.Need-refuse-requires-9
+refuse-requires-9 c κs = search needs
+
+returns-9 : tie.Need-returns-9
+returns-9 c =
+    let test = c .before .before in
+    let s = at13 test in
+    refused (view s) (request s) (s .args .b) ShareExceeded (c .refuse9 .result) (c .refuse9 .ensures)
+    (past12 (test .before)) (sym (row13 test) ∙ c .before .if9 .taken)
+
+packed-after-requires : tie.Need-packed-after-requires
+packed-after-requires c κs = let s = at13 (c .before) in ((s .args .images, ready s), passed s (past13 c .1 .1) .fit)
+
+refuse-requires-10 : tie.Need-refuse-requires-10
+refuse-requires-10 c κs = search needs
+
+returns-10 : tie.Need-returns-10
+returns-10 c =
+    let test = c .before .before .before in
+    let s = at14 test in
+    refused (view s) (request s) (s .args .b) TooManyAreas (c .refuse10 .result) (c .refuse10 .ensures)
+    (past13 (test .before)) (row14 test ∙ c .before .if10 .taken)
+
+returns-11 : tie.Need-returns-11
+returns-11 c =
+    let test = c .before .before .before in
+    let s = at14 test in
+    accepted (view s) (request s) (s .args .b) (test .packed-after .result) (test .packed-after .ensures)
+    (row14 test ∙ c .before .if10 .left, past13 (test .before))
+
+pub decide-further-spec : {M : Type 1} → statement M
+decide-further-spec =
+    tie.close
+    (tie.spec
+    already-open-requires
+    refuse-requires
+    returns
+    within-limits-requires
+    refuse-requires-2
+    returns-2
+    snapshot-taken-requires
+    refuse-requires-3
+    returns-3
+    no-snapshot-requires
+    refuse-requires-4
+    returns-4
+    not-mapped-requires
+    refuse-requires-5
+    returns-5
+    already-mapped-requires
+    refuse-requires-6
+    returns-6
+    no-gap-requires
+    refuse-requires-7
+    returns-7
+    not-writable-requires
+    refuse-requires-8
+    returns-8
+    share-exceeded-requires
+    refuse-requires-9
+    returns-9
+    packed-after-requires
+    refuse-requires-10
+    returns-10
+    returns-11)
