@@ -6,23 +6,22 @@ use mathlib.Core.Bool.{true, false, false≢true}
 use mathlib.Core.List.{List}
 use lib.Dec.{eqb}
 use lib.ListN.{length, set}
-use borrow.Author.Tests.{lt-ltb, eq-eqb}
+use borrow.Author.Tests.{eq-eqb}
 use Rattle.basics.proofs.TestLaws.{and-left, and-right, and-of}
 use Rattle.interface.specs.declared.answer.Refusal.{Refusal}
-use Rattle.interface.specs.declared.answer.Refusal.the-variants.{Malformed, NoSuchCall, Unsound, NotOpen, AlreadyOpen, OutsideLimits, SnapshotTaken}
-use Rattle.interface.specs.declared.answer.Refusal.the-variants.{NoSnapshot, NotMapped, AlreadyMapped, NoGap, NotWritable, ShareExceeded, TooManyAreas}
-use Rattle.interface.specs.declared.answer.Refusal.the-variants.{OutputTooShort}
+use Rattle.interface.specs.declared.answer.Refusal.the-variants.{NoSuchCall, Unsound}
 use Rattle.interface.specs.declared.request.Request.{Request}
 use Rattle.interface.specs.Answers.{refusalNumber}
 use Rattle.interface.specs.Requests.{Write, isCall, pageOf}
 use Rattle.interface.specs.Slots.{isMapped}
 use Rattle.interface.specs.Refusals.{allMapped, applies, refusal}
+use Rattle.interface.proofs.TableLaws.{some-number, lowest-applies}
 use Rattle.interface.proofs.AcceptedLaws.{accepted, map-fits}
 use Rattle.table.specs.Store.{Store}
 use Rattle.runs.specs.declared.Runs.{Runs}
 use Rattle.areas.specs.Areas.{slots}
 use Rattle.state.specs.declared.sandbox.Sandbox.{Sandbox}
-use Rattle.state.specs.World.{World, sandboxAt, withRuns, framesOf, pagesIn}
+use Rattle.state.specs.World.{World, sandboxAt, sharesOf, withRuns, framesOf, pagesIn, viewFrom}
 use Rattle.state.specs.Test.{soundb}
 use Rattle.state.proofs.TestLaws.{Tested}
 use Rattle.state.proofs.Room.{room-left, frame-there}
@@ -33,24 +32,6 @@ use Rattle.memory.specs.Memory.{valueAt}
 use Rattle.machine.specs.Step.{viewAt, Outcome, Stepped, numberAt, takes, gives, step}
 use Rattle.memory.specs.Parts.{Asked, StoreStepped}
 use Rattle.machine.specs.Parts.{Performed}
-
--- no refusal has the number 0
-pub some-number : (why : Refusal) → eqb (refusalNumber why) 0 ≡ false
-some-number Malformed = refl
-some-number NoSuchCall = refl
-some-number Unsound = refl
-some-number NotOpen = refl
-some-number AlreadyOpen = refl
-some-number OutsideLimits = refl
-some-number SnapshotTaken = refl
-some-number NoSnapshot = refl
-some-number NotMapped = refl
-some-number AlreadyMapped = refl
-some-number NoGap = refl
-some-number NotWritable = refl
-some-number ShareExceeded = refl
-some-number TooManyAreas = refl
-some-number OutputTooShort = refl
 
 module _ (image : List ℕ) (w : World) (q : Request) where
   -- a refused call
@@ -69,21 +50,20 @@ module _ (image : List ℕ) (w : World) (q : Request) where
         equals = rw (no, e);
       }
 
-  pub number-two : isCall q ≡ false → 2 ≡ numberAt image w q
-  unfolding numberAt
-  number-two e = rw e
+  -- rows 2 and 3, the first that apply
+  pub number-two : isCall q ≡ false → refusalNumber NoSuchCall ≡ numberAt image w q
+  unfolding numberAt refusal applies
+  number-two e = sym (lowest-applies (applies (viewAt image w (q .sandbox)) q) NoSuchCall (refl, tt) (rw e))
 
-  pub number-three : isCall q ≡ true → soundb image w ≡ false → 3 ≡ numberAt image w q
-  unfolding numberAt
-  number-three e s = rw (e, s)
+  pub number-three : isCall q ≡ true → soundb image w ≡ false → refusalNumber Unsound ≡ numberAt image w q
+  unfolding numberAt refusal applies
+  number-three e s = sym (lowest-applies (applies (viewAt image w (q .sandbox)) q) Unsound (rw e, (refl, tt)) (rw s))
 
-  pub number-four : isCall q ≡ true → soundb image w ≡ true → 3 < q .sandbox → 4 ≡ numberAt image w q
-  unfolding numberAt applies refusal
-  number-four e s h = rw (e, s, lt-ltb 3 (q .sandbox) h)
-
-  pub number-rest : isCall q ≡ true → soundb image w ≡ true → refusal (viewAt image w (q .sandbox)) q ≡ numberAt image w q
+  -- the view of a sound state
+  pub number-rest : soundb image w ≡ true
+      → refusal (viewFrom true (framesOf w) (pagesIn (length image)) (sharesOf w) (sandboxAt w (q .sandbox))) q ≡ numberAt image w q
   unfolding numberAt
-  number-rest e s = rw (e, s)
+  number-rest s = rw s
 
   -- an accepted call
   pub stepped : (o : Outcome) → numberAt image w q ≡ 0 → Performed image w q o → Stepped image w q o
@@ -124,18 +104,20 @@ module _ (image : List ℕ) (w : World) (q : Request) where
       closed = λ e. ap (λ (b : Sandbox). b .share) (S .each (q .sandbox) row .closed e);
     }
 
+  module _ (S : Tested image w) where
     -- what an accepted call's parts ask
-    pub asked : refusal (viewAt image w (q .sandbox)) q ≡ 0 → Asked image (framesOf w) (pagesIn (length image)) q w
-    unfolding allMapped
+    pub asked : numberAt image w q ≡ 0 → Asked image (framesOf w) (pagesIn (length image)) q w
+    unfolding allMapped numberAt
     asked n =
         let a = accepted (viewAt image w (q .sandbox)) q n in
+        let row = a .inRow in
         let within-limits = fit (pagesIn (length image)) q (S .images) (a .inLimits) in
         let small : q .code ≡ Write → pageOf q < 64 = λ e. page-small (q .p1) (within-limits .written e .0) in
         let there : q .code ≡ Write → isMapped (slots (sandboxAt w (q .sandbox) .present) (pageOf q)) ≡ true = λ e. rw e at (a .mapped) in
         record {
           row = row;
           fit = within-limits;
-          ready = ready;
+          ready = ready S row;
           whole = S .whole;
           filed = S .filed;
           spare = S .spare;

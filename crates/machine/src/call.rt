@@ -14,11 +14,11 @@ use effects::store::store_after;
 use effects::value::value_of;
 use interface::answer::Answer;
 use interface::answer::Refusal;
+use interface::page::PageNo;
 use interface::request::Request;
 use rules::after::sandbox_after;
 use soundness::sound::sound;
 use state::sandbox::Machine;
-use totals::shares;
 
 // A state, and what the call answers.
 pub struct Reply {
@@ -37,15 +37,10 @@ pub fn call(machine: Machine, pool: &mut [u8], table: &mut [u16], image: &[u8], 
     if !sound(machine, pool, table, image) {
         return refuse(machine, Refusal::Unsound);
     }
-    if 3 < q.sandbox {
-        return refuse(machine, Refusal::NotOpen);
-    }
-    let frames = (pool.len() / 256) as u8;
-    let images = (image.len() / 256) as u8;
+    let frames = (pool.len() / PageNo::BYTES) as u8;
+    let images = (image.len() / PageNo::BYTES) as u8;
     let sandboxes = machine.sandboxes;
-    let k = q.sandbox as usize;
-    let b = sandboxes[k];
-    let decision = decide(b, frames, images, shares(sandboxes), q);
+    let decision = decide(sandboxes, frames, images, q);
     let verdict = decision.verdict;
     let areas = decision.areas;
     match verdict {

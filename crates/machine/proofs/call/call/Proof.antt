@@ -12,7 +12,7 @@ use Rattle.interface.specs.declared.answer.Refusal.the-variants.{NoSuchCall, Un
 use Rattle.interface.specs.Requests.{isCall}
 use Rattle.interface.specs.Refusals.{View, refusal}
 use Rattle.state.specs.declared.sandbox.Sandbox.{Sandbox}
-use Rattle.state.specs.World.{World, worldOf, sandboxAt, sharesOf, closedSandbox}
+use Rattle.state.specs.World.{World, worldOf, sandboxAt, pagesIn}
 use Rattle.state.proofs.TestLaws.{Tested, tested}
 use Rattle.state.specs.Test.{soundb}
 use Rattle.state.proofs.SharesLaws.{zeroSandbox}
@@ -20,10 +20,9 @@ use Rattle.state.proofs.SettledLaws.{settled-at}
 use Rattle.decision.specs.declared.Verdict.the-variants.{Accepted}
 use Rattle.decision.specs.declared.Decision.{Decision}
 use Rattle.rules.specs.After.{presentAfter}
-use Rattle.rules.specs.Ready.{viewFrom}
 use Rattle.decision.specs.Decision.{verdictNumber, Decided}
 use Rattle.machine.specs.Step.{viewAt, numberAt}
-use Rattle.machine.proofs.CallLaws.{stepped-refused, number-two, number-three, number-four, number-rest, stepped, ready, asked}
+use Rattle.machine.proofs.CallLaws.{stepped-refused, number-two, number-three, number-rest, stepped, ready, asked}
 use borrow.Author.Needs.{needs}
 use Rattle.machine.proofs.call.call.Statement.{statement}
 use Rattle.machine.proofs.call.call.Tie as tie
@@ -38,17 +37,6 @@ worldIn c = worldOf (c .args .machine) (c .args .pool .now) (c .args .table .now
 
 abbrev viewIn : tie.Start → View
 viewIn c = viewAt (imageIn c) (worldIn c) (c .args .q .sandbox)
-
--- the sandbox as the code reads it
-abbrev sandboxIn : tie.Start → Sandbox
-sandboxIn c = getD (c .args .machine .sandboxes) (c .args .q .sandbox) zeroSandbox
-
-four : (c : tie.Start) → length (c .args .machine .sandboxes) ≡ 4
-four c = search length-mapped
-
--- is that of the world
-same-sandbox : (c : tie.Start) → c .args .q .sandbox < 4 → sandboxIn c ≡ getD (c .args .machine .sandboxes) (c .args .q .sandbox) closedSandbox
-same-sandbox c row = let l = four c in getD-any (c .args .machine .sandboxes) (c .args .q .sandbox) zeroSandbox closedSandbox (omega arith)
 
 -- ---- what is known behind each test
 
@@ -73,30 +61,25 @@ passes c = sym (c .before .sound .ensures) ∙ not-false (c .before .sound .resu
 is-sound : (c : tie.Else2) → Tested (imageIn (behindState c)) (worldIn (behindState c))
 is-sound c = tested (imageIn (behindState c)) (worldIn (behindState c)) (passes c)
 
-abbrev behindRow : tie.Else3 → tie.Start
-behindRow c = behindState (c .before .before)
+abbrev atVerdict : tie.After-decide → tie.Else2
+atVerdict c = c .before .before
 
-in-row : (c : tie.Else3) → behindRow c .args .q .sandbox < 4
-in-row c = omega (arith, c .if3 .left)
+number-here : (c : tie.After-decide)
+    → let s = behindState (atVerdict c) in verdictNumber (c .decide .result .verdict) ≡ numberAt (imageIn s) (worldIn s) (s .args .q)
+number-here c =
+    let s = behindState (atVerdict c) in
+    c .decide .ensures .number ∙ number-rest (imageIn s) (worldIn s) (s .args .q) (passes (atVerdict c))
 
-decided-by : (c : tie.Else3) → let start = behindRow c in refusal (viewIn start) (start .args .q) ≡ numberAt (imageIn start) (worldIn start) (start .args .q)
-decided-by c =
-    let start = behindRow c in
-    let tested = c .before .before in
-    number-rest (imageIn start) (worldIn start) (start .args .q) (a-call (tested .before .before .before .before)) (passes tested)
+-- the number of an accepted request is 0, and its areas are those that result
+accepted-here : (c : tie.After-decide) → c .decide .result .verdict ≡ Accepted
+    → let s = behindState (atVerdict c) in numberAt (imageIn s) (worldIn s) (s .args .q) ≡ 0
+accepted-here c e = sym (number-here c) ∙ ap verdictNumber e
 
--- ---- what is decided
-
-module _ (c : tie.Start) (row : c .args .q .sandbox < 4) (shares : ℕ) (all : shares ≡ sharesOf (worldIn c)) (d : Decision)
-    (t : Decided (viewFrom (length (c .args .pool .now) / 256) (length (c .args .image .now) / 256) shares (sandboxIn c)) (c .args .q) (sandboxIn c) d) where
-  number-here : verdictNumber (d .verdict) ≡ refusal (viewIn c) (c .args .q)
-  number-here = t .number ∙ rw (all, same-sandbox c row)
-
-  accepted-here : d .verdict ≡ Accepted → refusal (viewIn c) (c .args .q) ≡ 0
-  accepted-here e = sym number-here ∙ ap verdictNumber e
-
-  areas-here : refusal (viewIn c) (c .args .q) ≡ 0 → d .areas ≡ presentAfter (c .args .q) (sandboxAt (worldIn c) (c .args .q .sandbox))
-  areas-here n = t .areas ∙ rw (all, same-sandbox c row, n)
+areas-here : (c : tie.After-decide) → c .decide .result .verdict ≡ Accepted
+    → let s = behindState (atVerdict c) in c .decide .result .areas ≡ presentAfter (s .args .q) (sandboxAt (worldIn s) (s .args .q .sandbox))
+areas-here c e =
+    let told = c .decide .ensures in
+    told .areas ∙ rw (sym (told .number) ∙ ap verdictNumber e)
 
 -- ---- the needs
 
@@ -133,8 +116,40 @@ returns-2 c =
     (stepped-refused (imageIn start) (worldIn start) (start .args .q) Unsound
     (number-three (imageIn start) (worldIn start) (start .args .q) (a-call coded) (fails (c .before))))
 
+cast-frames : tie.Need-cast-frames
+cast-frames c = omega (arith, is-sound c .filed .few)
+
+cast-images : tie.Need-cast-images
+cast-images c = omega (arith, is-sound c .images)
+
+decide-requires : tie.Need-decide-requires
+decide-requires c κs =
+    let tested = c .before in
+    let start = behindState tested in
+    let w = worldIn start in
+    let s = start .args .q .sandbox in
+    let call = a-call (tested .before .before .before .before) in
+    (call, (
+    (λ row. ready (imageIn start) w (start .args .q) (is-sound tested) row),
+    (λ row. settled-at (pagesIn (length (imageIn start))) (w .store) s (sandboxAt w s) (is-sound tested .each s row) true _ _ _)))
+
+enum-known-verdict : tie.Need-enum-known-verdict
+enum-known-verdict c = search needs
+
 refuse-requires-3 : tie.Need-refuse-requires-3
 refuse-requires-3 c κs = search needs
+
+enum-told : tie.Need-enum-told
+enum-told c = search needs
+
+perform-requires : tie.Need-perform-requires
+perform-requires c κs =
+    let arm = c .before .before in
+    let deciding = arm .before .before .before in
+    let start = behindState (atVerdict deciding) in
+    let told = arm .enum-told .given .1 in
+    let n = accepted-here deciding told in
+    (asked (imageIn start) (worldIn start) (start .args .q) (is-sound (atVerdict deciding)) n, (refl, areas-here deciding told))
 
 same-length-3 : tie.Need-same-length-3
 same-length-3 c = search needs
@@ -144,73 +159,12 @@ same-length-4 c = search needs
 
 returns-3 : tie.Need-returns-3
 returns-3 c =
-    let tested = c .before .before .before in
-    let coded = tested .before .before .before .before in
-    let start = behindCode coded in
+    let arm = c .before .before in
+    let deciding = arm .before .before .before in
+    let start = behindState (atVerdict deciding) in
     rw (c .refuse3 .ensures)
-    (stepped-refused (imageIn start) (worldIn start) (start .args .q) NotOpen
-    (number-four (imageIn start) (worldIn start) (start .args .q) (a-call coded) (passes tested) (c .before .if3 .taken)))
-
-cast-frames : tie.Need-cast-frames
-cast-frames c = omega (arith, is-sound (c .before .before) .filed .few)
-
-cast-images : tie.Need-cast-images
-cast-images c = omega (arith, is-sound (c .before .before) .images)
-
-cast-k : tie.Need-cast-k
-cast-k c = search needs
-
-mul-b : tie.Need-mul-b
-mul-b c = search needs
-
-array-copy-out-b : tie.Need-array-copy-out-b
-array-copy-out-b c = search needs
-
-shares-requires : tie.Need-shares-requires
-shares-requires c κs = search needs
-
-decide-requires : tie.Need-decide-requires
-decide-requires c κs =
-    let inside = c .before .before .before .before in
-    let start = behindRow inside in
-    let s = is-sound (inside .before .before) in
-    let row = in-row inside in
-    let e = same-sandbox start row in
-    let call = a-call (inside .before .before .before .before .before .before) in (
-      call,
-      (
-        inside .if3 .left,
-        (
-          rw e (ready (imageIn start) (worldIn start) (start .args .q) s row),
-          (
-            rw (c .shares .ensures .0, e) (settled-at (imageIn start) (worldIn start) (start .args .q .sandbox) (s .each (start .args .q .sandbox) row)),
-            c .shares .ensures .1,
-          ),
-        ),
-      ),
-    )
-
-enum-known-verdict : tie.Need-enum-known-verdict
-enum-known-verdict c = search needs
-
-refuse-requires-4 : tie.Need-refuse-requires-4
-refuse-requires-4 c κs = search needs
-
-enum-told : tie.Need-enum-told
-enum-told c = search needs
-
-perform-requires : tie.Need-perform-requires
-perform-requires c κs =
-    let deciding = c .before .before .before .before .before in
-    let d = deciding .decide in
-    let all = deciding .before .shares in
-    let inside = deciding .before .before .before .before .before in
-    let start = behindRow inside in
-    let row = in-row inside in
-    let n = accepted-here start row (all .result) (all .ensures .0) (d .result) (d .ensures) (c .before .before .enum-told .given .1) in (
-      asked (imageIn start) (worldIn start) (start .args .q) (is-sound (inside .before .before)) row n,
-      (refl, areas-here start row (all .result) (all .ensures .0) (d .result) (d .ensures) n),
-    )
+    (stepped-refused (imageIn start) (worldIn start) (start .args .q) (arm .verdict .given .0 .0)
+    (ap verdictNumber (sym (arm .verdict .given .1)) ∙ number-here deciding))
 
 same-length-5 : tie.Need-same-length-5
 same-length-5 c = search needs
@@ -220,34 +174,11 @@ same-length-6 c = search needs
 
 returns-4 : tie.Need-returns-4
 returns-4 c =
-    let arm = c .before .before in
-    let deciding = arm .before .before .before in
-    let d = deciding .decide in
-    let all = deciding .before .shares in
-    let inside = deciding .before .before .before .before .before in
-    let start = behindRow inside in
-    let told = number-here start (in-row inside) (all .result) (all .ensures .0) (d .result) (d .ensures) in
-    rw (c .refuse4 .ensures)
-    (stepped-refused (imageIn start) (worldIn start) (start .args .q) (arm .verdict .given .0 .0)
-    (ap verdictNumber (sym (arm .verdict .given .1)) ∙ told ∙ decided-by inside))
-
-same-length-7 : tie.Need-same-length-7
-same-length-7 c = search needs
-
-same-length-8 : tie.Need-same-length-8
-same-length-8 c = search needs
-
-returns-5 : tie.Need-returns-5
-returns-5 c =
     let performing = c .before .before .before .before in
     let arm = performing .before .before .before in
     let deciding = arm .before .before .before in
-    let d = deciding .decide in
-    let all = deciding .before .shares in
-    let inside = deciding .before .before .before .before .before in
-    let start = behindRow inside in
-    let n = accepted-here start (in-row inside) (all .result) (all .ensures .0) (d .result) (d .ensures) (arm .enum-told .given .1) in
-    stepped (imageIn start) (worldIn start) (start .args .q) _ (sym (decided-by inside) ∙ n) (performing .perform .ensures)
+    let start = behindState (atVerdict deciding) in
+    stepped (imageIn start) (worldIn start) (start .args .q) _ (accepted-here deciding (arm .enum-told .given .1)) (performing .perform .ensures)
 
 pub call-spec : {M : Type 1} → statement M
 call-spec =
@@ -261,24 +192,16 @@ call-spec =
     same-length
     same-length-2
     returns-2
+    cast-frames
+    cast-images
+    decide-requires
+    enum-known-verdict
     refuse-requires-3
+    enum-told
+    perform-requires
     same-length-3
     same-length-4
     returns-3
-    cast-frames
-    cast-images
-    cast-k
-    mul-b
-    array-copy-out-b
-    shares-requires
-    decide-requires
-    enum-known-verdict
-    refuse-requires-4
-    enum-told
-    perform-requires
     same-length-5
     same-length-6
-    returns-4
-    same-length-7
-    same-length-8
-    returns-5)
+    returns-4)
