@@ -54,7 +54,7 @@ previous-from b f g (suc i) h = cut-from b f g i (omega arith)
 starts-from : (b : ℕ) (f g : Slots) (i : ℕ) → b < i → startsArea (cut b f g) i ≡ startsArea g i
 starts-from b f g i h = rw (previous-from b f g i h, cut-from b f g i (omega arith))
 
-module _ (g : Given) (s share : ℕ) (row : s ≤ 3) (d : Pages) (h : IsSnapshot (g .image) share d) (bytes : ℕ → ℕ → ℕ) where
+module _ (g : Given) (s share : ℕ) (row : s < 4) (d : Pages) (h : IsSnapshot (g .image) share d) (bytes : ℕ → ℕ → ℕ) where
   abbrev f : Slots
   f = d .slots
 
@@ -112,7 +112,7 @@ module _ (g : Given) (s share : ℕ) (row : s ≤ 3) (d : Pages) (h : IsSnapshot
       protect-accepted : refusal (viewOf g 0 (built share (protectedTo i) bytes)) q ≡ 0
       unfolding copyAfter
       protect-accepted =
-          protect-taken (viewOf g 0 (built share (protectedTo i) bytes)) s row refl i (pagesFrom f i) l (start-some f i l starts)
+          protect-taken (viewOf g 0 (built share (protectedTo i) bytes)) refl s row refl i (pagesFrom f i) l (start-some f i l starts)
           (start-inside f i l starts) protect-mapped
           (rw protect-slots (protected-charge (i + pagesFrom f i)))
           (rw protect-slots (protected-areas (i + pagesFrom f i) (rw (start-next f i l starts) (end-joins (suc i) (omega arith)))))
@@ -165,7 +165,7 @@ module _ (g : Given) (s share : ℕ) (row : s ≤ 3) (d : Pages) (h : IsSnapshot
   snapshot-accepted : refusal (viewOf g 0 (built share (λ i. unmarked (f i)) bytes)) (requestOf Snapshot s 0 0 0 0 0) ≡ 0
   unfolding slotsAfter copyAfter
   snapshot-accepted =
-      snapshot-taken (viewOf g 0 (built share (λ i. unmarked (f i)) bytes)) s row refl refl
+      snapshot-taken (viewOf g 0 (built share (λ i. unmarked (f i)) bytes)) refl s row refl refl
       (omega (arith, h .charged, snapshot-charge (λ i. unmarked (f i)), remade-charge f (λ r. r)))
       (rw snapshot-slots (h .few))
 

@@ -32,14 +32,14 @@ use Rattle.archive.proofs.ProtectLaws.{protectStage, protect-start, pro
 use Rattle.archive.proofs.OrderLaws.{copy-in-order}
 
 -- the first line, from fresh
-module _ (g : Given) (s share : ℕ) (row : s ≤ 3) (least : 1 ≤ share) (most : share ≤ 128) (fits : share ≤ g .frames) where
+module _ (g : Given) (s share : ℕ) (row : s < 4) (least : 1 ≤ share) (most : share ≤ 128) (fits : share ≤ g .frames) where
   abbrev first : Request
   first = requestOf Open s share 0 0 0 0
 
   pub open-accepted : numberAt g fresh first ≡ 0
   unfolding slotsAfter copyAfter chargeOf sum
   open-accepted =
-      open-taken (viewOf g (shares fresh) (fresh s .core)) s row share refl least most (omega arith) (omega (arith, mapped-none)) (omega (arith, areas-none))
+      open-taken (viewOf g (shares fresh) (fresh s .core)) refl s row share refl least most (omega arith) (omega (arith, mapped-none)) (omega (arith, areas-none))
 
   pub open-leaves : after g fresh first s .core ≡ built share (λ i. Unmapped) (λ i j. 0)
   unfolding slotsAfter copyAfter bytesAfter
@@ -47,7 +47,7 @@ module _ (g : Given) (s share : ℕ) (row : s ≤ 3) (least : 1 ≤ share) (most
 
 -- ---- the segments, and the roll as they come in turn
 
-module _ (g : Given) (s share : ℕ) (row : s ≤ 3) (d : Pages) (h : IsSnapshot (g .image) share d) (fits : share ≤ g .frames) where
+module _ (g : Given) (s share : ℕ) (row : s < 4) (d : Pages) (h : IsSnapshot (g .image) share d) (fits : share ≤ g .frames) where
   pub segments-go : Segments g s share d
   unfolding answers answer afterAll
   segments-go = record {

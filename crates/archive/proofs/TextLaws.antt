@@ -68,7 +68,7 @@ image-small : (images : ℕ) (b : Backing) → images ≤ 64 → HasImage images
 image-small images Anonymous h k = omega arith
 image-small images (Image p) h k = omega arith
 
-module _ (s share : ℕ) (d : Pages) (image : List ℕ) (row : s ≤ 3) (h : IsSnapshot image share d) where
+module _ (s share : ℕ) (d : Pages) (image : List ℕ) (row : s < 4) (h : IsSnapshot image share d) where
   module _ (images : length image / 256 ≤ 64) where
     maps-sayable : Sayable (maps s (d .slots))
     unfolding maps

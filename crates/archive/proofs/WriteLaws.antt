@@ -40,7 +40,7 @@ ltb-next : (x a : ℕ) → (x ≡ a → ⊥) → ltb x a ≡ ltb x (suc a)
 ltb-next x a n =
     by-cases (ltb x a) (λ l. l ∙ sym (lt-ltb x (suc a) (omega (arith, ltb-true x a l)))) (λ l. l ∙ sym (le-ltb x (suc a) (omega (arith, n, ltb-false x a l))))
 
-module _ (g : Given) (s share : ℕ) (row : s ≤ 3) (d : Pages) (h : IsSnapshot (g .image) share d) where
+module _ (g : Given) (s share : ℕ) (row : s < 4) (d : Pages) (h : IsSnapshot (g .image) share d) where
   abbrev f : Slots
   f = d .slots
 
@@ -109,7 +109,7 @@ module _ (g : Given) (s share : ℕ) (row : s ≤ 3) (d : Pages) (h : IsSnapshot
       write-accepted : refusal (viewOf g 0 (writeStage a)) q ≡ 0
       unfolding slotsAfter copyAfter chargeOf
       write-accepted =
-          write-taken (viewOf g 0 (writeStage a)) s row refl a (d .bytes (a / 256) (a % 256)) (omega (arith, l)) byte
+          write-taken (viewOf g 0 (writeStage a)) refl s row refl a (d .bytes (a / 256) (a % 256)) (omega (arith, l)) byte
           (rw (mapped-remade (λ r. 3) (f (a / 256))) there)
           (rights-writable (f (a / 256)) there)
           (omega (arith, h .charged, remade-charge f (λ r. 3))) (omega (arith, h .few, remade-areas f (λ r. 3)))

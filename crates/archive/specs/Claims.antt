@@ -6,6 +6,7 @@ use mathlib.Core.List.{List}
 use mathlib.Core.Option.{some}
 use lib.ListN.{length}
 use Rattle.basics.specs.Ranges.{count}
+use Rattle.interface.specs.Numbers.{Sandboxes}
 use Rattle.interface.specs.declared.request.Request.{Request}
 use Rattle.interface.specs.Slots.{isMapped, areas}
 use Rattle.plain.specs.Machine.{Given, Pages, fresh, answers}
@@ -22,7 +23,7 @@ pub record Alike (d e : Pages) : Type 0 where
 -- a snapshot that occurs: sandbox s after some list has this share and this copy
 pub record Occurs (g : Given) (s share : ℕ) (d : Pages) : Type 0 where
   pub list : List Request
-  pub row : s ≤ 3
+  pub row : s < Sandboxes
   pub shared : upTo g list s .core .share ≡ share
   pub copy : upTo g list s .core .copy ≡ some d
 

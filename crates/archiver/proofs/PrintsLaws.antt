@@ -3,7 +3,7 @@ use mathlib.Core.Path.{_≡_, refl, ap, _∙_}
 use mathlib.Core.Bool.{true, false}
 use mathlib.Core.List.{List, []}
 use mathlib.Core.Option.{some}
-use Prim.Native.Nat.{ℕ, _*_, _≤_}
+use Prim.Native.Nat.{ℕ, _*_, _≤_, _<_}
 use native.Mathlib.Omega.{arith}
 use lib.ListN.{length, take}
 use lib.Seq.{take-at}
@@ -42,9 +42,9 @@ answers-plain image pool₀ table₀ s out₀ answer out ok p =
     let plain = written-as-plain (lent image pool₀) (claim-start pool₀ table₀ image ok .0) in
     p .archived ∙ plain _ _ (p .world) run s out₀
 
-free-0 : (v : View) (s bytes room : ℕ) → s ≤ 3 → v .opened ≡ true → isTaken (v .copy) ≡ true → bytes ≤ room → archiveRefusal v s bytes room ≡ 0
+free-0 : (v : View) (s bytes room : ℕ) → s < 4 → v .opened ≡ true → isTaken (v .copy) ≡ true → bytes ≤ room → archiveRefusal v s bytes room ≡ 0
 unfolding archiveRefusal
-free-0 v s bytes room row open′ taken fits = rw (le-ltb 3 s row, open′, taken, le-ltb room bytes fits)
+free-0 v s bytes room row open′ taken fits = rw (lt-ltb s 4 row, open′, taken, le-ltb room bytes fits)
 
 -- the text of an archive roll that was written is what is handed on
 text-handed : (roll : List Request) (out₀ : List ℕ) (answer : Answer) (out : List ℕ) → left answer out ≡ writtenAs 0 roll out₀
@@ -53,7 +53,7 @@ unfolding writtenAs
 text-handed roll out₀ answer out e =
     ap (λ (x : Written). take (x .answer .value * 43) (x .out)) e ∙ take-at (printedRoll roll) _ (length roll * 43) (length-roll roll)
 
-plain-accepts : (g : Given) (qs : List Request) (s : ℕ) (d : Pages) (out : List ℕ) → s ≤ 3 → upTo g qs s .core .copy ≡ some d → 705286 ≤ length out
+plain-accepts : (g : Given) (qs : List Request) (s : ℕ) (d : Pages) (out : List ℕ) → s < 4 → upTo g qs s .core .copy ≡ some d → 705286 ≤ length out
     → plainWritten g (upTo g qs) s out ≡ writtenAs 0 (archive s (upTo g qs s .core .share) d (g .image)) out
 unfolding plainWritten
 plain-accepts g qs s d out row copy room =

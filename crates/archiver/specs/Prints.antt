@@ -3,8 +3,9 @@ use mathlib.Core.Path.{_≡_}
 use mathlib.Core.Bool.{true, false}
 use mathlib.Core.List.{List, []}
 use mathlib.Core.Option.{some}
-use Prim.Native.Nat.{ℕ, _≤_}
+use Prim.Native.Nat.{ℕ, _≤_, _<_}
 use lib.ListN.{length}
+use Rattle.interface.specs.Numbers.{Sandboxes}
 use Rattle.interface.specs.declared.answer.Answer.{Answer}
 use Rattle.interface.specs.Answers.{answered}
 use Rattle.interface.specs.Examples.{refused}
@@ -42,7 +43,7 @@ PrintsArchive =
     (image pool₀ table₀ : List ℕ) (s : ℕ) (out₀ : List ℕ) (answer : Answer) (out : List ℕ)
     → lengthsOk (length pool₀) (length table₀) (length image) ≡ true
     → (p : Performed image (startedBy pool₀ table₀ image) s out₀ answer out)
-    → 705286 ≤ length out₀ → s ≤ 3
+    → 705286 ≤ length out₀ → s < Sandboxes
     → let k = plainAfter (lent image pool₀) (p .input) s in
     (d : Pages) → k .core .copy ≡ some d → handedOn answer out ≡ printedRoll (archive s (k .core .share) d image)
 

@@ -25,17 +25,17 @@ module _ (image : List ℕ) (w : World) (s : ℕ) (out : List ℕ) where
     unfolding written archiveNumber archiveRefusal writtenAs
     refused-4 l = rw (sound, lt-ltb 3 s l)
 
-    module _ (row : s ≤ 3) where
+    module _ (row : s < 4) where
       pub refused-closed : sandboxAt w s .opened ≡ false → left (Refused NotOpen) out ≡ written image w s out
       unfolding written archiveNumber archiveRefusal writtenAs
-      refused-closed e = rw (sound, le-ltb 3 s row, e)
+      refused-closed e = rw (sound, lt-ltb s 4 row, e)
 
       module _ (opened : sandboxAt w s .opened ≡ true) where
         pub refused-8 : sandboxAt w s .taken ≡ false → left (Refused NoSnapshot) out ≡ written image w s out
         unfolding written archiveNumber archiveRefusal writtenAs
-        refused-8 e = rw (sound, le-ltb 3 s row, opened, e)
+        refused-8 e = rw (sound, lt-ltb s 4 row, opened, e)
 
         pub filed : sandboxAt w s .taken ≡ true → (answer : Answer) (now : List ℕ) (roll : List Request) → roll ≡ archiveOf image w s
             → left answer now ≡ fitted roll out → left answer now ≡ written image w s out
         unfolding written archiveNumber archiveRefusal fitted
-        filed taken answer now roll is x = x ∙ ap (λ l. fitted l out) is ∙ rw (sound, le-ltb 3 s row, opened, taken)
+        filed taken answer now roll is x = x ∙ ap (λ l. fitted l out) is ∙ rw (sound, lt-ltb s 4 row, opened, taken)

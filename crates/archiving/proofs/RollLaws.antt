@@ -106,7 +106,7 @@ module _ (image : List ℕ) (w : World) (s : ℕ) where
 
   -- ---- of a sound state
 
-  module _ (sound : soundb image w ≡ true) (row : s ≤ 3) where
+  module _ (sound : soundb image w ≡ true) (row : s < 4) where
     well : WellFormed (pagesIn (length image)) (b .snapshot)
     well = tested image w sound .each s (omega arith) .snapshot
 

@@ -54,8 +54,9 @@ module _ (image : List ℕ) (w : World) (q : Request) (o : Outcome) (s : Stepped
       ∙ by-cases (soundb image w) (λ e. absurd (n (sound-true image w (record { row = four; words = words }) e)))
       (λ e. sym (number-three image w q (is-call c) e))
 
-  table : Coded q → Sound image w → o .answer .number ≡ refusal (viewAt image w (q .sandbox)) q
-  table c S = number-is image w q o s ∙ sym (number-rest image w q (is-call c) (sound-of image w S))
+  table : o .answer .number ≡ refusal (viewAt image w (q .sandbox)) q
+  unfolding numberAt
+  table = number-is image w q o s
 
   pub demand-1 : Demand1 image w q o
   demand-1 = record {

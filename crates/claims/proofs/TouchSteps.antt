@@ -199,7 +199,7 @@ pub record Meets (image : List ℕ) (f : ℕ) (q : Request) (b : Sandbox) (n : �
   pub whole : length image ≡ pagesIn (length image) * 256
   pub present : WellFormed (pagesIn (length image)) (b .present)
   pub snapshot : WellFormed (pagesIn (length image)) (b .snapshot)
-  pub row : q .sandbox ≤ 3
+  pub row : q .sandbox < 4
   pub limits : within (pagesIn (length image)) q ≡ true
   -- the run that a map takes is of frames of the pool, which are zero; its new pages are of the 64
   pub blank : (x : ℕ) → x < 128 → held (runTaken b q) x ≡ 1 → (x < n) × (frame 256 (st .pool) x ≡ zeros 256)

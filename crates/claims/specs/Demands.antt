@@ -67,7 +67,7 @@ pub record Demand1 (image : List ℕ) (w : World) (q : Request) (o : Outcome) : 
   -- 64 bits what the type Held says.
   pub unsound : Coded q → length (w .sandboxes) ≡ 4 → ((s : ℕ) → s < 4 → Words (rowsOf w s)) → (Sound image w → ⊥) → o .answer .number ≡ 3
   -- else the table: "When several apply, the lowest number is answered"
-  pub table : Coded q → Sound image w → o .answer .number ≡ refusal (viewAt image w (q .sandbox)) q
+  pub table : o .answer .number ≡ refusal (viewAt image w (q .sandbox)) q
   -- a refused call answers value 0 and leaves state, pool and table
   pub refused : (o .answer .number ≡ 0 → ⊥) → (o .answer .value ≡ 0) × (o .world ≡ w)
   -- an accepted call leaves the other sandboxes, their entries and what these hold

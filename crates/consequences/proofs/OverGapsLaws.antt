@@ -63,7 +63,7 @@ run-cons (more {o = o} {as′ = rest} s r) = record { outcome = o; rest = rest; 
 
 -- ---- the world with n pages of sandbox s from a on unmapped
 
-module _ (image : List ℕ) (s : ℕ) (row : s ≤ 3) where
+module _ (image : List ℕ) (s : ℕ) (row : s < 4) where
   abbrev slotsIn : World → Slots
   slotsIn w = slots (sandboxAt w s .present)
 
@@ -145,7 +145,7 @@ module _ (image : List ℕ) (w : World) (q : Request) (o : Outcome) (S : Sound i
 
 -- ---- the laws of unmapping
 
-module _ (image : List ℕ) (s : ℕ) (row : s ≤ 3) where
+module _ (image : List ℕ) (s : ℕ) (row : s < 4) where
   abbrev Leading : World → List Request → World → Type 0
   Leading w qs r = (as′ : List Answered) (v : World) → Run image w qs as′ v → (as′ ≡ allOk qs) × (v ≡ r)
 

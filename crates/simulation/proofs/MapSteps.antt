@@ -57,7 +57,7 @@ inside-out a n i m =
     ⊎-elim (λ l. inl l) (λ l. ⊎-elim (λ d. never (inside a n i) (inside-yes a n i l d) m) (λ d. inr d) (lt-or-ge i (a + n))) (lt-or-ge i a)
 
 module _ {C : ℕ → Type 0} (g : Given) (L : Lent g) (q : Request) (st : Store) (T : Tidy C 256 (g .frames) st) (b : Sandbox) (k : Kept)
-    (inRow : q .sandbox ≤ 3) (h : Keeps k) (r : Reads g k) (A : AgreesAt g st (q .sandbox) b k) where
+    (inRow : q .sandbox < 4) (h : Keeps k) (r : Reads g k) (A : AgreesAt g st (q .sandbox) b k) where
   module _ (total : ℕ) (a : Accepted (viewOf g total (k .core)) q) (f : ℕ) where
     -- a map that takes no run
     stored-plain : q .code ≡ Map → (eqb (q .p1) 64 && eqb (q .p3) 0) ≡ false → Stored C g st (storeAfter (g .image) f q b st) (q .sandbox) (keptAfter g q k)

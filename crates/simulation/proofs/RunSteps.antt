@@ -60,7 +60,7 @@ same-rows : (rows : Rows) (s : ℕ) → inPlace s (rows s) rows ≡ rows
 same-rows rows s = fun-ext λ t. by-cases (eqb s t) (λ e. rw (e, eqb-true s t e)) (λ e. rw e)
 
 module _ {C : ℕ → Type 0} (g : Given) (L : Lent g) (q : Request) (st : Store) (T : Tidy C 256 (g .frames) st) (b : Sandbox) (k : Kept)
-    (inRow : q .sandbox ≤ 3) (h : Keeps k) (r : Reads g k) (A : AgreesAt g st (q .sandbox) b k)
+    (inRow : q .sandbox < 4) (h : Keeps k) (r : Reads g k) (A : AgreesAt g st (q .sandbox) b k)
     (rows : Rows) (S : Spare 256 (g .frames) st rows) (own : rows (q .sandbox) ≡ row (b .runs)) (W : Words (row (b .runs)))
     (total : ℕ) (a : Accepted (viewOf g total (k .core)) q) (f given : ℕ)
     (gave : givesAt q b st ≡ true → (given < 128) × (held (row (b .runs) (longestOf b)) given ≡ 1))

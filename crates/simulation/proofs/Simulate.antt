@@ -1,13 +1,14 @@
 -- A step of the machine and one of the plain machine give the same answer and keep the agreement.
 use mathlib.Core.Path.{_≡_, refl, sym, ap, _∙_, fun-ext}
 use mathlib.Core.Logic.{_⊎_, inl, inr, ⊎-elim}
-use mathlib.Core.Bool.{true, false, _&&_, false≢true}
+use mathlib.Core.Bool.{true, false, not, _&&_, false≢true}
 use Prim.Native.Nat.{ℕ, _+_, _*_, _<_}
 use native.Mathlib.Omega.{arith}
 use lib.Dec.{ltb, eqb}
 use lib.ListN.{getD, length-set}
 use lib.Seq.{getD-set-same, getD-set-other}
 use borrow.Author.Tests.{eq-eqb, eqb-true, eqb-false, ltb-true, ltb-false}
+use Rattle.basics.specs.Choice.{_when_else_}
 use Rattle.basics.specs.Ranges.{count, alike}
 use Rattle.basics.specs.Rows.{inPlace}
 use Rattle.basics.proofs.TestLaws.{by-cases, and-left}
@@ -32,6 +33,7 @@ use Rattle.state.specs.declared.sandbox.Sandbox.{Sandbox}
 use Rattle.runs.specs.declared.Runs.{Runs}
 use Rattle.runs.specs.Row.{row}
 use Rattle.kept.specs.Spare.{keptAt, keptBy, Spare}
+use Rattle.state.specs.Test.{soundb}
 use Rattle.state.specs.World.{World, sandboxAt, closedSandbox, framesOf, sharesOf, rowsOf}
 use Rattle.content.specs.Content.{pageRead, copyRead, differing}
 use Rattle.memory.specs.Memory.{givesAt, longestOf, runsAfter, storeAfter, heldBy, valueAt}
@@ -55,20 +57,17 @@ use Rattle.simulation.proofs.SoundLaws.{frames-same, shares-same, agree
 
 -- ---- the number
 
--- rows 2 and 4 need no view
-refused-2 : (v : View) (q : Request) → isCall q ≡ false → refusal v q ≡ 2
+-- past the four sandboxes the number needs no more of the view
+past-four : (v : View) (q : Request) → v .sound ≡ true → ltb (q .sandbox) 4 ≡ false → refusal v q ≡ 2 when not (isCall q) else 4
 unfolding applies refusal
-refused-2 v q c = rw c
-
-refused-4 : (v : View) (q : Request) → isCall q ≡ true → ltb 3 (q .sandbox) ≡ true → refusal v q ≡ 4
-unfolding applies refusal
-refused-4 v q c r = rw (c, r)
+past-four v q s r = rw (s, r)
 
 -- a sandbox that agrees gives the view that the plain machine has
-pub view-at : (g : Given) (w : World) (total s : ℕ) (k : Kept) → framesOf w ≡ g .frames → sharesOf w ≡ total → AgreesAt g (w .store) s (sandboxAt w s) k
+pub view-at : (g : Given) (w : World) (total s : ℕ) (k : Kept) → soundb (g .image) w ≡ true → framesOf w ≡ g .frames → sharesOf w ≡ total → AgreesAt g (w .store) s (sandboxAt w s) k
     → viewAt (g .image) w s ≡ viewOf g total (k .core)
-view-at g w total s k frames total-is A =
+view-at g w total s k sound frames total-is A =
     λ i. record {
+      sound = sound i;
       frames = frames i;
       imagePages = viewOf g total (k .core) .imagePages;
       shares = total-is i;
@@ -80,16 +79,15 @@ view-at g w total s k frames total-is A =
 
 module _ {C : ℕ → Type 0} (g : Given) (L : Lent g) (w : World) (p : Plain) (A : Agrees C g w p) where
   view-same : (s : ℕ) → s < 4 → viewAt (g .image) w s ≡ viewOf g (shares p) (p s .core)
-  view-same s l = view-at g w (shares p) s (p s) (frames-same g w p A) (shares-same g w p A) (A .each s l)
+  view-same s l = view-at g w (shares p) s (p s) (agrees-tested g w p A L) (frames-same g w p A) (shares-same g w p A) (A .each s l)
 
   pub number-same : (q : Request) → numberAt (g .image) w q ≡ plainNumber g p q
   unfolding numberAt
   number-same q =
-      by-cases (isCall q)
-      (λ c. by-cases (ltb 3 (q .sandbox))
-      (λ r. rw (c, agrees-tested g w p A L, refused-4 (viewAt (g .image) w (q .sandbox)) q c r, refused-4 (viewOf g (shares p) (p (q .sandbox) .core)) q c r))
-      (λ r. rw (c, agrees-tested g w p A L) (ap (λ (v : View). refusal v q) (view-same (q .sandbox) (omega (arith, ltb-false 3 (q .sandbox) r))))))
-      (λ c. rw (c, refused-2 (viewOf g (shares p) (p (q .sandbox) .core)) q c))
+      by-cases (ltb (q .sandbox) 4)
+      (λ r. ap (λ (v : View). refusal v q) (view-same (q .sandbox) (ltb-true (q .sandbox) 4 r)))
+      (λ r. past-four (viewAt (g .image) w (q .sandbox)) q (agrees-tested g w p A L) r
+      ∙ sym (past-four (viewOf g (shares p) (p (q .sandbox) .core)) q refl r))
 
 -- ---- the report
 

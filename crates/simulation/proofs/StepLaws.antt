@@ -28,18 +28,12 @@ use Rattle.machine.specs.Step.{viewAt, worldAfter, numberAt, step, takes, gives
 
 -- a request that is accepted
 module _ (image : List ℕ) (w : World) (q : Request) (n : numberAt image w q ≡ 0) where
-  number-rows : (soundb image w ≡ true) × (refusal (viewAt image w (q .sandbox)) q ≡ 0)
+  pub was-accepted : Accepted (viewAt image w (q .sandbox)) q
   unfolding numberAt
-  number-rows =
-      let two = passed 1 _ (not (isCall q)) n in
-      let three = passed 2 _ (not (soundb image w)) (two .1) in
-      (not-false (soundb image w) (three .0), three .1)
+  was-accepted = accepted _ q n
 
   pub was-sound : soundb image w ≡ true
-  was-sound = number-rows .0
-
-  pub was-accepted : Accepted (viewAt image w (q .sandbox)) q
-  was-accepted = accepted _ q (number-rows .1)
+  was-sound = was-accepted .sound
 
 -- a request that takes a frame
 pub record Taking (image : List ℕ) (w : World) (q : Request) : Type 0 where

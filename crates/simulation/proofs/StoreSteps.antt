@@ -50,7 +50,7 @@ write-page images q e w =
     omega (arith, ltb-true (q .p1) 16384 (and-left _ _ limits))
 
 module _ {C : ℕ → Type 0} (g : Given) (L : Lent g) (q : Request) (st : Store) (T : Tidy C 256 (g .frames) st) (b : Sandbox) (k : Kept)
-    (inRow : q .sandbox ≤ 3) (h : Keeps k) (r : Reads g k) (A : AgreesAt g st (q .sandbox) b k) where
+    (inRow : q .sandbox < 4) (h : Keeps k) (r : Reads g k) (A : AgreesAt g st (q .sandbox) b k) where
   -- what a rewind makes of a front
   rewound-front : (i : ℕ) → i < 64
       → rewound (keepsFront b i) (copyPage (g .image) b i) (contents 256 st (backOf (q .sandbox) i)) (contents 256 st (frontOf (q .sandbox) i))
