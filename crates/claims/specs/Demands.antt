@@ -66,7 +66,7 @@ pub record Demand1 (image : List ℕ) (w : World) (q : Request) (o : Outcome) : 
   -- "lent length wrong, or state unsound". That four sandboxes stand in the row is what the type [Sandbox; 4] says of any state, and that a run is two words of
   -- 64 bits what the type Held says.
   pub unsound : Coded q → length (w .sandboxes) ≡ 4 → ((s : ℕ) → s < 4 → Words (rowsOf w s)) → (Sound image w → ⊥) → o .answer .number ≡ 3
-  -- else the table: "When several apply, the lowest number is answered"
+  -- the table, whatever is handed in: "When several apply, the lowest number is answered"
   pub table : o .answer .number ≡ refusal (viewAt image w (q .sandbox)) q
   -- a refused call answers value 0 and leaves state, pool and table
   pub refused : (o .answer .number ≡ 0 → ⊥) → (o .answer .value ≡ 0) × (o .world ≡ w)

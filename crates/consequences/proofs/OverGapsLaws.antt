@@ -33,8 +33,8 @@ use Rattle.packing.proofs.KeptLaws.{repack-slots, pack-slots}
 use Rattle.state.specs.declared.sandbox.Sandbox.{Sandbox}
 use Rattle.state.specs.World.{World, sandboxAt, withPresent, closedSandbox, pagesIn}
 use Rattle.state.specs.Sound.{SoundAt, Sound}
-use Rattle.state.proofs.TestLaws.{slots-inside}
-use Rattle.state.proofs.SettledLaws.{settled}
+use Rattle.state.proofs.TestLaws.{slots-inside, sound-of}
+use Rattle.state.proofs.SettledLaws.{settled-at}
 use Rattle.rules.specs.After.{packedAfter, takenAfter, snapshotAfter}
 use Rattle.memory.specs.Memory.{givesAt, runsAfter, storeAfter, valueAt}
 use Rattle.machine.specs.Step.{viewAt, numberAt, step, takes, Outcome, Stepped}
@@ -121,13 +121,16 @@ module _ (image : List ℕ) (s : ℕ) (row : s < 4) where
 
 -- ---- one unmap
 
+settled : (image : List ℕ) (w : World) → Sound image w → (s : ℕ) → s < 4 → Settled (viewAt image w s)
+settled image w S s l = settled-at (pagesIn (length image)) (w .store) s (sandboxAt w s) (S .each s l) _ _ _ _
+
 module _ (image : List ℕ) (w : World) (q : Request) (o : Outcome) (S : Sound image w) (u : Unmaps (viewAt image w (q .sandbox)) q)
     (t : Stepped image w q o) where
   view-settled : Settled (viewAt image w (q .sandbox))
-  view-settled = settled image w S (q .sandbox) (omega (arith, u .row))
+  view-settled = settled image w S (q .sandbox) (u .row)
 
   number-told : numberAt image w q ≡ refusal (viewAt image w (q .sandbox)) q
-  number-told = sym (number-is image w q o t) ∙ demand-1 image w q o t .table (rw (u .called) (omega arith, omega arith)) S
+  number-told = sym (number-is image w q o t) ∙ demand-1 image w q o t .table
 
   answer-told : o .answer ≡ record { number = refusal (viewAt image w (q .sandbox)) q; value = 0 }
   unfolding step valueAt
@@ -157,7 +160,7 @@ module _ (image : List ℕ) (s : ℕ) (row : s < 4) where
     unmaps = unmaps-of (viewAt image w s) s a n row (G .opened) l
 
     taken : refusal (viewAt image w s) q ≡ 0
-    taken = unmap-accepted _ q (settled image w (G .sound) s (omega arith)) unmaps few
+    taken = unmap-accepted _ q (sound-of image w (G .sound)) (settled image w (G .sound) s row) unmaps few
 
     -- the one outcome: an unmap gives up no frame and takes none
     stepped : Stepped image w q (step image 0 0 w q)
@@ -212,9 +215,9 @@ unfolding unmapping
 every-run image w q o S u t n as′ r run =
     let v = view-settled image w q o S u t in
     let taken = sym (ap (λ (a : Answered). a .number) (answer-told image w q o S u t)) ∙ n in
-    let few = rw (unmap-then _ q v u) at (accepted _ q taken .inAreas) in
+    let few = rw (unmap-then _ q (sound-of image w S) v u) at (accepted _ q taken .inAreas) in
     let done = alone (q .sandbox) (unmapping image (q .sandbox) (u .row)) w (record { sound = S; opened = u .opened }) (q .p1) (q .p2)
-    (unmap-fits _ q v u) few as′ r run in
+    (unmap-fits _ q (sound-of image w S) v u) few as′ r run in
     (done .0, done .1 ∙ sym (unmap-leaves image w q o S u t taken))
 
 pub over-gaps : (image : List ℕ) → PassesOverGaps image
@@ -225,14 +228,14 @@ over-gaps image w q o S u t =
     let good : Good image (q .sandbox) (u .row) w = record { sound = S; opened = u .opened } in
     record {
       answered =
-          told ∙ rw (unmap-hole _ q v u (slots-inside _ (sandboxAt w (q .sandbox) .present) (own image (q .sandbox) (u .row) w good .present)))
+          told ∙ rw (unmap-hole _ q (sound-of image w S) v u (slots-inside _ (sandboxAt w (q .sandbox) .present) (own image (q .sandbox) (u .row) w good .present)))
           (by-cases (eqb (areas f) 8 && isHole f (q .p1) (q .p2)) (λ e. rw e) (λ e. rw e));
-      gap = λ i b m. told ∙ rw (unmap-over-gap _ q v u i b m);
+      gap = λ i b m. told ∙ rw (unmap-over-gap _ q (sound-of image w S) v u i b m);
       nothing = λ clear.
           let idle = none-in f (q .p1) (q .p2) clear in
-          let n = unmap-accepted _ q v u (rw (without-none f (q .p1) (q .p2) idle) (v .few)) in (
+          let n = unmap-accepted _ q (sound-of image w S) v u (rw (without-none f (q .p1) (q .p2) idle) (v .few)) in (
             unmap-answers image w q o S u t n,
-            unmap-leaves image w q o S u t n ∙ unmapped-none image (q .sandbox) (u .row) w good (q .p1) (q .p2) (unmap-fits _ q v u) idle,
+            unmap-leaves image w q o S u t n ∙ unmapped-none image (q .sandbox) (u .row) w good (q .p1) (q .p2) (unmap-fits _ q (sound-of image w S) v u) idle,
           );
       alone = λ n.
           let some = sound-runs image w S (mappedAlone q f) in

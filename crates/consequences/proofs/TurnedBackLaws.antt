@@ -18,7 +18,7 @@ use Rattle.interface.specs.Requests.{Open, isCall}
 use Rattle.interface.specs.Slots.{follows, joins, areas, mappedPages, uncommittedPages, lowestGap, chargeOf}
 use Rattle.interface.specs.Limits.{within}
 use Rattle.interface.specs.Outcome.{firstOf, slotsAfter, copyAfter}
-use Rattle.interface.specs.Refusals.{allMapped, applies, refusal}
+use Rattle.interface.specs.Refusals.{View, allMapped, applies, refusal}
 use Rattle.interface.specs.Examples.{refused, requestsOf, getsOf, call₁}
 use Rattle.frames.specs.Word.{bit, putBit}
 use Rattle.frames.specs.Frames.{mark, held as heldMark}
@@ -117,10 +117,23 @@ module _ (image : List ℕ) (w : World) (wrong : lengthsOk (length (w .store .po
       let left = refused-leaves image w q o s (rw (wrong-number q) (some-row (not (isCall q)))) in
       (λ i. record { number = (number-is image w q o s ∙ wrong-number q) i; value = left .0 i }, left .1)
 
+-- what the first request is decided from
+abbrev firstView : ℕ → ℕ → View
+firstView frames imagePages = record {
+  sound = true;
+  frames = frames;
+  imagePages = imagePages;
+  shares = 0;
+  opened = false;
+  share = 0;
+  slots = λ _. Unmapped;
+  copy = none;
+}
+
 -- the first answer, from the lengths alone
 unfoldable lentAnswer : ℕ → ℕ → ℕ → Request → Answered
 lentAnswer p t i q =
-    (let n = refusal (record { frames = pagesIn p; imagePages = pagesIn i; shares = 0; opened = false; share = 0; slots = λ _. Unmapped; copy = none }) q in
+    (let n = refusal (firstView (pagesIn p) (pagesIn i)) q in
     record { number = n; value = valueAt noImage q closed when eqb n 0 else 0 }) when lengthsOk p t i else
     refused (2 when not (isCall q) else 3)
 
@@ -155,7 +168,7 @@ unfolding lendingsOk lentAnswer within allMapped firstOf slotsAfter copyAfter ap
 lendings-get = all-get-lent lendings refl
 
 stray-number : numberAt [] strayEntry (call₁ Open 1) ≡ 3
-unfolding numberAt soundb marksb marksTo addEntry bit putBit heldMark mark zeros
+unfolding numberAt applies refusal soundb marksb marksTo addEntry bit putBit heldMark mark zeros
 stray-number = refl
 
 pub stray-entry : StrayEntry

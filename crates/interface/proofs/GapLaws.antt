@@ -226,7 +226,7 @@ hole-areas f within-64 few a n some l =
 
 -- ---- the number
 
-module _ (v : View) (q : Request) (s : Settled v) (u : Unmaps v q) where
+module _ (v : View) (q : Request) (sound : v .sound ≡ true) (s : Settled v) (u : Unmaps v q) where
   -- in a sound state only row 14 can apply
   pub unmap-number : refusal v q ≡ (14 when ltb 8 (areas (slotsThen v q)) else 0)
   unfolding refusal applies allMapped
@@ -234,7 +234,7 @@ module _ (v : View) (q : Request) (s : Settled v) (u : Unmaps v q) where
       let e = u .called in
       let in-row = lt-ltb (q .sandbox) 4 (u .row) in
       let share = row-13 v s q (kind q) (rw e) (rw e) (rw e) (λ r. absurd (false≢true (rw e at r))) in
-      rw (u .sound, in-row, u .opened, u .limits, share) (rw e)
+      rw (sound, in-row, u .opened, u .limits, share) (rw e)
 
   pub unmap-fits : q .p1 + q .p2 ≤ 64
   unfolding within
@@ -262,11 +262,10 @@ module _ (v : View) (q : Request) (s : Settled v) (u : Unmaps v q) where
       unmap-accepted (omega (arith, s .few, fewer-unless-hole (v .slots) (q .p1) (q .p2) unmap-fits unmap-some (gap-no-hole (v .slots) (q .p1) (q .p2) i t m)))
 
 -- pages of an open sandbox, none past page 63
-pub unmaps-of : (v : View) (s a n : ℕ) → v .sound ≡ true → s < 4 → v .opened ≡ true → a + suc n ≤ 64 → Unmaps v (unmapOf s a (suc n))
+pub unmaps-of : (v : View) (s a n : ℕ) → s < 4 → v .opened ≡ true → a + suc n ≤ 64 → Unmaps v (unmapOf s a (suc n))
 unfolding within
-unmaps-of v s a n sound row opened l = record {
+unmaps-of v s a n row opened l = record {
   called = refl;
-  sound = sound;
   row = row;
   opened = opened;
   limits = rw (lt-ltb a 64 (omega arith), le-leb 1 (suc n) (omega arith), le-leb (suc n) 64 (omega arith), le-leb (a + suc n) 64 l);

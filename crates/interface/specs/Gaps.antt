@@ -14,11 +14,9 @@ use Rattle.interface.specs.Limits.{within}
 use Rattle.interface.specs.Refusals.{View}
 use Rattle.interface.specs.Examples.{ok, call₂, inSandbox}
 
--- an unmap to which rows 3, 4 and 6 do not apply: "state unsound"; "sandbox above 3; or, but for open, not open"; "a parameter outside its limits .. an
--- unused one not 0"
+-- an unmap to which rows 4 and 6 do not apply: "sandbox above 3; or, but for open, not open"; "a parameter outside its limits .. an unused one not 0"
 pub record Unmaps (v : View) (q : Request) : Type 0 where
   pub called : q .code ≡ Unmap
-  pub sound : v .sound ≡ true
   pub row : q .sandbox < Sandboxes
   pub opened : v .opened ≡ true
   pub limits : within (v .imagePages) q ≡ true

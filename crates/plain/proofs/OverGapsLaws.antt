@@ -83,7 +83,7 @@ module _ (g : Given) (s : ℕ) (row : s < 4) where
 
     module _ (a n : ℕ) (l : a + suc n ≤ 64) (few : areas (without a (suc n) (slotsIn p)) ≤ 8) where
       number : numberAt g p (unmapOf s a (suc n)) ≡ 0
-      number = unmap-accepted _ _ settled (unmaps-of (viewOf g (shares p) (p s .core)) s a n refl row (G .opened) l) few
+      number = unmap-accepted _ _ refl settled (unmaps-of (viewOf g (shares p) (p s .core)) s a n row (G .opened) l) few
 
       leaves : after g p (unmapOf s a (suc n)) ≡ unmappedAt p a (suc n)
       unfolding after
@@ -158,14 +158,14 @@ unmap-of-nothing g qs q u none =
     let f = slotsBefore g qs q in
     let clear = none-in f (q .p1) (q .p2) none in
     let few : areas (without (q .p1) (q .p2) f) ≤ 8 = rw (without-none f (q .p1) (q .p2) clear) (settled-view g qs q u .few) in
-    let done = accepted-after g qs q u (unmap-accepted _ q (settled-view g qs q u) u few) in
-    let idle = unmapped-none g (q .sandbox) (u .row) (upTo g qs) (good g qs q u) (q .p1) (q .p2) (unmap-fits _ q (settled-view g qs q u) u) clear in
+    let done = accepted-after g qs q u (unmap-accepted _ q refl (settled-view g qs q u) u few) in
+    let idle = unmapped-none g (q .sandbox) (u .row) (upTo g qs) (good g qs q u) (q .p1) (q .p2) (unmap-fits _ q refl (settled-view g qs q u) u) clear in
     (done .0, done .1 ∙ idle)
 
 pub unmaps-alone : (g : Given) → UnmapsAlone g
 unfolding unmapping
 unmaps-alone g qs q u n =
     let s = settled-view g qs q u in
-    let few = rw (unmap-then _ q s u) at (accepted _ q n .inAreas) in
-    let led = alone (q .sandbox) (unmapping g (q .sandbox) (u .row)) (upTo g qs) (good g qs q u) (q .p1) (q .p2) (unmap-fits _ q s u) few in
+    let few = rw (unmap-then _ q refl s u) at (accepted _ q n .inAreas) in
+    let led = alone (q .sandbox) (unmapping g (q .sandbox) (u .row)) (upTo g qs) (good g qs q u) (q .p1) (q .p2) (unmap-fits _ q refl s u) few in
     (led .0, led .1 ∙ sym (accepted-after g qs q u n .1))
