@@ -1,3 +1,4 @@
+pub mod RowLaws
 -- In reading order.
 pub mod IsSnapshot
 pub mod SegmentLaws

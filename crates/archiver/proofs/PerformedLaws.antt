@@ -16,22 +16,13 @@ use Rattle.state.specs.World.{World}
 use Rattle.machine.specs.Step.{viewAt}
 use Rattle.state.specs.Test.{soundb}
 use Rattle.archive.specs.Written.{Written, writtenAs}
+use Rattle.archive.proofs.RowLaws.{allowed}
 use Rattle.replay.specs.Snapshot.{archiveOf, archiveNumber, written}
 use Rattle.archiving.specs.Whole.{left}
 
--- where no row applies, row 15 does not
-free-fits : (v : View) (s bytes room : ℕ) → archiveRefusal v s bytes room ≡ 0 → bytes ≤ room
-unfolding archiveRefusal
-free-fits v s bytes room free =
-    by-cases (ltb 3 s || not (v .opened)) (λ e. absurd (omega (arith, rw e at free)))
-    (λ e. by-cases (not (isTaken (v .copy))) (λ f. absurd (omega (arith, rw (e, f) at free)))
-    (λ f. by-cases (ltb room bytes) (λ g. absurd (omega (arith, rw (e, f, g) at free))) (λ g. ltb-false room bytes g)))
-
 number-fits : (image : List ℕ) (w : World) (s room : ℕ) → archiveNumber image w s room ≡ 0 → length (archiveOf image w s) * 43 ≤ room
 unfolding archiveNumber
-number-fits image w s room free =
-    by-cases (not (soundb image w)) (λ e. absurd (omega (arith, rw e at free)))
-    (λ e. free-fits (viewAt image w s) s (length (archiveOf image w s) * 43) room (rw e at free))
+number-fits image w s room free = allowed (viewAt image w s) s (length (archiveOf image w s) * 43) room free .fits
 
 value-fits : (number : ℕ) (roll : List Request) (out : List ℕ) → (number ≡ 0 → length roll * 43 ≤ length out)
     → writtenAs number roll out .answer .value * 43 ≤ length out

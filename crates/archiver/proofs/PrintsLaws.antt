@@ -20,6 +20,7 @@ use Rattle.claims.proofs.Claims.{claim-start}
 use Rattle.roll.specs.Replies.{lent}
 use Rattle.roll.specs.Play.{linesIn, requests}
 use Rattle.roll.proofs.RepliesLaws.{run-of, replies-are-refusals}
+use Rattle.archive.proofs.RowLaws.{none-applies}
 use Rattle.archive.specs.Archive.{archive}
 use Rattle.archive.specs.Text.{printedRoll}
 use Rattle.archive.specs.Written.{Written, writtenAs, rollOf, plainWritten}
@@ -42,10 +43,6 @@ answers-plain image pool₀ table₀ s out₀ answer out ok p =
     let plain = written-as-plain (lent image pool₀) (claim-start pool₀ table₀ image ok .0) in
     p .archived ∙ plain _ _ (p .world) run s out₀
 
-free-0 : (v : View) (s bytes room : ℕ) → s < 4 → v .opened ≡ true → isTaken (v .copy) ≡ true → bytes ≤ room → archiveRefusal v s bytes room ≡ 0
-unfolding archiveRefusal
-free-0 v s bytes room row open′ taken fits = rw (lt-ltb s 4 row, open′, taken, le-ltb room bytes fits)
-
 -- the text of an archive roll that was written is what is handed on
 text-handed : (roll : List Request) (out₀ : List ℕ) (answer : Answer) (out : List ℕ) → left answer out ≡ writtenAs 0 roll out₀
     → handedOn answer out ≡ printedRoll roll
@@ -63,7 +60,8 @@ plain-accepts g qs s d out row copy room =
     let roll : List Request = archive s share d (g .image) in
     let o : Occurs g s share d = record { list = qs; row = row; shared = refl; copy = copy } in
     let few = longest g s share d o in
-    let free = free-0 v s (length roll * 43) (length out) row (opened g s share d o) (rw copy refl) (omega (arith, few, room)) in
+    let free = none-applies v s (length roll * 43) (length out)
+    (record { sound = refl; row = row; opened = opened g s share d o; snapshot = rw copy refl; fits = omega (arith, few, room) }) in
     let same : rollOf g p s ≡ roll = rw copy refl in
     ap (λ l. writtenAs (archiveRefusal v s (length l * 43) (length out)) l out) same ∙ ap (λ n. writtenAs n roll out) free
 
@@ -77,7 +75,7 @@ prints-archive image pool₀ table₀ s out₀ answer out ok p room row d copy =
 unsound-3 : (image : List ℕ) (w : World) (s : ℕ) (out : List ℕ)
     → lengthsOk (length (w .store .pool)) (length (w .store .table)) (length image) ≡ false
     → written image w s out ≡ record { answer = record { number = 3; value = 0 }; out = out }
-unfolding written writtenAs archiveNumber soundb
+unfolding written writtenAs archiveNumber archiveRefusal soundb
 unsound-3 image w s out wrong = rw wrong
 
 pub refuses-wrong-length : RefusesWrongLength

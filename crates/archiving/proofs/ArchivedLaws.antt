@@ -17,13 +17,13 @@ use Rattle.archiving.specs.Whole.{left, fitted}
 
 module _ (image : List ℕ) (w : World) (s : ℕ) (out : List ℕ) where
   pub refused-3 : soundb image w ≡ false → left (Refused Unsound) out ≡ written image w s out
-  unfolding written archiveNumber writtenAs
+  unfolding written archiveNumber archiveRefusal writtenAs
   refused-3 e = rw e
 
   module _ (sound : soundb image w ≡ true) where
-    pub refused-4 : 3 < s → left (Refused NotOpen) out ≡ written image w s out
+    pub refused-4 : 4 ≤ s → left (Refused NotOpen) out ≡ written image w s out
     unfolding written archiveNumber archiveRefusal writtenAs
-    refused-4 l = rw (sound, lt-ltb 3 s l)
+    refused-4 l = rw (sound, le-ltb s 4 l)
 
     module _ (row : s < 4) where
       pub refused-closed : sandboxAt w s .opened ≡ false → left (Refused NotOpen) out ≡ written image w s out

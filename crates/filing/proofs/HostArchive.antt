@@ -20,6 +20,7 @@ use Rattle.layout.proofs.Claims.{passes}
 use Rattle.plain.specs.Machine.{Given}
 use Rattle.claims.specs.Demands.{RunFrom}
 use Rattle.roll.specs.Play.{linesIn, requests}
+use Rattle.archive.proofs.RowLaws.{Allowed, allowed}
 use Rattle.archive.specs.Segments.{AllTaken}
 use Rattle.archive.specs.Written.{Written, writtenAs}
 use Rattle.replay.specs.Snapshot.{archiveOf, archiveNumber, written}
@@ -33,46 +34,14 @@ use Rattle.filing.specs.HostArchive.{Replays, HostArchive, HostFiles}
 
 -- ---- what is not refused
 
--- no row applies: the sandbox is one of the row, it has a snapshot, and the roll fits
-record Allowed (taken : Bool) (s bytes room : ℕ) : Type 0 where
-  pub row : s < 4
-  pub snapshot : taken ≡ true
-  pub fits : bytes ≤ room
-
-none-applies : (v : View) (s bytes room : ℕ) → archiveRefusal v s bytes room ≡ 0 → Allowed (isTaken (v .copy)) s bytes room
-unfolding archiveRefusal
-none-applies v s bytes room h =
-    by-cases (ltb 3 s || not (v .opened))
-    (λ e. absurd (not-four (rw e at h)))
-    (λ e. by-cases (isTaken (v .copy))
-    (λ t. by-cases (ltb room bytes)
-    (λ u. absurd (not-fifteen (rw (e, t, u) at h)))
-    (λ u. record { row = omega (arith, ltb-false 3 s (or-left (ltb 3 s) (not (v .opened)) e)); snapshot = t; fits = ltb-false room bytes u }))
-    (λ t. absurd (not-eight (rw (e, t) at h))))
-  where
-    not-four : _≡_ {A = ℕ} 4 0 → ⊥
-    not-four e = omega arith
-
-    not-eight : _≡_ {A = ℕ} 8 0 → ⊥
-    not-eight e = omega arith
-
-    not-fifteen : _≡_ {A = ℕ} 15 0 → ⊥
-    not-fifteen e = omega arith
 
 taken-of : (w : World) (s : ℕ) → isTaken (copyOf (sandboxAt w s)) ≡ true → sandboxAt w s .taken ≡ true
 taken-of w s h = by-cases (sandboxAt w s .taken) (λ e. e) (λ e. absurd (false≢true (rw e at h)))
 
-allowed : (image : List ℕ) (w : World) (s : ℕ) (out : List ℕ) → written image w s out .answer .number ≡ 0
-    → Allowed (sandboxAt w s .taken) s (length (archiveOf image w s) * 43) (length out)
+was-allowed : (image : List ℕ) (w : World) (s : ℕ) (out : List ℕ) → written image w s out .answer .number ≡ 0
+    → Allowed (viewAt image w s) s (length (archiveOf image w s) * 43) (length out)
 unfolding written writtenAs archiveNumber
-allowed image w s out h =
-    by-cases (soundb image w)
-    (λ e. let a = none-applies (viewAt image w s) s (length (archiveOf image w s) * 43) (length out) (rw e at h) in
-    record { row = a .row; snapshot = taken-of w s (a .snapshot); fits = a .fits })
-    (λ e. absurd (not-three (rw e at h)))
-  where
-    not-three : _≡_ {A = ℕ} 3 0 → ⊥
-    not-three e = omega arith
+was-allowed image w s out h = allowed (viewAt image w s) s (length (archiveOf image w s) * 43) (length out) h
 
 -- ---- of a start that answered 0
 
@@ -110,14 +79,14 @@ module _ (image : List ℕ) (h : Handed) (ok : startNumber image h ≡ 0) where
 
   module _ (qs : List Request) (as′ : List Answered) (l : Handed) (calls : Calls image (startHands image h) qs as′ l) (s : ℕ) (out : List ℕ)
       (zero : filed image l s out .answer .number ≡ 0) where
-    a : Allowed (sandboxAt (worldIn l) s .taken) s (length (archiveOf image (worldIn l) s) * 43) (length out)
-    a = allowed image (worldIn l) s out (ap (λ (w : Written). w .answer .number) (sym (files qs as′ l calls s out)) ∙ zero)
+    a : Allowed (viewAt image (worldIn l) s) s (length (archiveOf image (worldIn l) s) * 43) (length out)
+    a = was-allowed image (worldIn l) s out (ap (λ (w : Written). w .answer .number) (sym (files qs as′ l calls s out)) ∙ zero)
 
     here : Snapped g s (worldIn l)
-    here = snapped qs as′ l calls s out (a .row) (a .snapshot)
+    here = snapped qs as′ l calls s out (a .row) (taken-of (worldIn l) s (a .snapshot))
 
     filed-is : filed image l s out ≡ writtenAs 0 (archiveOf image (worldIn l) s) out
-    filed-is = fitting qs as′ l calls s out (a .row) (a .snapshot) (a .fits)
+    filed-is = fitting qs as′ l calls s out (a .row) (taken-of (worldIn l) s (a .snapshot)) (a .fits)
 
     read : let w = filed image l s out in requests (linesIn (w .out) (w .answer .value)) ≡ archiveOf image (worldIn l) s
     unfolding writtenAs

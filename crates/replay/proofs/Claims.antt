@@ -7,7 +7,7 @@ use mathlib.Core.Option.{Option, some, none}
 use native.Mathlib.Omega.{arith}
 use lib.Dec.{eqb, ltb}
 use lib.ListN.{length}
-use borrow.Author.Tests.{ltb-false, le-ltb}
+use borrow.Author.Tests.{ltb-true, le-ltb}
 use Rattle.basics.proofs.TestLaws.{by-cases, or-left}
 use Rattle.interface.specs.declared.request.Request.{Request}
 use Rattle.interface.specs.Answers.{Answered}
@@ -29,6 +29,7 @@ use Rattle.simulation.proofs.ReadSteps.{copy-read, page-read}
 use Rattle.simulation.proofs.SoundLaws.{frames-same, shares-same, agrees-tested}
 use Rattle.simulation.proofs.Simulate.{view-at}
 use Rattle.claims.proofs.Runs.{list-agrees, demand-2}
+use Rattle.archive.proofs.RowLaws.{none-applies}
 use Rattle.archive.specs.Archive.{archive}
 use Rattle.archive.specs.Text.{Sayable, printedRoll}
 use Rattle.archive.specs.Written.{Written, writtenAs, rollOf, plainWritten}
@@ -178,18 +179,14 @@ refused-alike : (n : ℕ) (roll roll′ : List Request) (out : List ℕ) → eqb
 unfolding writtenAs
 refused-alike n roll roll′ out e = rw e
 
-closed-4 : (v : View) (s bytes room : ℕ) → (ltb 3 s || not (v .opened)) ≡ true → archiveRefusal v s bytes room ≡ 4
-unfolding archiveRefusal
-closed-4 v s bytes room e = rw e
+module _ (v : View) (s bytes room : ℕ) (sound : v .sound ≡ true) where
+  closed-4 : (not (ltb s 4) || not (v .opened)) ≡ true → archiveRefusal v s bytes room ≡ 4
+  unfolding archiveRefusal
+  closed-4 e = rw (sound, e)
 
-bare-8 : (v : View) (s bytes room : ℕ) → (ltb 3 s || not (v .opened)) ≡ false → isTaken (v .copy) ≡ false → archiveRefusal v s bytes room ≡ 8
-unfolding archiveRefusal
-bare-8 v s bytes room e t = rw (e, t)
-
-sound-number : (image : List ℕ) (w : World) (s room : ℕ) → soundb image w ≡ true
-    → archiveNumber image w s room ≡ archiveRefusal (viewAt image w s) s (length (archiveOf image w s) * 43) room
-unfolding archiveNumber
-sound-number image w s room e = rw e
+  bare-8 : (not (ltb s 4) || not (v .opened)) ≡ false → isTaken (v .copy) ≡ false → archiveRefusal v s bytes room ≡ 8
+  unfolding archiveRefusal
+  bare-8 e t = rw (sound, e, t)
 
 module _ (g : Given) (L : Lent g) (qs : List Request) (as′ : List Answered) (w : World) (r : RunFrom g qs as′ w) (s : ℕ) (out : List ℕ) where
   agree : Agrees (λ f. Unit {0}) g w (upTo g qs)
@@ -201,57 +198,54 @@ module _ (g : Given) (L : Lent g) (qs : List Request) (as′ : List Answered) (w
   abbrev theirs : View
   theirs = viewOf g (shares (upTo g qs)) (upTo g qs s .core)
 
-  number : archiveNumber (g .image) w s (length out) ≡ archiveRefusal mine s (length (archiveOf (g .image) w s) * 43) (length out)
-  number = sound-number (g .image) w s (length out) (agrees-tested g w (upTo g qs) agree L)
+  sound : mine .sound ≡ true
+  sound = agrees-tested g w (upTo g qs) agree L
 
   -- refused by both with one number
-  both-refused : (n : ℕ) → eqb n 0 ≡ false → archiveNumber (g .image) w s (length out) ≡ n
+  both-refused : (n : ℕ) → eqb n 0 ≡ false → archiveRefusal mine s (length (archiveOf (g .image) w s) * 43) (length out) ≡ n
       → archiveRefusal theirs s (length (rollOf g (upTo g qs) s) * 43) (length out) ≡ n → written (g .image) w s out ≡ plainWritten g (upTo g qs) s out
-  unfolding written plainWritten
+  unfolding written archiveNumber plainWritten
   both-refused n e a b = rw (a, b) (refused-alike n (archiveOf (g .image) w s) (rollOf g (upTo g qs) s) out e)
 
-  above : ltb 3 s ≡ true → written (g .image) w s out ≡ plainWritten g (upTo g qs) s out
-  above e = both-refused 4 refl (number ∙ closed-4 mine s _ (length out) (rw e)) (closed-4 theirs s _ (length out) (rw e))
+  above : ltb s 4 ≡ false → written (g .image) w s out ≡ plainWritten g (upTo g qs) s out
+  above e = both-refused 4 refl (closed-4 mine s _ (length out) sound (rw e)) (closed-4 theirs s _ (length out) refl (rw e))
 
   module _ (l : s < 4) where
     view : mine ≡ theirs
-    view = view-at g w (shares (upTo g qs)) s (upTo g qs s) (frames-same g w (upTo g qs) agree) (shares-same g w (upTo g qs) agree) (agree .each s l)
+    view = view-at g w (shares (upTo g qs)) s (upTo g qs s) sound (frames-same g w (upTo g qs) agree) (shares-same g w (upTo g qs) agree) (agree .each s l)
 
     with-copy : sandboxAt w s .taken ≡ true → written (g .image) w s out ≡ plainWritten g (upTo g qs) s out
-    unfolding written plainWritten
+    unfolding written archiveNumber plainWritten
     with-copy t =
         let S : Snapped g s w = record { after = record { list = qs; answers = as′; run = r }; row = l; taken = t } in
         let same : archiveOf (g .image) w s ≡ rollOf g (upTo g qs) s = same-roll g L s w S ∙ rw (agree .each s l .share, is-copy g L s w S) in
-        rw number (ap₂ (λ (x : View) (y : List Request). writtenAs (archiveRefusal x s (length y * 43) (length out)) y out) view same)
+        ap₂ (λ (x : View) (y : List Request). writtenAs (archiveRefusal x s (length y * 43) (length out)) y out) view same
 
     without : sandboxAt w s .taken ≡ false → written (g .image) w s out ≡ plainWritten g (upTo g qs) s out
     without t =
-        by-cases (ltb 3 s || not (mine .opened))
-        (λ e. both-refused 4 refl (number ∙ closed-4 mine s _ (length out) e)
-        (closed-4 theirs s _ (length out) (ap (λ (x : View). ltb 3 s || not (x .opened)) (sym view) ∙ e)))
-        (λ e. both-refused 8 refl (number ∙ bare-8 mine s _ (length out) e (rw t))
-        (bare-8 theirs s _ (length out) (ap (λ (x : View). ltb 3 s || not (x .opened)) (sym view) ∙ e)
-        (ap (λ (x : View). isTaken (x .copy)) (sym view) ∙ rw t)))
+        let opened : View → Bool = λ x. not (ltb s 4) || not (x .opened) in
+        by-cases (opened mine)
+        (λ e. both-refused 4 refl (closed-4 mine s _ (length out) sound e) (closed-4 theirs s _ (length out) refl (ap opened (sym view) ∙ e)))
+        (λ e. both-refused 8 refl (bare-8 mine s _ (length out) sound e (rw t))
+        (bare-8 theirs s _ (length out) refl (ap opened (sym view) ∙ e) (ap (λ (x : View). isTaken (x .copy)) (sym view) ∙ rw t)))
 
 pub written-as-plain : (g : Given) → Lent g → WrittenAsPlain g
 written-as-plain g L qs as′ w r s out =
-    by-cases (ltb 3 s) (above g L qs as′ w r s out)
-    (λ e. let l : s < 4 = omega (arith, ltb-false 3 s e) in
+    by-cases (ltb s 4)
+    (λ e. let l : s < 4 = ltb-true s 4 e in
     by-cases (sandboxAt w s .taken) (with-copy g L qs as′ w r s out l) (without g L qs as′ w r s out l))
+    (above g L qs as′ w r s out)
 
 -- ---- with room
 
-free-0 : (v : View) (s bytes room : ℕ) → s < 4 → v .opened ≡ true → isTaken (v .copy) ≡ true → bytes ≤ room → archiveRefusal v s bytes room ≡ 0
-unfolding archiveRefusal
-free-0 v s bytes room row opened taken fits = rw (le-ltb 3 s (omega (arith, row)), opened, taken, le-ltb room bytes fits)
-
 pub accepted-of : (g : Given) → Lent g → AcceptedOf g
-unfolding written
+unfolding written archiveNumber
 accepted-of g L s w S out fits =
     let roll : List Request = archiveOf (g .image) w s in
     let A = agrees g L s w S in
-    let free = free-0 (viewAt (g .image) w s) s (length roll * 43) (length out) (S .row) (is-open g L s w S) (rw (S .taken)) fits in
-    rw (sound-number (g .image) w s (length out) (agrees-tested g w (upTo g (S .after .list)) A L), free)
+    let sound = agrees-tested g w (upTo g (S .after .list)) A L in
+    rw (none-applies (viewAt (g .image) w s) s (length roll * 43) (length out)
+    (record { sound = sound; row = S .row; opened = is-open g L s w S; snapshot = rw (S .taken); fits = fits }))
 
 pub longest-of : (g : Given) → Lent g → LongestOf g
 longest-of g L s w S = rw (same-roll g L s w S) (longest g s (sandboxAt w s .share) (copy g L s w S) (occurs g L s w S))

@@ -1,15 +1,12 @@
 -- The snapshot that the machine keeps, its archive roll, and what is written where that is asked for.
 use Prim.Native.Nat.{ℕ, _*_}
-use mathlib.Core.Bool.{not}
 use mathlib.Core.List.{List}
 use lib.ListN.{length, getD}
-use Rattle.basics.specs.Choice.{_when_else_}
 use Rattle.interface.specs.declared.request.Request.{Request}
 use Rattle.interface.specs.Refusals.{archiveRefusal}
 use Rattle.areas.specs.Areas.{slots}
 use Rattle.state.specs.World.{World, sandboxAt}
 use Rattle.machine.specs.Step.{viewAt}
-use Rattle.state.specs.Test.{soundb}
 use Rattle.content.specs.Content.{copyRead}
 use Rattle.plain.specs.Machine.{Pages}
 use Rattle.archive.specs.Archive.{archive}
@@ -28,10 +25,7 @@ archiveOf image w s = archive s (sandboxAt w s .share) (snapshotOf image w s) im
 
 -- the first row that applies, of a sandbox and so many bytes of output memory; or 0
 unfoldable pub archiveNumber : List ℕ → World → ℕ → ℕ → ℕ
-archiveNumber image w s room =
-    -- "lent length wrong, or state unsound"
-    3 when not (soundb image w) else
-    archiveRefusal (viewAt image w s) s (length (archiveOf image w s) * 43) room
+archiveNumber image w s room = archiveRefusal (viewAt image w s) s (length (archiveOf image w s) * 43) room
 
 -- the answer, and the output memory that is left
 unfoldable pub written : List ℕ → World → ℕ → List ℕ → Written

@@ -40,7 +40,6 @@ use Rattle.kept.specs.Spare.{keptBy}
 use Rattle.areas.specs.Areas.{slots}
 use Rattle.state.specs.declared.sandbox.Sandbox.{Sandbox}
 use Rattle.state.specs.World.{World, sandboxAt}
-use Rattle.state.specs.Test.{soundb}
 use Rattle.content.specs.Content.{backingPage, pageUnder, pageRead, differing}
 use Rattle.memory.specs.Memory.{heldBy, valueAt}
 use Rattle.machine.specs.Step.{viewAt, Outcome, Stepped, step, numberAt}
@@ -81,7 +80,7 @@ count-low h = sum-le (held h) 128 (held-lt h)
 
 unrefused : (image : List ℕ) (w : World) (q : Request) → numberAt image w q ≡ 0 → refusal (viewAt image w (q .sandbox)) q ≡ 0
 unfolding numberAt
-unrefused image w q e = passed 2 _ (not (soundb image w)) (passed 1 _ (not (isCall q)) e .1) .1
+unrefused image w q e = e
 
 -- "Value: first page"
 first-low : (image : List ℕ) (w : World) (q : Request) → numberAt image w q ≡ 0 → q .code ≡ Map → firstOf (slots (sandboxAt w (q .sandbox) .present)) q ≤ 64

@@ -1,5 +1,5 @@
 -- The archive of a sandbox: what each test shows, and from it the answer behind it.
-use Prim.Native.Nat.{ℕ, _≤_}
+use Prim.Native.Nat.{ℕ, _<_}
 use mathlib.Core.Path.{_≡_, sym, _∙_}
 use mathlib.Core.Bool.{true, false}
 use mathlib.Core.List.{List}
@@ -37,7 +37,7 @@ four : (c : tie.Start) → length (c .args .machine .sandboxes) ≡ 4
 four c = search length-mapped
 
 -- is that of the world
-same-sandbox : (c : tie.Start) → c .args .sandbox ≤ 3 → sandboxIn c ≡ getD (c .args .machine .sandboxes) (c .args .sandbox) closedSandbox
+same-sandbox : (c : tie.Start) → c .args .sandbox < 4 → sandboxIn c ≡ getD (c .args .machine .sandboxes) (c .args .sandbox) closedSandbox
 same-sandbox c row = let l = four c in getD-any (c .args .machine .sandboxes) (c .args .sandbox) zeroSandbox closedSandbox (omega arith)
 
 -- ---- what is known behind each test
@@ -54,7 +54,7 @@ passes c = sym (c .before .sound .ensures) ∙ not-false (c .before .sound .resu
 abbrev behindRow : tie.Else2 → tie.Start
 behindRow c = behindState (c .before)
 
-in-row : (c : tie.Else2) → behindRow c .args .sandbox ≤ 3
+in-row : (c : tie.Else2) → behindRow c .args .sandbox < 4
 in-row c = omega (arith, c .if2 .left)
 
 same : (c : tie.Else2) → sandboxIn (behindRow c) ≡ sandboxAt (worldIn (behindRow c)) (behindRow c .args .sandbox)
