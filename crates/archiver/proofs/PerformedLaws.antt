@@ -13,7 +13,7 @@ use Rattle.interface.specs.declared.request.Request.{Request}
 use Rattle.interface.specs.Answers.{valueOf}
 use Rattle.interface.specs.Refusals.{View, isTaken, archiveRefusal}
 use Rattle.state.specs.World.{World, viewAt}
-use Rattle.state.specs.Test.{soundb}
+use Rattle.soundness.specs.Test.{soundb}
 use Rattle.archive.specs.Written.{Written, writtenAs}
 use Rattle.replay.specs.Snapshot.{archiveOf, archiveNumber, written}
 use Rattle.archiving.specs.Whole.{left}

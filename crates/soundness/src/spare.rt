@@ -10,7 +10,7 @@ ghost use Rattle.table.specs.Store.{kept as storeOf};
 ghost use Rattle.runs.specs.Row.{row};
 ghost use Rattle.kept.specs.Test.{spareb};
 ghost use Rattle.state.specs.World.{closedSandbox};
-ghost use Rattle.state.specs.Test.{runsOk};
+ghost use Rattle.soundness.specs.Test.{runsOk};
 use frames::Held;
 use runs::Runs;
 use state::sandbox::Sandbox;

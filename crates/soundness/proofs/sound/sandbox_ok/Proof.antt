@@ -10,7 +10,7 @@ use Rattle.areas.specs.Formed.{wellFormed}
 use Rattle.areas.specs.Walk.{Formed}
 use Rattle.areas.proofs.FormedLaws.{formed}
 use Rattle.areas.proofs.WalkLaws.{settled}
-use Rattle.state.specs.Test.{pagesOk}
+use Rattle.page_soundness.specs.Pages.{pagesOk}
 use Rattle.soundness.proofs.SandboxLaws.{present-fails, snapshot-fails, pages-fail, charge-fails, record-decides}
 use Rattle.soundness.proofs.sound.sandbox_ok.Statement.{statement}
 use Rattle.soundness.proofs.sound.sandbox_ok.Tie as tie

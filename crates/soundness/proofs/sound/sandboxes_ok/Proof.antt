@@ -16,9 +16,9 @@ use Rattle.frames.specs.Frames.{noneHeld}
 use Rattle.table.specs.Store.{Store, kept}
 use Rattle.state.specs.declared.sandbox.Sandbox.{Sandbox}
 use Rattle.state.specs.World.{World, sandboxAt, closedSandbox}
-use Rattle.state.specs.Test.{sandboxOk, runsOkAt}
-use Rattle.state.proofs.TestLaws.{passed-true}
-use Rattle.state.proofs.Room.{passed-share}
+use Rattle.soundness.specs.Test.{sandboxOk, runsOkAt}
+use Rattle.soundness.proofs.TestLaws.{passed-true}
+use Rattle.soundness.proofs.Room.{passed-share}
 use Rattle.soundness.proofs.SandboxLaws.{sandbox-stops, runs-decide}
 use Rattle.soundness.proofs.sound.sandboxes_ok.Statement.{statement}
 use Rattle.soundness.proofs.sound.sandboxes_ok.Tie as tie

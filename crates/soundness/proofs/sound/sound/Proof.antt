@@ -6,7 +6,7 @@ use borrow.Author.Needs.{needs}
 use borrow.Author.Tests.{not-true, not-false}
 use Rattle.marks.specs.Marks.{marksb}
 use Rattle.state.specs.World.{World, worldOf, framesOf, lengthsOk}
-use Rattle.state.proofs.TestLaws.{Lengths, lengths-true}
+use Rattle.state.proofs.LentLaws.{Lengths, lengths-true}
 use Rattle.soundness.proofs.StateLaws.{lengths-fail, marks-fail, sandboxes-fail, spare-fails, shares-decide}
 use Rattle.soundness.proofs.sound.sound.Statement.{statement}
 use Rattle.soundness.proofs.sound.sound.Tie as tie

@@ -5,7 +5,7 @@ use borrow.Author.Needs.{needs}
 use borrow.Author.Tests.{not-true, not-false}
 use Rattle.basics.proofs.TestLaws.{length-mapped}
 use Rattle.table.specs.Store.{kept}
-use Rattle.state.specs.Test.{noneKept}
+use Rattle.soundness.specs.Test.{noneKept}
 use Rattle.soundness.proofs.SpareLaws.{keeps-none, closed-keeps, open-keeps}
 use Rattle.soundness.proofs.spare.runs_ok.Statement.{statement}
 use Rattle.soundness.proofs.spare.runs_ok.Tie as tie
