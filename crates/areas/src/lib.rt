@@ -9,3 +9,7 @@ mod count;
 mod gap;
 pub mod slot;
 mod walk;
+
+pub use area::Area;
+pub use area::Areas;
+pub use basic::is_inside;

@@ -24,38 +24,13 @@ pub fn pages_ok(present: Areas, snapshot: Areas, table: &[u16], s: u8) -> bool
     requires { ⌜ length (now table) ≡ 512 ⌝ }
     requires { ⌜ Formed present ⌝ }
     requires { ⌜ Formed snapshot ⌝ }
-    ensures { λ r. ⌜ ((h : Words) (pool : List ℕ) → r ≡ pagesOk (kept h pool (now (table .entry))) s present snapshot) ⌝ }
+    ensures { λ r. ⌜ ((h : Words) (pool : List ℕ) →
+        r ≡ pagesOk (kept h pool (now (table .entry))) s present snapshot) ⌝ }
 {
     if (present.count == 0) & (snapshot.count == 0) {
         return names_none(table, s);
     }
-    each_page_ok(present, snapshot, table, s)
-}
-
-// Whether no entry of the sandbox names a frame. All are looked at, which takes no branch.
-fn names_none(table: &[u16], s: u8) -> bool
-    requires { ⌜ s < 4 ⌝ }
-    requires { ⌜ length (now table) ≡ 512 ⌝ }
-    ensures { λ r. ⌜ ((h : Words) (pool : List ℕ) → r ≡ every (namesNone (kept h pool (now (table .entry))) s) 0 64) ⌝ }
-{
-    let mut none = true;
-    for i in 0..Areas::PAGES {
-        let page = PageNo(i);
-        let front = table::entry::front(table, s, page);
-        let back = table::entry::back(table, s, page);
-        none = none & ((front == 0) & (back == 0));
-    }
-    none
-}
-
-// Page by page, with a walk along the present areas and one along the snapshot's.
-fn each_page_ok(present: Areas, snapshot: Areas, table: &[u16], s: u8) -> bool
-    requires { ⌜ s < 4 ⌝ }
-    requires { ⌜ length (now table) ≡ 512 ⌝ }
-    requires { ⌜ Formed present ⌝ }
-    requires { ⌜ Formed snapshot ⌝ }
-    ensures { λ r. ⌜ ((h : Words) (pool : List ℕ) → r ≡ pagesOk (kept h pool (now (table .entry))) s present snapshot) ⌝ }
-{
+    // Page by page, with a walk along the present areas and one along the snapshot's.
     let mut p: u8 = 0;
     let mut q: u8 = 0;
     let mut here = present.list[0];
@@ -77,6 +52,22 @@ fn each_page_ok(present: Areas, snapshot: Areas, table: &[u16], s: u8) -> bool
         }
     }
     true
+}
+
+// Whether no entry of the sandbox names a frame. All are looked at, which takes no branch.
+fn names_none(table: &[u16], s: u8) -> bool
+    requires { ⌜ s < 4 ⌝ }
+    requires { ⌜ length (now table) ≡ 512 ⌝ }
+    ensures { λ r. ⌜ ((h : Words) (pool : List ℕ) → r ≡ every (namesNone (kept h pool (now (table .entry))) s) 0 64) ⌝ }
+{
+    let mut none = true;
+    for i in 0..Areas::PAGES {
+        let page = PageNo(i);
+        let front = table::entry::front(table, s, page);
+        let back = table::entry::back(table, s, page);
+        none = none & ((front == 0) & (back == 0));
+    }
+    none
 }
 
 fn page_ok(present: Slot, snapshot: Slot, front: u16, back: u16) -> bool

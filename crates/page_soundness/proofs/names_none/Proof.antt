@@ -1,3 +1,4 @@
+-- No entry of the pages that were passed names a frame: one page more at each turn.
 use native.Mathlib.Omega.{arith}
 use Prim.Native.Nat.{ℕ, _-_, _≤_}
 use mathlib.Core.Path.{_≡_, refl, sym, ap, _∙_}
@@ -25,11 +26,15 @@ loop-holds : tie.Need-loop-holds Inv-loop μ-loop
 unfolding every
 loop-holds c = (omega arith, refl)
 
+-- the way back from where a fact is needed to where it was learned
+abbrev start-of-turn : tie.In-loop Inv-loop μ-loop → tie.Start Inv-loop μ-loop
+start-of-turn c = c .before .before .before
+
 front-requires : tie.Need-front-requires Inv-loop μ-loop
-front-requires c κs = (c .before .before .before .pre .0, (c .loop-test .taken, c .before .before .before .pre .1))
+front-requires c κs = (start-of-turn c .pre .0, (c .loop-test .taken, start-of-turn c .pre .1))
 
 back-requires : tie.Need-back-requires Inv-loop μ-loop
-back-requires c κs = (c .before .before .before .before .pre .0, (c .before .loop-test .taken, c .before .before .before .before .pre .1))
+back-requires c κs = (start-of-turn (c .before) .pre .0, (c .before .loop-test .taken, start-of-turn (c .before) .pre .1))
 
 add-i : tie.Need-add-i Inv-loop μ-loop
 add-i c = omega arith
@@ -37,14 +42,20 @@ add-i c = omega arith
 loop-less : tie.Need-loop-less Inv-loop μ-loop
 loop-less c = omega arith
 
+abbrev at-loop : tie.After-back Inv-loop μ-loop → tie.At-loop Inv-loop μ-loop
+at-loop c = c .before .before .before
+
 loop-again : tie.Need-loop-again Inv-loop μ-loop
 loop-again c =
-    let s = c .before .before .before .before .before in
-    let l = c .before .before .before .loop in
+    let s = start-of-turn (c .before .before) in
+    let l = at-loop c .loop in
     (omega arith, rw (c .before .front .ensures, c .back .ensures, l .inv .1) (sym (every-last (of (s .args .table .now) (s .args .s)) (l .i))))
 
+abbrev start-of-loop-end : tie.After-loop Inv-loop μ-loop → tie.Start Inv-loop μ-loop
+start-of-loop-end c = c .before .before .before
+
 returns : tie.Need-returns Inv-loop μ-loop
-returns c = λ h pool. let s = c .before .before .before in c .before .loop .inv .1 ∙ ap (every (of (s .args .table .now) (s .args .s)) 0) (omega arith)
+returns c = λ h pool. let s = start-of-loop-end c in c .before .loop .inv .1 ∙ ap (every (of (s .args .table .now) (s .args .s)) 0) (omega arith)
 
 pub names-none-spec : {M : Type 1} → statement M
 names-none-spec =
