@@ -11,7 +11,6 @@ ghost use Rattle.state.specs.World.{World, worldOf, sandboxAt};
 ghost use Rattle.soundness.specs.Test.{recordOk, sandboxOk, runsOkAt, soundb};
 use crate::spare::runs_ok;
 use crate::spare::spare_ok;
-use interface::request::Request;
 use packing::formed::well_formed;
 use page_soundness::pages_ok;
 use pages::Page;
@@ -44,14 +43,14 @@ pub fn sound(m: Machine, pool: &[u8], table: &[u16], image: &[u8]) -> bool
 }
 
 // Each sandbox, then its runs.
-fn sandboxes_ok(sandboxes: [Sandbox; 4], table: &[u16], images: u8) -> bool
+fn sandboxes_ok(sandboxes: [Sandbox; Machine::SANDBOXES], table: &[u16], images: u8) -> bool
     requires { ⌜ images ≤ 64 ⌝ }
     requires { ⌜ length (now table) ≡ 512 ⌝ }
-    ensures { λ r. ⌜
-        ((h : Words) (pool : List ℕ) → let w : World = record { sandboxes = sandboxes; store = kept h pool (now (table .entry)) } in
+    ensures { λ r. ⌜ ((h : Words) (pool : List ℕ) →
+        let w : World = record { sandboxes = sandboxes; store = kept h pool (now (table .entry)) } in
         r ≡ every (λ s. sandboxOk images (w .store) s (sandboxAt w s) && runsOkAt w s) 0 4) ⌝ }
 {
-    for s in 0..4u8 {
+    for s in 0..Machine::COUNT {
         let k = s as usize;
         let b = sandboxes[k];
         if !sandbox_ok(b, table, s, images) {
@@ -91,7 +90,7 @@ fn sandbox_ok(b: Sandbox, table: &[u16], s: u8, images: u8) -> bool
 fn record_ok(opened: bool, share: u8, taken: bool, present: u8, snapshot: u8) -> bool
     ensures { λ r. ⌜ r ≡ recordOk opened share taken present snapshot ⌝ }
 {
-    let shared = !opened | ((1 <= share) & (share <= 128));
+    let shared = !opened | ((1 <= share) & (share <= Sandbox::MOST_SHARE));
     let untaken = !!taken | (snapshot == 0);
     let closed = !!opened | ((share == 0) & ((present == 0) & !taken));
     shared & (untaken & closed)

@@ -6,6 +6,10 @@ use Rattle.pages.proofs.PartLaws.{length-zeros, length-lent, frame-back-as}
 use Rattle.pool.proofs.clear_frame.Statement.{statement}
 use Rattle.pool.proofs.clear_frame.Tie as tie
 
+-- the way back from where a fact is needed to where it was learned
+abbrev at-start : tie.After-clear → tie.Start
+at-start c = c .before .before .before .before
+
 cast-start : tie.Need-cast-start
 cast-start c = search needs
 
@@ -33,7 +37,7 @@ same-length c = search needs
 returns : tie.Need-returns
 returns c =
     let m = c .before .before in
-    let start = m .before .before .before .before in
+    let start = at-start m in
     let xs = start .args .pool .now in
     let f = start .args .f .0 in
     frame-back-as 256 xs (m .clear .last .0) (zeros 256) f
