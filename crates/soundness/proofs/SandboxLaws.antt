@@ -5,12 +5,20 @@ use mathlib.Core.Bool.{Bool, true, false, _&&_}
 use borrow.Author.Tests.{le-leb, lt-leb}
 use Rattle.interface.specs.Slots.{chargeOf}
 use Rattle.table.specs.Store.{Store}
+use Rattle.areas.specs.declared.area.Areas.{Areas}
 use Rattle.areas.specs.Areas.{slots}
 use Rattle.areas.specs.Formed.{wellFormed}
+use Rattle.areas.specs.Walk.{Formed}
+use Rattle.areas.proofs.FormedLaws.{formed}
+use Rattle.areas.proofs.WalkLaws.{settled}
 use Rattle.page_soundness.specs.Pages.{pagesOk}
 use Rattle.state.specs.declared.sandbox.Sandbox.{Sandbox}
 use Rattle.state.specs.World.{copyOf}
 use Rattle.soundness.specs.Test.{recordOk, sandboxOk, runsOk}
+
+-- areas whose test was passed are well formed, as a walk along them asks
+pub tested-formed : (images : ℕ) (a : Areas) → wellFormed images a ≡ true → images ≤ 64 → Formed a
+tested-formed images a passed few = settled images a (formed images a passed) few
 
 module _ (images : ℕ) (st : Store) (s : ℕ) (b : Sandbox) where
   pub present-fails : wellFormed images (b .present) ≡ false → false ≡ sandboxOk images st s b

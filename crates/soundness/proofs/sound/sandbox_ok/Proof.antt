@@ -9,10 +9,8 @@ use Rattle.frames.specs.declared.Held.{Held}
 use Rattle.table.specs.Store.{Store, kept}
 use Rattle.areas.specs.Formed.{wellFormed}
 use Rattle.areas.specs.Walk.{Formed}
-use Rattle.areas.proofs.FormedLaws.{formed}
-use Rattle.areas.proofs.WalkLaws.{settled}
 use Rattle.page_soundness.specs.Pages.{pagesOk}
-use Rattle.soundness.proofs.SandboxLaws.{present-fails, snapshot-fails, pages-fail, charge-fails, record-decides}
+use Rattle.soundness.proofs.SandboxLaws.{tested-formed, present-fails, snapshot-fails, pages-fail, charge-fails, record-decides}
 use Rattle.soundness.proofs.sound.sandbox_ok.Statement.{statement}
 use Rattle.soundness.proofs.sound.sandbox_ok.Tie as tie
 
@@ -34,17 +32,13 @@ present-hold : (c : tie.Else1) → wellFormed (start1 c .args .images) (start1 c
 present-hold c = sym (c .before .well-formed .ensures .0) ∙ not-false (c .before .well-formed .result) (c .if1 .left)
 
 present-formed : (c : tie.Else1) → Formed (start1 c .args .b .present)
-present-formed c =
-    let s = start1 c in
-    settled (s .args .images) (s .args .b .present) (formed (s .args .images) (s .args .b .present) (present-hold c)) (s .pre .1 .0)
+present-formed c = tested-formed _ _ (present-hold c) (start1 c .pre .1 .0)
 
 snapshot-hold : (c : tie.Else2) → wellFormed (start2 c .args .images) (start2 c .args .b .snapshot) ≡ true
 snapshot-hold c = sym (c .before .well-formed2 .ensures .0) ∙ not-false (c .before .well-formed2 .result) (c .if2 .left)
 
 snapshot-formed : (c : tie.Else2) → Formed (start2 c .args .b .snapshot)
-snapshot-formed c =
-    let s = start2 c in
-    settled (s .args .images) (s .args .b .snapshot) (formed (s .args .images) (s .args .b .snapshot) (snapshot-hold c)) (s .pre .1 .0)
+snapshot-formed c = tested-formed _ _ (snapshot-hold c) (start2 c .pre .1 .0)
 
 pages-hold : (c : tie.Else3) (h : Held) (pool : List ℕ) →
     let s = start3 c in
