@@ -13,7 +13,7 @@ use Rattle.interface.specs.declared.request.Request.{Request}
 use Rattle.interface.specs.Refusals.{View, isTaken, archiveRefusal}
 use Rattle.lines.specs.Lines.{linesOf}
 use Rattle.state.specs.World.{World, lengthsOk}
-use Rattle.state.specs.Test.{soundb}
+use Rattle.soundness.specs.Test.{soundb}
 use Rattle.plain.specs.Machine.{Given, Pages, viewOf, shares}
 use Rattle.plain.specs.Lists.{upTo}
 use Rattle.claims.proofs.Claims.{claim-start}

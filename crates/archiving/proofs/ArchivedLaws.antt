@@ -10,7 +10,7 @@ use Rattle.interface.specs.declared.answer.Refusal.the-variants.{Unsound, NotOp
 use Rattle.interface.specs.declared.request.Request.{Request}
 use Rattle.interface.specs.Refusals.{archiveRefusal}
 use Rattle.state.specs.World.{World, sandboxAt}
-use Rattle.state.specs.Test.{soundb}
+use Rattle.soundness.specs.Test.{soundb}
 use Rattle.archive.specs.Written.{writtenAs}
 use Rattle.replay.specs.Snapshot.{archiveOf, archiveNumber, written}
 use Rattle.archiving.specs.Whole.{left, fitted}

@@ -17,8 +17,8 @@ use Rattle.areas.specs.Walk.{Formed}
 use Rattle.areas.proofs.FormedLaws.{near}
 use Rattle.state.specs.declared.sandbox.Sandbox.{Sandbox}
 use Rattle.state.specs.World.{World, sandboxAt, framesOf, pagesIn}
-use Rattle.state.specs.Test.{soundb}
-use Rattle.state.proofs.TestLaws.{tested}
+use Rattle.soundness.specs.Test.{soundb}
+use Rattle.soundness.proofs.TestLaws.{tested}
 use Rattle.plain.specs.Machine.{Pages}
 use Rattle.content.specs.Content.{copyRead}
 use Rattle.content.proofs.ReadingLaws.{source-there}

@@ -3,7 +3,6 @@ use Prim.Native.Nat.{ℕ, zero, suc, _+_, _-_, _≤_, _<_}
 use mathlib.Core.Path.{_≡_, refl, sym, _∙_, ap}
 use mathlib.Core.Bool.{Bool, true, false, false≢true}
 use native.Mathlib.Omega.{arith}
-use native.Mathlib.Numerals.{add-one}
 use lib.Dec.{ltb, eqb}
 use lib.ListN.{getD}
 use borrow.Author.Tests.{ltb-true, ltb-false, lt-ltb, le-ltb, eqb-true, eqb-false, eq-eqb, not-true}
@@ -18,6 +17,7 @@ use Rattle.areas.specs.declared.area.Area.{Area}
 use Rattle.areas.specs.declared.area.Areas.{Areas}
 use Rattle.areas.specs.Areas.{none, covers, slotOf, slots}
 use Rattle.areas.specs.Formed.{WellFormed}
+use Rattle.areas.proofs.FormedLaws.{order}
 use Rattle.areas.proofs.SlotLaws.{covers-none, Found, found, slot-hit}
 
 -- neighbouring pages of one area join
@@ -36,14 +36,6 @@ module _ (images : ℕ) (s : Areas) (w : WellFormed images s) where
   abbrev at : ℕ → Area
   at k = getD (s .list) k none
 
-  -- an area ends before each later one starts
-  pub order : (j k : ℕ) → j < k → k < s .count → at j .first .0 + at j .pages ≤ at k .first .0
-  order j zero d l = absurd (omega arith)
-  order j (suc k) d l =
-      let a = rw (add-one k) at (w .apart k (omega arith)) in
-      by-cases (eqb j k) (λ t. rw (eqb-true j k t) (a .after))
-      (λ t. omega (arith, a .after, order j k (omega (arith, eqb-false j k t)) (omega arith)))
-
   -- a mapped page lies in one of the areas
   pub area-of : (n : ℕ) → isMapped (slots s n) ≡ true → (r : Found (s .list) n) × (r .place < s .count)
   area-of n e =
@@ -58,7 +50,7 @@ module _ (images : ℕ) (s : Areas) (w : WellFormed images s) where
   pub area-slot : (n k : ℕ) → k < s .count → at k .first .0 ≤ n → n < at k .first .0 + at k .pages → slots s n ≡ slotOf (at k) n
   area-slot n k l f d =
       slot-hit (s .list) n k (inside-yes (at k .first .0) (at k .pages) n f d)
-      (λ j b. inside-past (at j .first .0) (at j .pages) n (omega (arith, order j k b l)))
+      (λ j b. inside-past (at j .first .0) (at j .pages) n (omega (arith, order images s w j k b l)))
 
   -- a page of an area that starts before it joins the page before
   joins-before : (n k : ℕ) → k < s .count → covers (at k) (suc n) ≡ true → slotOf (at k) (suc n) ≡ slots s (suc n) → at k .first .0 ≤ n

@@ -1,9 +1,10 @@
 -- Well formed areas: the computed test says exactly what "A state is sound if" lists.
-use Prim.Native.Nat.{ℕ, _+_, _-_, _≤_, _<_}
+use Prim.Native.Nat.{ℕ, zero, suc, _+_, _-_, _≤_, _<_}
 use mathlib.Core.Path.{_≡_, refl}
 use mathlib.Core.Bool.{Bool, true, not, _&&_, false≢true}
 use native.Mathlib.Omega.{arith}
 use native.Mathlib.Decide.{decLt}
+use native.Mathlib.Numerals.{add-one}
 use lib.Dec.{leb, ltb, eqb}
 use lib.ListN.{length, getD, List·getD-eq-default}
 use borrow.Author.Tests.{ltb-true, ltb-false, leb-true, eqb-true, eqb-false, lt-ltb, le-ltb, le-leb, eq-eqb, ne-eqb, not-true}
@@ -144,3 +145,11 @@ module _ (images : ℕ) (s : Areas) where
       in-use : (k : ℕ) → Dec (k < s .count) → startOf (at k .backing) ≤ 64
       in-use k (yes e) = omega (arith, start-small (at k .backing) (at k .pages) (w .each k e .image))
       in-use k (no e) = rw (w .rest k (omega arith)) (omega arith)
+
+  -- an area ends before each later one starts
+  pub order : WellFormed images s → (j k : ℕ) → j < k → k < s .count → at j .first .0 + at j .pages ≤ at k .first .0
+  order w j zero d l = absurd (omega arith)
+  order w j (suc k) d l =
+      let a = rw (add-one k) at (w .apart k (omega arith)) in
+      by-cases (eqb j k) (λ t. rw (eqb-true j k t) (a .after))
+      (λ t. omega (arith, a .after, order w j k (omega (arith, eqb-false j k t)) (omega arith)))

@@ -1,19 +1,22 @@
--- What well formed areas say of each page: slots in order, and nothing from page 64 on; and areas of which there are none.
+-- What well formed areas say of each page: slots in order, nothing mapped from page 64 on; and areas of which there are none.
 use Prim.Native.Nat.{ℕ, suc, _-_, _<_}
-use mathlib.Core.Path.{_≡_, refl, sym, _∙_, fun-ext}
+use mathlib.Core.Path.{_≡_, refl, sym, ap, _∙_, fun-ext}
 use mathlib.Core.Bool.{true, false, false≢true}
 use mathlib.Core.List.{List, [], _∷_}
 use native.Mathlib.Omega.{arith}
 use native.Mathlib.Decide.{decLt}
+use lib.Dec.{ltb}
 use lib.ListN.{getD, replicate}
 use lib.Seq.{ext-getD}
-use Rattle.basics.proofs.TestLaws.{when-cases}
+use borrow.Author.Tests.{ltb-true, ltb-false}
+use Rattle.basics.proofs.TestLaws.{by-cases, when-cases, never}
 use Rattle.basics.proofs.RangeLaws.{inside-first, inside-end, inside-past}
 use Rattle.interface.specs.declared.page.Backing.{Backing}
 use Rattle.interface.specs.declared.page.Backing.the-variants.{Anonymous, Image}
 use Rattle.interface.specs.declared.page.Slot.{Slot}
 use Rattle.interface.specs.declared.page.Slot.the-variants.{Unmapped, Mapped}
-use Rattle.interface.specs.Slots.{advance, backingAt}
+use Rattle.interface.specs.Slots.{isMapped, advance, backingAt}
+use Rattle.interface.proofs.SlotLaws.{Inside}
 use Rattle.areas.specs.declared.area.Area.{Area}
 use Rattle.areas.specs.declared.area.Areas.{Areas}
 use Rattle.areas.specs.Areas.{none, empty, covers, slotOf, slotIn, slots, Bounded}
@@ -88,3 +91,9 @@ empty-formed images =
 -- and map no page
 pub none-slots : slots empty ≡ (λ i. Unmapped)
 none-slots = fun-ext (λ i. slot-past (replicate 8 none) i (λ k. rw (empty-place 8 k) (covers-none i)))
+
+-- "lie in 0 to 63": no page past 63 is mapped
+pub slots-inside : (images : ℕ) (a : Areas) → WellFormed images a → Inside (slots a)
+unfolding Bounded
+slots-inside images a f i m =
+    by-cases (ltb i 64) (ltb-true i 64) (λ l. never (isMapped (slots a i)) m (ap isMapped (slots-bounded images a f i (ltb-false i 64 l))))

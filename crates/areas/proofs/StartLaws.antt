@@ -18,7 +18,8 @@ use Rattle.areas.specs.Areas.{none, attributesOf, slotOf, slots}
 use Rattle.areas.specs.Formed.{goesOn, WellFormed}
 use Rattle.areas.proofs.SlotLaws.{follows-more}
 use Rattle.areas.proofs.WalkLaws.{endOf}
-use Rattle.areas.proofs.FewAreas.{order, area-of, area-slot, joins-next}
+use Rattle.areas.proofs.FormedLaws.{order}
+use Rattle.areas.proofs.FewAreas.{area-of, area-slot, joins-next}
 use Rattle.areas.proofs.ToldLaws.{first-slot}
 
 -- nothing joins a page that is not mapped

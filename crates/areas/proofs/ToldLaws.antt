@@ -21,7 +21,8 @@ use Rattle.areas.specs.Areas.{none, attributesOf, slotOf, slots}
 use Rattle.areas.specs.Formed.{goesOn, WellFormed}
 use Rattle.areas.proofs.SlotLaws.{advance-zero}
 use Rattle.areas.proofs.WalkLaws.{endOf}
-use Rattle.areas.proofs.FewAreas.{order, area-of, area-slot}
+use Rattle.areas.proofs.FormedLaws.{order}
+use Rattle.areas.proofs.FewAreas.{area-of, area-slot}
 
 -- the area of a place
 abbrev at : Areas → ℕ → Area

@@ -1,5 +1,5 @@
 -- Laws of a walk along well formed areas: what stands at a page, where the walk goes next, and what is counted up to a place.
-use Prim.Native.Nat.{ℕ, zero, suc, _+_, _-_, _≤_, _<_}
+use Prim.Native.Nat.{ℕ, _+_, _≤_, _<_}
 use mathlib.Core.Path.{_≡_, refl, sym, _∙_}
 use mathlib.Core.Logic.{_⊎_, ⊎-elim}
 use mathlib.Core.Bool.{Bool, true, false, _&&_, false≢true}
@@ -19,7 +19,7 @@ use Rattle.areas.specs.Areas.{none, covers, slots, Near}
 use Rattle.areas.specs.Formed.{WellFormed}
 use Rattle.areas.specs.Walk.{Formed, slotHere}
 use Rattle.areas.proofs.SlotLaws.{covers-none, slot-past, slot-hit}
-use Rattle.areas.proofs.FormedLaws.{near}
+use Rattle.areas.proofs.FormedLaws.{near, order as formed-order}
 
 -- what `near` is said of
 pub settled : (images : ℕ) (s : Areas) → WellFormed images s → images ≤ 64 → Formed s
@@ -63,19 +63,8 @@ module _ (s : Areas) (F : Formed s) where
   near-formed = near (F .images) s (F .formed) (F .few)
 
   -- an area ends before each later one starts
-  in-order : (j d : ℕ) → j + suc d < s .count → endOf s j ≤ at (j + suc d) .first .0
-  in-order j zero l =
-      let e : j + 1 ≡ j + suc zero = omega arith in
-      rw e at (F .formed .apart j (omega arith) .after)
-  in-order j (suc d) l =
-      let e : j + suc d + 1 ≡ j + suc (suc d) = omega arith in
-      let b = F .formed .apart (j + suc d) (omega arith) .after in
-      omega (arith, in-order j d (omega arith), rw e at b)
-
   pub order : (j k : ℕ) → j < k → k < s .count → endOf s j ≤ at k .first .0
-  order j k d l =
-      let e : j + suc (k - suc j) ≡ k = omega arith in
-      rw e at (in-order j (k - suc j) (omega arith))
+  order = formed-order (F .images) s (F .formed)
 
   -- no area ends behind the last page
   pub end-small : (k : ℕ) → endOf s k ≤ 64
@@ -184,28 +173,44 @@ module _ (s : Areas) (F : Formed s) where
   pub stand-start : Standing s 0 0 (at 0)
   stand-start = record { reached = walk-start; area = refl }
 
-  module _ (page place : ℕ) (a : Area) (h : Standing s page place a) where
-    pub stand-slot : slots s page ≡ slotHere a page
-    stand-slot = rw (h .area) (walk-slot page place (h .reached))
+-- a walk with all that is known of it: along which areas, and where it stands
+pub record Walk : Type 0 where
+  pub areas : Areas
+  pub formed : Formed areas
+  pub page : ℕ
+  pub place : ℕ
+  pub area : Area
+  pub stands : Standing areas page place area
 
-    pub stand-near : startOf (a .backing) ≤ 64
-    stand-near = rw (h .area) (near-formed .at place (h .reached .small))
+module _ (w : Walk) where
+  pub walk-says : slots (w .areas) (w .page) ≡ slotHere (w .area) (w .page)
+  walk-says = rw (w .stands .area) (walk-slot (w .areas) (w .formed) (w .page) (w .place) (w .stands .reached))
 
-    abbrev left : Bool
-    left = ltb (place + 1) (s .count) && leb (a .first .0 + a .pages) (page + 1)
+  pub walk-near : startOf (w .area .backing) ≤ 64
+  walk-near = rw (w .stands .area) (near-formed (w .areas) (w .formed) .at (w .place) (w .stands .reached .small))
 
-    stays : left ≡ false → Standing s (page + 1) place a
-    stays e = record { reached = rw (rw (h .area) at e) at (walk-on page place (h .reached)); area = h .area }
+  -- whether the area is left at the page after
+  abbrev left : Bool
+  left = ltb (w .place + 1) (w .areas .count) && leb (w .area .first .0 + w .area .pages) (w .page + 1)
 
-    goes : left ≡ true → Standing s (page + 1) (place + 1) (at (place + 1))
-    goes e = record { reached = rw (rw (h .area) at e) at (walk-on page place (h .reached)); area = refl }
+  abbrev nextArea : Area
+  nextArea = getD (w .areas .list) (w .place + 1) none
 
-    -- where the area is left there is a next place
-    pub stand-more : (r : Bool) → r ≡ left → r ≡ true → place + 1 < 8
-    stand-more r e t = goes (sym e ∙ t) .reached .small
+  on : Reached (w .areas) (w .page + 1) (w .page + 1 + 1) (nextPlace (w .areas) (w .place) (w .page + 1))
+  on = walk-on (w .areas) (w .formed) (w .page) (w .place) (w .stands .reached)
 
-    -- at the page after, with the next area in hand where this one was left
-    pub stand-next : (r : Bool) (p : ℕ) (b : Area) → r ≡ left
-        → ((r ≡ true) × (p ≡ place + 1) × (b ≡ at (place + 1))) ⊎ ((r ≡ false) × (p ≡ place) × (b ≡ a))
-        → Standing s (page + 1) p b
-    stand-next r p b e = ⊎-elim (λ w. rw (w .1, w .2) (goes (sym e ∙ w .0))) (λ w. rw (w .1, w .2) (stays (sym e ∙ w .0)))
+  stays : left ≡ false → Standing (w .areas) (w .page + 1) (w .place) (w .area)
+  stays e = record { reached = rw (rw (w .stands .area) at e) at on; area = w .stands .area }
+
+  goes : left ≡ true → Standing (w .areas) (w .page + 1) (w .place + 1) nextArea
+  goes e = record { reached = rw (rw (w .stands .area) at e) at on; area = refl }
+
+  -- where the area is left there is a next place
+  pub walk-more : (r : Bool) → r ≡ left → r ≡ true → w .place + 1 < 8
+  walk-more r e t = goes (sym e ∙ t) .reached .small
+
+  -- at the page after, with the next area in hand where this one was left
+  pub walk-goes : (r : Bool) (p : ℕ) (b : Area) → r ≡ left
+      → ((r ≡ true) × (p ≡ w .place + 1) × (b ≡ nextArea)) ⊎ ((r ≡ false) × (p ≡ w .place) × (b ≡ w .area))
+      → Standing (w .areas) (w .page + 1) p b
+  walk-goes r p b e = ⊎-elim (λ x. rw (x .1, x .2) (goes (sym e ∙ x .0))) (λ x. rw (x .1, x .2) (stays (sym e ∙ x .0)))

@@ -8,3 +8,7 @@ pub mod basic;
 mod count;
 mod gap;
 mod walk;
+
+pub use area::Area;
+pub use area::Areas;
+pub use basic::is_inside;

@@ -15,8 +15,8 @@ use Rattle.table.specs.Store.{contents}
 use Rattle.kept.specs.Spare.{Words}
 use Rattle.state.specs.World.{World, sandboxAt, closedSandbox, rowsOf}
 use Rattle.state.specs.Sound.{Sound}
-use Rattle.state.specs.Test.{soundb}
-use Rattle.state.proofs.TestLaws.{sound-true, sound-of}
+use Rattle.soundness.specs.Test.{soundb}
+use Rattle.soundness.proofs.TestLaws.{sound-true, sound-of}
 use Rattle.machine.specs.Step.{viewAt, sandboxThen, numberAt, Outcome, Stepped}
 use Rattle.machine.proofs.CallLaws.{number-two, number-three, number-rest}
 use Rattle.simulation.proofs.StepLaws.{number-is, refused-leaves}

@@ -7,7 +7,7 @@ use Rattle.interface.specs.declared.request.Request.{Request}
 use Rattle.interface.specs.Answers.{Answered}
 use Rattle.state.specs.World.{World, started}
 use Rattle.state.specs.Sound.{Sound}
-use Rattle.state.proofs.TestLaws.{lengths-true}
+use Rattle.state.proofs.LentLaws.{lengths-true}
 use Rattle.state.proofs.StartLaws.{start-world}
 use Rattle.machine.specs.Step.{step, Outcome, Stepped}
 use Rattle.plain.specs.Machine.{Given, Plain, fresh, after, answers, afterAll}

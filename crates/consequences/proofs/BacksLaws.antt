@@ -29,8 +29,9 @@ use Rattle.kept.specs.Test.{keptTo, blankb, frameOk, spareb}
 use Rattle.areas.specs.Areas.{slots}
 use Rattle.state.specs.declared.sandbox.Sandbox.{Sandbox}
 use Rattle.state.specs.World.{World, sandboxAt, framesOf, pagesIn, lengthsOk, rowsOf}
-use Rattle.state.specs.Test.{pagesOk, runsOk, sandboxOk, sandboxesOk, runsOkAt, keptOk, soundb}
-use Rattle.state.proofs.TestLaws.{Tested, tested}
+use Rattle.page_soundness.specs.Pages.{pagesOk}
+use Rattle.soundness.specs.Test.{runsOk, sandboxOk, sandboxesOk, runsOkAt, keptOk, soundb}
+use Rattle.soundness.proofs.TestLaws.{Tested, tested}
 use Rattle.content.specs.Content.{pageUnder, pageRead, copyRead, differing}
 use Rattle.content.proofs.CompareLaws.{passed-over}
 use Rattle.memory.specs.Memory.{valueAt}

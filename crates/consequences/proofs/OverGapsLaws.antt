@@ -33,7 +33,8 @@ use Rattle.packing.proofs.KeptLaws.{repack-slots, pack-slots}
 use Rattle.state.specs.declared.sandbox.Sandbox.{Sandbox}
 use Rattle.state.specs.World.{World, sandboxAt, withPresent, closedSandbox, pagesIn}
 use Rattle.state.specs.Sound.{SoundAt, Sound}
-use Rattle.state.proofs.TestLaws.{slots-inside, sound-of}
+use Rattle.soundness.proofs.TestLaws.{sound-of}
+use Rattle.areas.proofs.OrderLaws.{slots-inside}
 use Rattle.state.proofs.SettledLaws.{settled-at}
 use Rattle.rules.specs.After.{packedAfter, takenAfter, snapshotAfter}
 use Rattle.memory.specs.Memory.{givesAt, runsAfter, storeAfter, valueAt}

@@ -27,8 +27,8 @@ use Rattle.marks.specs.Marks.{addEntry, marksTo, marksb}
 use Rattle.state.specs.World.{World, worldOf, freshMachine, started, pagesIn, lengthsOk}
 use Rattle.state.specs.Start.{startedBy}
 use Rattle.state.specs.Lengths.{Lending, lendings}
-use Rattle.state.specs.Test.{soundb}
-use Rattle.state.proofs.TestLaws.{lengths-true}
+use Rattle.soundness.specs.Test.{soundb}
+use Rattle.state.proofs.LentLaws.{lengths-true}
 use Rattle.machine.specs.Step.{Outcome, Stepped, numberAt}
 use Rattle.machine.proofs.CallLaws.{number-two, number-three}
 use Rattle.plain.specs.Machine.{Given, fresh, closed, valueAt, coreValue, held, answer, answers}

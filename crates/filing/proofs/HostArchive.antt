@@ -13,7 +13,7 @@ use Rattle.interface.specs.Answers.{Answered}
 use Rattle.interface.specs.Refusals.{View, isTaken, archiveRefusal}
 use Rattle.state.specs.World.{World, sandboxAt, copyOf}
 use Rattle.machine.specs.Step.{viewAt}
-use Rattle.state.specs.Test.{soundb}
+use Rattle.soundness.specs.Test.{soundb}
 use Rattle.layout.specs.Layout.{isState}
 use Rattle.layout.specs.Claims.{machineOf}
 use Rattle.layout.proofs.Claims.{passes}

@@ -24,7 +24,7 @@ fn started(pool: &mut [u8; 2048], table: &mut [u16; 512]) -> Machine
     ensures { λ r. ⌜ worldOf r (now (pool .exit)) (now (table .exit)) ≡ startedBy (now (pool .entry)) (now (table .entry)) [] ⌝ }
 {
     let image = [0u8; 0];
-    let begun = soundness::start::start(pool, table, &image);
+    let begun = starting::start(pool, table, &image);
     begun.machine
 }
 

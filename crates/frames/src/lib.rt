@@ -7,10 +7,16 @@ ghost use Prim.Native.Nat.{_≤_, _<_};
 ghost use lib.Dec.{eqb};
 ghost use Rattle.basics.specs.Ranges.{one, lowest};
 ghost use Rattle.frames.specs.Word.{bit, putBit};
-ghost use Rattle.frames.specs.Frames.{held, mark, noneHeld, sameHeld, countHeld, greatest, leastHeld, bothHeld, apartHeld};
+ghost use Rattle.frames.specs.Frames.{held, mark, noneHeld, sameHeld, countHeld, greatest};
+ghost use Rattle.frames.specs.Frames.{leastHeld, bothHeld, apartHeld};
 
 // The number of a frame of the pool: no page number and no image page number.
 pub struct FrameNo(pub u8);
+
+impl FrameNo {
+    // "The pool is 1 to 128 frames of 256 bytes."
+    pub const COUNT: usize = 128;
+}
 
 // The marks of frames 0 to 63, and of 64 to 127.
 pub struct Held {
@@ -25,6 +31,15 @@ pub enum Free {
 }
 
 impl Held {
+    // The frames that one of the two words marks.
+    const WORD: u8 = 64;
+
+    // The last place of a word.
+    const LAST: u8 = Held::WORD - 1;
+
+    // A word that marks each of them.
+    const ALL: u64 = 0xffff_ffff_ffff_ffff;
+
     // No held frame.
     pub fn none() -> Held
         ensures { λ r. ⌜ r ≡ noneHeld ⌝ }
@@ -38,10 +53,10 @@ impl Held {
         ensures { λ r. ⌜ r ≡ eqb (held self (frame .0)) 1 ⌝ }
     {
         let n = frame.0;
-        if n < 64 {
+        if n < Held::WORD {
             has(self.low, n)
         } else {
-            has(self.high, n - 64)
+            has(self.high, n - Held::WORD)
         }
     }
 
@@ -73,13 +88,13 @@ impl Held {
         requires { ⌜ frames ≤ 128 ⌝ }
         ensures { λ r. ⌜ r ≡ greatest (held self) frames ⌝ }
     {
-        if frames <= 64 {
+        if frames <= Held::WORD {
             return greatest_unset(self.low, frames);
         }
-        let high = greatest_unset(self.high, frames - 64);
+        let high = greatest_unset(self.high, frames - Held::WORD);
         match high {
-            Free::Frame(f) => Free::Frame(FrameNo(64 + f.0)),
-            Free::None => greatest_unset(self.low, 64),
+            Free::Frame(f) => Free::Frame(FrameNo(Held::WORD + f.0)),
+            Free::None => greatest_unset(self.low, Held::WORD),
         }
     }
 
@@ -95,10 +110,10 @@ impl Held {
         ensures { λ r. ⌜ r ≡ leastHeld self ⌝ }
     {
         let low = lowest_set(self.low);
-        if low < 64 {
+        if low < Held::WORD {
             return low;
         }
-        64 + lowest_set(self.high)
+        Held::WORD + lowest_set(self.high)
     }
 
     // The frames that either marks.
@@ -132,7 +147,7 @@ fn marked(marks: Held, frame: FrameNo, on: bool) -> Held
     ensures { λ r. ⌜ r ≡ mark marks (frame .0) (one on) ⌝ }
 {
     let n = frame.0;
-    if n < 64 {
+    if n < Held::WORD {
         Held {
             low: put(marks.low, n, on),
             high: marks.high,
@@ -140,7 +155,7 @@ fn marked(marks: Held, frame: FrameNo, on: bool) -> Held
     } else {
         Held {
             low: marks.low,
-            high: put(marks.high, n - 64, on),
+            high: put(marks.high, n - Held::WORD, on),
         }
     }
 }
@@ -173,10 +188,10 @@ fn greatest_unset(word: u64, places: u8) -> Free
     if places == 0 {
         return Free::None;
     }
-    let free = !word & (0xffff_ffff_ffff_ffffu64 >> (64 - places));
+    let free = !word & (Held::ALL >> (Held::WORD - places));
     if free == 0 {
         return Free::None;
     }
     let zeros = u64::leading_zeros(free) as u8;
-    Free::Frame(FrameNo(63 - zeros))
+    Free::Frame(FrameNo(Held::LAST - zeros))
 }

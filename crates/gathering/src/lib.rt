@@ -30,7 +30,8 @@ pub fn gathered(table: &[u16], present: Areas, runs: Runs, sandbox: u8) -> Runs
     requires { ⌜ Formed present ⌝ }
     requires { ⌜ length (now table) ≡ 512 ⌝ }
     requires { ⌜ ((k : ℕ) → getD (now table) k 0 ≤ 128) ⌝ }
-    ensures { λ r. ⌜ ((h : Words) (pool : List ℕ) → r ≡ tabled (rowRewound (storeOf h pool (now (table .entry))) sandbox (slots present) (row runs))) ⌝ }
+    ensures { λ r. ⌜ ((h : Words) (pool : List ℕ) →
+        r ≡ tabled (rowRewound (storeOf h pool (now (table .entry))) sandbox (slots present) (row runs))) ⌝ }
 {
     let count = present.count as usize;
     let mut all = runs;

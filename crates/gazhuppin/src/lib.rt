@@ -12,7 +12,7 @@ ghost use Rattle.gazhuppin.specs.FromStart.{FromStart};
 use lines::Line;
 use lines::lines_of;
 use playing::play;
-use soundness::start::start;
+use starting::start;
 
 pub mod calls;
 

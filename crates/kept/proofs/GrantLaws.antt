@@ -15,10 +15,10 @@ use Rattle.frames.proofs.PairLaws.{least-found}
 use Rattle.pages.specs.Parts.{zeros}
 use Rattle.pages.proofs.PartLaws.{length-zeros}
 use Rattle.marks.proofs.NamedLaws.{same-or}
-use Rattle.table.specs.Store.{Store, entry, contents, Filed, Tidy, put, take}
+use Rattle.table.specs.Store.{Store, entry, contents, Filed, Tidy, take}
 use Rattle.table.proofs.StoreLaws.{Changed, none-entry, taken}
 use Rattle.kept.specs.Spare.{Rows, lengths, Spare, leftOf, grantTo, withRun}
-use Rattle.kept.proofs.SpareLaws.{kept-with, run-kept, spare-step}
+use Rattle.kept.proofs.SpareLaws.{kept-with, run-kept, take-marks, spare-step}
 
 -- ---- the smallest frames of a run
 
@@ -57,10 +57,6 @@ pub record Granted (C : ℕ → Type 0) (size n first : ℕ) (run : Held) (st : 
   -- each frame is where it was: a mark is gained where one is lost from the run
   pub marks : (f : ℕ) → f < 128 → held (r .marks) f + held (leftOf run j) f ≡ held (st .marks) f + held run f
 
-take-marks : (size k f : ℕ) (s : Store) → take size k f (zeros size) s .marks ≡ mark (s .marks) f 1
-unfolding take put
-take-marks size k f s = refl
-
 module _ {C : ℕ → Type 0} (size n first : ℕ) (run : Held) (st : Store) (T : Tidy C size n st) (m : ℕ)
     (enough : m ≤ countHeld run) (place : first + m ≤ 512) (empty : (k : ℕ) → k < m → contents size st (first + k) ≡ none)
     (apart : (f : ℕ) → f < 128 → held (st .marks) f + held run f ≤ 1) (ofPool : (f : ℕ) → f < 128 → held run f ≡ 1 → f < n) where
@@ -76,7 +72,8 @@ module _ {C : ℕ → Type 0} (size n first : ℕ) (run : Held) (st : Store) (T 
       let mine : held run f ≡ 1 = omega (arith, found .1, left-le run j f, held-lt run f) in
       let idle : held (s .marks) f ≡ 0 = omega (arith, found .1, ih .marks f (found .0), apart f (found .0)) in
       let bare : entry s (first + j) ≡ 0 = none-entry size s (first + j) (ih .outside (first + j) (inr (omega arith)) ∙ empty j (omega arith)) in
-      let c : Changed C size n s (first + j) (some (zeros size)) (take size (first + j) f (zeros size) s) =
+      let t : Store = take size (first + j) f (zeros size) s in
+      let c : Changed C size n s (first + j) (some (zeros size)) t =
       taken size n s (ih .tidy) (first + j) f (zeros size) (omega arith) bare (ofPool f (found .0) mine) idle (length-zeros size) in
       record {
         tidy = c .tidy;
@@ -88,12 +85,11 @@ module _ {C : ℕ → Type 0} (size n first : ℕ) (run : Held) (st : Store) (T 
             let b : held (mark left f 0) g ≡ 0 = ap (held (mark left f 0)) e ∙ held-mark-same left f 0 (omega arith) in
             let x : held (s .marks) g ≡ 0 = ap (held (s .marks)) e ∙ idle in
             let y : held left g ≡ 1 = ap (held left) e ∙ found .1 in
-            let z : held (take size (first + j) f (zeros size) s .marks) g ≡ 1 = ap (λ (h : Held). held h g) (take-marks size (first + j) f s) ∙ a in
+            let z : held (t .marks) g ≡ 1 = ap (λ (h : Held). held h g) (take-marks size (first + j) f (zeros size) s) ∙ a in
             omega (arith, z, b, x, y, ih .marks g d))
             (λ e. let a = held-mark-other (s .marks) f 1 g (omega arith) e in
             let b = held-mark-other left f 0 g (omega arith) e in
-            let z : held (take size (first + j) f (zeros size) s .marks) g ≡ held (s .marks) g = ap (λ (h : Held). held h g) (take-marks size (first + j) f s)
-            ∙ a in
+            let z : held (t .marks) g ≡ held (s .marks) g = ap (λ (h : Held). held h g) (take-marks size (first + j) f (zeros size) s) ∙ a in
             omega (arith, z, b, ih .marks g d)) (same-or g f);
       }
 

@@ -1,5 +1,6 @@
 -- Kept frames through one operation on the store: what is asked of it, and that then they are kept, once and zero.
 use mathlib.Core.Path.{_≡_, refl, sym, ap, _∙_}
+use mathlib.Core.List.{List}
 use Prim.Native.Nat.{ℕ, zero, _+_, _-_, _≤_, _<_}
 use native.Mathlib.Omega.{arith}
 use Rattle.basics.specs.Ranges.{sum}
@@ -7,13 +8,13 @@ use Rattle.basics.specs.Rows.{inPlace}
 use Rattle.basics.proofs.CountLaws.{sum-put, sum-swap, sum-plus, sum-hole, part-le}
 use Rattle.interface.specs.Runs.{runPlaces}
 use Rattle.frames.specs.declared.Held.{Held}
-use Rattle.frames.specs.Frames.{held, countHeld}
+use Rattle.frames.specs.Frames.{held, mark, countHeld}
 use Rattle.frames.proofs.SumLaws.{sum-same, sum-add}
 use Rattle.frames.proofs.FrameLaws.{count-within}
 use Rattle.pages.specs.Parts.{frame}
 use Rattle.marks.specs.Named.{usedBelow}
 use Rattle.marks.proofs.MarkLaws.{within-named}
-use Rattle.table.specs.Store.{Store, entry, Filed, Tidy}
+use Rattle.table.specs.Store.{Store, entry, Filed, Tidy, put, take}
 use Rattle.table.proofs.FiledLaws.{count-filed}
 use Rattle.kept.specs.Spare.{Row, Rows, keptIn, keptAt, keptBy, Spare, withRun}
 
@@ -48,6 +49,11 @@ kept-count rows =
     (λ s l. sym (sum-swap (λ i f. held (rows s i) f) runPlaces 128))
 
 -- ---- one operation
+
+-- a frame that is taken is marked
+pub take-marks : (size k f : ℕ) (ys : List ℕ) (s : Store) → take size k f ys s .marks ≡ mark (s .marks) f 1
+unfolding take put
+take-marks size k f ys s = refl
 
 module _ (size n : ℕ) (st r : Store) (rows rows′ : Rows) (F : Filed size n st) (S : Spare size n st rows)
     -- what becomes of one frame, by the laws of the table

@@ -13,10 +13,10 @@ use Rattle.frames.specs.declared.Held.{Held}
 use Rattle.frames.specs.Frames.{held, mark}
 use Rattle.frames.proofs.FrameLaws.{held-lt, held-or, held-mark-same, held-mark-other, count-without}
 use Rattle.marks.proofs.NamedLaws.{same-or}
-use Rattle.table.specs.Store.{Store, entry, Filed, Tidy, put, take}
+use Rattle.table.specs.Store.{Store, entry, Filed, Tidy, take}
 use Rattle.table.proofs.StoreLaws.{take-tidy}
 use Rattle.kept.specs.Spare.{Rows, lengths, keptAt, Spare, withRun}
-use Rattle.kept.proofs.SpareLaws.{kept-with, run-kept, spare-step, spare-fewer}
+use Rattle.kept.proofs.SpareLaws.{kept-with, run-kept, take-marks, spare-step, spare-fewer}
 
 -- ---- a frame is given up
 
@@ -46,10 +46,6 @@ pub given-lengths : (row : ℕ → Held) (c g i : ℕ) → g < 128 → held (row
 given-lengths row c g i l e = by-cases (eqb c i) (λ d. rw d (omega (arith, count-without (row c) g l e))) (λ d. rw d)
 
 -- ---- a frame that is not held is taken
-
-take-marks : (size k f : ℕ) (ys : List ℕ) (s : Store) → take size k f ys s .marks ≡ mark (s .marks) f 1
-unfolding take put
-take-marks size k f ys s = refl
 
 pub take-spare : (size n : ℕ) (st : Store) (rows : Rows) (k f : ℕ) (ys : List ℕ) → Filed size n st → Spare size n st rows
     → k < 512 → entry st k ≡ 0 → f < n → held (st .marks) f ≡ 0 → keptAt rows f ≡ 0 → length ys ≡ size → Spare size n (take size k f ys st) rows

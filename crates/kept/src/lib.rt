@@ -28,7 +28,7 @@ pub fn add_runs(found: Marks, runs: Runs) -> Marks
         return found;
     }
     let mut m = found;
-    for i in 0..8u8 {
+    for i in 0..Runs::END {
         m = add_run(m, runs.at(i));
     }
     m
@@ -90,7 +90,7 @@ fn is_zero(page: &[u8]) -> bool
     ensures { λ r. ⌜ r ≡ every (λ o. eqb (getD (now (page .entry)) o 0) 0) 0 256 ⌝ }
 {
     let mut zero = true;
-    for i in 0..256usize {
+    for i in 0..Page::SIZE {
         zero = zero & (page[i] == 0);
     }
     zero
@@ -106,7 +106,8 @@ pub struct Granted {
 pub fn grant(held: Held, table: &mut [u16], first: usize, run: Held, n: u8) -> Granted
     requires { ⌜ first + n ≤ length (now table) ⌝ }
     requires { ⌜ n ≤ countHeld run ⌝ }
-    ensures { λ r. ⌜ ((pool : List ℕ) → storeOf (r .held) pool (now (table .exit)) ≡ adoptTo first run (storeOf held pool (now (table .entry))) n) ⌝ }
+    ensures { λ r. ⌜ ((pool : List ℕ) →
+        storeOf (r .held) pool (now (table .exit)) ≡ adoptTo first run (storeOf held pool (now (table .entry))) n) ⌝ }
     ensures rest { λ r. ⌜ r .rest ≡ leftOf run n ⌝ }
 {
     let mut g = Granted {

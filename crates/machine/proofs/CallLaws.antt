@@ -22,9 +22,9 @@ use Rattle.runs.specs.declared.Runs.{Runs}
 use Rattle.areas.specs.Areas.{slots}
 use Rattle.state.specs.declared.sandbox.Sandbox.{Sandbox}
 use Rattle.state.specs.World.{World, sandboxAt, sharesOf, withRuns, framesOf, pagesIn, viewFrom}
-use Rattle.state.specs.Test.{soundb}
-use Rattle.state.proofs.TestLaws.{Tested}
-use Rattle.state.proofs.Room.{room-left, frame-there}
+use Rattle.soundness.specs.Test.{soundb}
+use Rattle.soundness.proofs.TestLaws.{Tested}
+use Rattle.soundness.proofs.Room.{room-left, frame-there}
 use Rattle.rules.specs.After.{sandboxAfter}
 use Rattle.rules.specs.Ready.{Ready}
 use Rattle.rules.proofs.FitLaws.{fit, page-small}

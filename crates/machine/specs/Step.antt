@@ -14,7 +14,7 @@ use Rattle.interface.specs.Refusals.{View, refusal}
 use Rattle.table.specs.Store.{entry, frontOf}
 use Rattle.state.specs.declared.sandbox.Sandbox.{Sandbox}
 use Rattle.state.specs.World.{World, sandboxAt, withSandbox, withRuns, framesOf, pagesIn, sharesOf, viewFrom}
-use Rattle.state.specs.Test.{soundb}
+use Rattle.soundness.specs.Test.{soundb}
 use Rattle.rules.specs.After.{sandboxAfter}
 use Rattle.runs.specs.Row.{InLongest}
 use Rattle.memory.specs.Memory.{Unheld, givesAt, runsAfter, storeAfter, valueAt}

@@ -1,11 +1,11 @@
--- Laws of one page pushed: when it goes on where the last area ends, and what a loop over pages keeps.
+-- Laws of one page pushed: when it goes on where the last area ends, what a loop over pages keeps, and the ways out of the code.
 use Prim.Native.Nat.{ℕ, zero, suc, _+_, _-_, _≤_, _<_}
 use mathlib.Core.Path.{_≡_, refl, sym}
 use mathlib.Core.Bool.{Bool, true, false, _&&_, false≢true}
 use native.Mathlib.Omega.{arith}
 use native.Mathlib.Numerals.{add-one}
 use lib.Dec.{ltb, eqb}
-use borrow.Author.Tests.{ltb-true, eqb-true, eq-eqb}
+use borrow.Author.Tests.{ltb-true, lt-ltb, le-ltb, eqb-true, eq-eqb}
 use Rattle.basics.specs.Choice.{same}
 use Rattle.basics.proofs.TestLaws.{when-cases, and-left, and-right, same-true}
 use Rattle.interface.specs.declared.page.Attributes.{Attributes}
@@ -103,3 +103,17 @@ pub push-none : (b : Packed) (page : ℕ) (slot : Slot) → isMapped slot ≡ fa
 unfolding push
 push-none b page Unmapped e = refl
 push-none b page (Mapped t) e = absurd (false≢true (sym e))
+
+-- a mapped page pushed, by the code's ways out
+module _ (b : Packed) (page : ℕ) (t : Attributes) (slot : Slot) (mapped : slot ≡ Mapped t) (more : Bool) (is : more ≡ continues (b .areas) page t) where
+  pub push-extends : more ≡ true → (r : Areas) → r ≡ extended (b .areas) → record { areas = r; fits = b .fits } ≡ push b page slot
+  unfolding push
+  push-extends e r h = rw (h, mapped, ← is, e)
+
+  pub push-adds : more ≡ false → b .areas .count < 8 → (r : Areas) → r ≡ added (b .areas) page t → record { areas = r; fits = b .fits } ≡ push b page slot
+  unfolding push
+  push-adds e l r h = rw (h, mapped, ← is, e, lt-ltb _ _ l)
+
+  pub push-full : more ≡ false → 8 ≤ b .areas .count → record { areas = b .areas; fits = false } ≡ push b page slot
+  unfolding push
+  push-full e l = rw (mapped, ← is, e, le-ltb _ _ l)

@@ -6,6 +6,7 @@ ghost use Rattle.interface.specs.Limits.{rightsOk};
 ghost use Rattle.areas.specs.Formed.{imagesExist, proper, isApart, isNone, placeOk, wellFormed};
 use areas::area::Area;
 use areas::area::Areas;
+use interface::page::Attributes;
 use slots::is_anonymous;
 use interface::page::Backing;
 use interface::page::PageNo;
@@ -77,7 +78,7 @@ fn is_apart(area: Area, other: Area) -> bool
 fn rights_ok(rights: u8) -> bool
     ensures { λ r. ⌜ r ≡ rightsOk rights ⌝ }
 {
-    (rights == 1) | (rights == 3)
+    (rights == Attributes::READ) | (rights == Attributes::READ_WRITE)
 }
 
 // Whether the image pages of so many pages exist.

@@ -6,3 +6,8 @@
 // It stands on `areas`, whose runs it tests and makes, and on `basics` and `interface`.
 pub mod formed;
 pub mod pack;
+
+pub use formed::well_formed;
+pub use pack::Change;
+pub use pack::Packed;
+pub use pack::repack;

@@ -1,3 +1,4 @@
 pub mod PartLaws
 pub mod ListedLaws
 pub mod Examples
+pub mod ClearedLaws

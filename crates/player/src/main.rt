@@ -31,7 +31,7 @@ fn perform(pool: &mut [u8], table: &mut [u16], image: &[u8]) -> bool
     ensures { λ r. ⌜ Talked (now (image .entry)) (startedBy (now (pool .entry)) (now (table .entry)) (now (image .entry))) (now (pool .exit))
         (now (table .exit)) r ⌝ }
 {
-    let mut machine = soundness::start::start(pool, table, image).machine;
+    let mut machine = starting::start(pool, table, image).machine;
     let mut number: u32 = 1;
     while number < 65_536 {
         let mut line = [0u8; 43];

@@ -41,7 +41,8 @@ pub fn load_frame(pool: &[u8], f: FrameNo) -> [u8; Page::SIZE]
 pub fn copy_frame(pool: &mut [u8], from: FrameNo, to: FrameNo)
     requires { ⌜ from .0 * 256 + 256 ≤ length (now pool) ⌝ }
     requires { ⌜ to .0 * 256 + 256 ≤ length (now pool) ⌝ }
-    ensures { λ r. ⌜ now (pool .exit) ≡ setFrame 256 (now (pool .entry)) (to .0) (frame 256 (now (pool .entry)) (from .0)) ⌝ }
+    ensures { λ r. ⌜ (let before = now (pool .entry) in
+        now (pool .exit) ≡ setFrame 256 before (to .0) (frame 256 before (from .0))) ⌝ }
 {
     let page = load_frame(pool, from);
     fill_frame(pool, to, &page);
@@ -50,7 +51,8 @@ pub fn copy_frame(pool: &mut [u8], from: FrameNo, to: FrameNo)
 // One byte of frame `f` is stored.
 pub fn store_byte(pool: &mut [u8], f: FrameNo, offset: u8, byte: u8)
     requires { ⌜ f .0 * 256 + 256 ≤ length (now pool) ⌝ }
-    ensures { λ r. ⌜ now (pool .exit) ≡ setFrame 256 (now (pool .entry)) (f .0) (set (frame 256 (now (pool .entry)) (f .0)) offset byte) ⌝ }
+    ensures { λ r. ⌜ (let before = now (pool .entry) in
+        now (pool .exit) ≡ setFrame 256 before (f .0) (set (frame 256 before (f .0)) offset byte)) ⌝ }
 {
     let start = f.0 as usize * Page::SIZE;
     pages::store(&mut pool[start..start + Page::SIZE], offset as usize, byte);

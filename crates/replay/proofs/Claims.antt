@@ -18,7 +18,7 @@ use Rattle.pages.proofs.ListedLaws.{listed-at, listed-same}
 use Rattle.areas.specs.Areas.{slots}
 use Rattle.state.specs.World.{World, sandboxAt}
 use Rattle.machine.specs.Step.{viewAt}
-use Rattle.state.specs.Test.{soundb}
+use Rattle.soundness.specs.Test.{soundb}
 use Rattle.content.specs.Content.{copyRead}
 use Rattle.plain.specs.Machine.{Given, Pages, copySlots, viewOf, shares}
 use Rattle.plain.specs.Lists.{upTo}

@@ -7,7 +7,7 @@ ghost use Rattle.state.specs.Start.{startedBy};
 ghost use Rattle.roll_input.specs.Input.{RollPlayed};
 use lines::Line;
 use playing::play;
-use soundness::start::start;
+use starting::start;
 use state::sandbox::Machine;
 
 // Plays the roll on standard input from a start, line by line; its replies are not printed. "Lines after the 65,535th are not read."

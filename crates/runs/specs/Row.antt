@@ -6,11 +6,13 @@ use lib.Dec.{leb}
 use mathlib.Core.List.{List, [], _∷_}
 use lib.ListN.{getD, set, replicate}
 use Rattle.basics.specs.Choice.{_when_else_}
-use Rattle.basics.specs.Rows.{best, noLonger}
+use Rattle.basics.specs.Rows.{best, longer, noLonger, fitter}
 use Rattle.interface.specs.Runs.{longestRun}
 use Rattle.frames.specs.declared.Held.{Held}
 use Rattle.frames.specs.Frames.{held, noneHeld, countHeld}
 use Rattle.runs.specs.declared.Runs.{Runs}
+use Rattle.runs.specs.declared.Rule.{Rule}
+use Rattle.runs.specs.declared.Rule.the-variants.{Longest, Shortest, Fitting}
 
 -- the run in each place; none past the end
 abbrev pub row : Runs → ℕ → Held
@@ -34,6 +36,12 @@ rowTo (suc n) f = f 0 ∷ rowTo n (λ i. f (suc i))
 
 abbrev pub tabled : (ℕ → Held) → Runs
 tabled f = record { list = rowTo 8 f }
+
+-- whether a length is better than another, by each rule
+unfoldable pub betterBy : Rule → ℕ → ℕ → Bool
+betterBy Longest new old = longer new old
+betterBy Shortest new old = noLonger new old
+betterBy (Fitting pages) new old = fitter pages new old
 
 -- of two places the one with the better length, else the second
 abbrev pub betterOf : (ℕ → ℕ → Bool) → (ℕ → ℕ) → ℕ → ℕ → ℕ

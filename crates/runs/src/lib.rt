@@ -1,5 +1,6 @@
 // The runs of frames that a sandbox keeps for the maps of its next request (A3).
-// It promises: each method's outcome is a definition of specs/Row.antt, which goes by the lengths of the runs in the order of their ages.
+// It promises: each method's outcome is a definition of specs/Row.antt, which goes by the lengths of the runs in the order
+// of their ages.
 // It stands on `frames` for the frames of a run.
 ghost use mathlib.Core.Path.{_≡_};
 ghost use Prim.Native.Nat.{_≤_, _<_};
@@ -7,7 +8,7 @@ ghost use Rattle.basics.specs.Ranges.{sum, every};
 ghost use Rattle.basics.specs.Rows.{best, longer, noLonger, fitter};
 ghost use Rattle.frames.specs.Frames.{noneHeld, sameHeld};
 ghost use Rattle.interface.specs.Runs.{longestRun, runFor};
-ghost use Rattle.runs.specs.Row.{row, lengthsOf, noRuns, withRunAt, betterOf, movedRuns, pushed};
+ghost use Rattle.runs.specs.Row.{row, lengthsOf, noRuns, withRunAt, betterBy, betterOf, movedRuns, pushed};
 use frames::Held;
 
 // "At most 8 runs are kept": the oldest first. A place without a frame is no run, and may stand anywhere.
@@ -15,8 +16,20 @@ pub struct Runs {
     pub list: [Held; Runs::PLACES],
 }
 
+// Which run is chosen: the longest, the shortest, or the one that suits so many pages.
+enum Rule {
+    Longest,
+    Shortest,
+    Fitting(u8),
+}
+
 impl Runs {
     pub const PLACES: usize = 8;
+
+    // The number of places, and the last place, as a place is numbered.
+    pub const END: u8 = Runs::PLACES as u8;
+
+    const LAST: u8 = Runs::END - 1;
 
     // No run.
     pub fn none() -> Runs
@@ -54,7 +67,7 @@ impl Runs {
         ensures small { λ r. ⌜ r ≤ 1024 ⌝ }
     {
         let mut n: u16 = 0;
-        for i in 0..8u8 {
+        for i in 0..Runs::END {
             n = n + self.length(i) as u16;
         }
         n
@@ -74,7 +87,7 @@ impl Runs {
     pub fn is_none(self) -> bool
         ensures { λ r. ⌜ r ≡ every (λ i. sameHeld (row self i) noneHeld) 0 8 ⌝ }
     {
-        for i in 0..8u8 {
+        for i in 0..Runs::END {
             if !self.is_empty(i) {
                 return false;
             }
@@ -92,8 +105,8 @@ impl Runs {
         run.same(none)
     }
 
-    // A new run, the newest: it takes the place of the shortest, of equals the newest, unless it is no longer than that. A run of no frame changes nothing, and
-    // no place is looked for.
+    // A new run, the newest: it takes the place of the shortest, of equals the newest, unless it is no longer than that.
+    // A run of no frame changes nothing, and no place is looked for.
     pub fn push(self, run: Held) -> Runs
         ensures { λ r. ⌜ r ≡ pushed self run ⌝ }
     {
@@ -114,10 +127,10 @@ impl Runs {
         ensures { λ r. ⌜ r ≡ movedRuns place run self ⌝ }
     {
         let mut r = self;
-        for i in place..7u8 {
+        for i in place..Runs::LAST {
             r = r.with(i, r.at(i + 1));
         }
-        r.with(7, run)
+        r.with(Runs::LAST, run)
     }
 
     // The place of the shortest run, of equals the newest.
@@ -125,24 +138,7 @@ impl Runs {
         ensures { λ r. ⌜ r ≡ best noLonger (lengthsOf self) 8 ⌝ }
         ensures low { λ r. ⌜ r < 8 ⌝ }
     {
-        let mut best: u8 = 0;
-        for i in 0..8u8 {
-            best = self.shorter_of(i, best);
-        }
-        best
-    }
-
-    // Of two places the one with the shorter run, of equals the first.
-    fn shorter_of(self, new: u8, old: u8) -> u8
-        requires { ⌜ new < 8 ⌝ }
-        requires { ⌜ old < 8 ⌝ }
-        ensures { λ r. ⌜ r ≡ betterOf noLonger (lengthsOf self) new old ⌝ }
-    {
-        if self.length(new) <= self.length(old) {
-            new
-        } else {
-            old
-        }
+        self.best(Rule::Shortest)
     }
 
     // The place of the longest run, of equals the oldest.
@@ -150,11 +146,7 @@ impl Runs {
         ensures { λ r. ⌜ r ≡ longestRun (lengthsOf self) ⌝ }
         ensures low { λ r. ⌜ r < 8 ⌝ }
     {
-        let mut best: u8 = 0;
-        for i in 0..8u8 {
-            best = self.longer_of(i, best);
-        }
-        best
+        self.best(Rule::Longest)
     }
 
     // The place of the shortest run that is at least as long as so many pages, or of the longest; of equals the oldest.
@@ -162,37 +154,43 @@ impl Runs {
         ensures { λ r. ⌜ r ≡ runFor pages (lengthsOf self) ⌝ }
         ensures low { λ r. ⌜ r < 8 ⌝ }
     {
+        self.best(Rule::Fitting(pages))
+    }
+
+    // The place of the best run by a rule.
+    fn best(self, rule: Rule) -> u8
+        ensures { λ r. ⌜ r ≡ best (betterBy rule) (lengthsOf self) 8 ⌝ }
+        ensures low { λ r. ⌜ r < 8 ⌝ }
+    {
         let mut best: u8 = 0;
-        for i in 0..8u8 {
-            best = self.fitter_of(pages, i, best);
+        for i in 0..Runs::END {
+            best = self.better_of(rule, i, best);
         }
         best
     }
 
-    // Of two places the one whose run suits so many pages better, else the second.
-    fn fitter_of(self, pages: u8, new: u8, old: u8) -> u8
+    // Of two places the one with the better run, else the second.
+    fn better_of(self, rule: Rule, new: u8, old: u8) -> u8
         requires { ⌜ new < 8 ⌝ }
         requires { ⌜ old < 8 ⌝ }
-        ensures { λ r. ⌜ r ≡ betterOf (fitter pages) (lengthsOf self) new old ⌝ }
+        ensures { λ r. ⌜ r ≡ betterOf (betterBy rule) (lengthsOf self) new old ⌝ }
     {
-        if is_fitter(pages, self.length(new), self.length(old)) {
+        if is_better(rule, self.length(new), self.length(old)) {
             new
         } else {
             old
         }
     }
+}
 
-    // Of two places the one with the longer run, of equals the second.
-    fn longer_of(self, new: u8, old: u8) -> u8
-        requires { ⌜ new < 8 ⌝ }
-        requires { ⌜ old < 8 ⌝ }
-        ensures { λ r. ⌜ r ≡ betterOf longer (lengthsOf self) new old ⌝ }
-    {
-        if self.length(old) < self.length(new) {
-            new
-        } else {
-            old
-        }
+// Whether a run of the first length is better than one of the second.
+fn is_better(rule: Rule, new: u8, old: u8) -> bool
+    ensures { λ r. ⌜ r ≡ betterBy rule new old ⌝ }
+{
+    match rule {
+        Rule::Longest => old < new,
+        Rule::Shortest => new <= old,
+        Rule::Fitting(pages) => is_fitter(pages, new, old),
     }
 }
 

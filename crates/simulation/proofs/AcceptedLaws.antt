@@ -16,7 +16,7 @@ use Rattle.table.specs.Store.{entry, frontOf, Tidy}
 use Rattle.state.specs.declared.sandbox.Sandbox.{Sandbox}
 use Rattle.state.specs.World.{World, sandboxAt, framesOf, pagesIn, sharesOf, rowsOf}
 use Rattle.state.specs.Sound.{SoundAt}
-use Rattle.state.proofs.TestLaws.{Tested, tested}
+use Rattle.soundness.proofs.TestLaws.{Tested, tested}
 use Rattle.memory.specs.Memory.{givesAt, storeAfter}
 use Rattle.machine.specs.Step.{viewAt, worldAfter, numberAt, Free, Outcome, Stepped}
 use Rattle.plain.specs.Machine.{Given, Kept, keptAfter, viewOf}

@@ -35,7 +35,7 @@ use Rattle.areas.proofs.OrderLaws.{none-slots, empty-formed}
 use Rattle.state.specs.declared.sandbox.Sandbox.{Sandbox}
 use Rattle.state.specs.World.{World, sandboxAt, framesOf, pagesIn, copyOf}
 use Rattle.state.specs.Sound.{SoundAt, Sound}
-use Rattle.state.proofs.TestLaws.{slots-inside}
+use Rattle.areas.proofs.OrderLaws.{slots-inside}
 use Rattle.state.proofs.SettledLaws.{copied-slots}
 use Rattle.machine.specs.Step.{Outcome, Stepped}
 use Rattle.plain.specs.Machine.{Given, Pages, Kept, Plain, closed, held, copySlots, copyBytes, backingByte}

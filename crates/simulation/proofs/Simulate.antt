@@ -33,7 +33,7 @@ use Rattle.state.specs.declared.sandbox.Sandbox.{Sandbox}
 use Rattle.runs.specs.declared.Runs.{Runs}
 use Rattle.runs.specs.Row.{row}
 use Rattle.kept.specs.Spare.{keptAt, keptBy, Spare}
-use Rattle.state.specs.Test.{soundb}
+use Rattle.soundness.specs.Test.{soundb}
 use Rattle.state.specs.World.{World, sandboxAt, closedSandbox, framesOf, sharesOf, rowsOf}
 use Rattle.content.specs.Content.{pageRead, copyRead, differing}
 use Rattle.memory.specs.Memory.{givesAt, longestOf, runsAfter, storeAfter, heldBy, valueAt}

@@ -16,8 +16,8 @@ use Rattle.areas.proofs.OrderLaws.{none-slots, empty-formed}
 use Rattle.state.specs.declared.sandbox.Sandbox.{Sandbox}
 use Rattle.state.specs.World.{World, sandboxAt, sharesOf, framesOf, pagesIn, closedSandbox, started, rowsOf}
 use Rattle.state.specs.Sound.{SoundAt, Sound}
-use Rattle.state.specs.Test.{soundb}
-use Rattle.state.proofs.TestLaws.{sound-of}
+use Rattle.soundness.specs.Test.{soundb}
+use Rattle.soundness.proofs.TestLaws.{sound-of}
 use Rattle.plain.specs.Machine.{Given, Kept, Plain, shares, fresh, closed}
 use Rattle.plain.specs.Claims.{Keeps, Reads}
 use Rattle.plain.proofs.KeptLaws.{holds-fresh}

@@ -22,7 +22,7 @@ use Rattle.kept.specs.Spare.{Spare}
 use Rattle.kept.proofs.SpareLaws.{run-kept}
 use Rattle.table.specs.Store.{entry, frontOf}
 use Rattle.state.specs.World.{World, sandboxAt, framesOf, rowsOf}
-use Rattle.state.specs.Test.{soundb}
+use Rattle.soundness.specs.Test.{soundb}
 use Rattle.memory.specs.Memory.{givesAt, longestOf}
 use Rattle.machine.specs.Step.{viewAt, worldAfter, numberAt, step, takes, gives, Free, OfLongest, Outcome, Stepped}
 

@@ -20,8 +20,8 @@ use Rattle.table.specs.Store.{entry, frontOf}
 use Rattle.areas.specs.Areas.{slots}
 use Rattle.state.specs.World.{World, sandboxAt, rowsOf}
 use Rattle.state.specs.Sound.{Sound}
-use Rattle.state.proofs.TestLaws.{Tested, tested, sound-of}
-use Rattle.state.proofs.Room.{holds, frame-there, kept-there}
+use Rattle.soundness.proofs.TestLaws.{Tested, tested, sound-of}
+use Rattle.soundness.proofs.Room.{holds, frame-there, kept-there}
 use Rattle.memory.specs.Memory.{givesAt, longestOf}
 use Rattle.machine.specs.Step.{viewAt, takes, gives, Free, OfLongest, Chosen}
 use Rattle.simulation.proofs.StepLaws.{was-accepted, Taking, taking, gives-takes}

@@ -1,3 +1,6 @@
+pub mod RecordLaws
+pub mod TestLaws
+pub mod Room
 pub mod SandboxLaws
-pub mod StateLaws
 pub mod SpareLaws
+pub mod StateLaws

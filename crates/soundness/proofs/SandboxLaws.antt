@@ -1,23 +1,24 @@
--- The test of a sandbox, by each of its ways out; and of its pages, where it has no areas.
+-- The test of a sandbox, by each of its ways out.
 use Prim.Native.Nat.{ℕ, _≤_, _<_}
-use mathlib.Core.Path.{_≡_, refl, sym, ap, _∙_}
-use mathlib.Core.Bool.{Bool, true, false, _&&_, false≢true}
-use native.Mathlib.Omega.{arith}
-use lib.Dec.{eqb}
+use mathlib.Core.Path.{_≡_, _∙_}
+use mathlib.Core.Bool.{Bool, true, false, _&&_}
 use borrow.Author.Tests.{le-leb, lt-leb}
-use Rattle.basics.specs.Ranges.{every}
-use Rattle.interface.specs.declared.page.Slot.{Slot}
-use Rattle.interface.specs.declared.page.Slot.the-variants.{Unmapped, Mapped}
-use Rattle.interface.specs.Slots.{isMapped, chargeOf}
-use Rattle.table.specs.Store.{Store, entry, frontOf, backOf}
+use Rattle.interface.specs.Slots.{chargeOf}
+use Rattle.table.specs.Store.{Store}
 use Rattle.areas.specs.declared.area.Areas.{Areas}
 use Rattle.areas.specs.Areas.{slots}
 use Rattle.areas.specs.Formed.{wellFormed}
 use Rattle.areas.specs.Walk.{Formed}
-use Rattle.areas.proofs.WalkLaws.{between}
+use Rattle.areas.proofs.FormedLaws.{formed}
+use Rattle.areas.proofs.WalkLaws.{settled}
+use Rattle.page_soundness.specs.Pages.{pagesOk}
 use Rattle.state.specs.declared.sandbox.Sandbox.{Sandbox}
 use Rattle.state.specs.World.{copyOf}
-use Rattle.state.specs.Test.{namesNone, pageOk, pagesOk, recordOk, sandboxOk, runsOk}
+use Rattle.soundness.specs.Test.{recordOk, sandboxOk, runsOk}
+
+-- areas whose test was passed are well formed, as a walk along them asks
+pub tested-formed : (images : ℕ) (a : Areas) → wellFormed images a ≡ true → images ≤ 64 → Formed a
+tested-formed images a passed few = settled images a (formed images a passed) few
 
 module _ (images : ℕ) (st : Store) (s : ℕ) (b : Sandbox) where
   pub present-fails : wellFormed images (b .present) ≡ false → false ≡ sandboxOk images st s b
@@ -43,25 +44,6 @@ module _ (images : ℕ) (st : Store) (s : ℕ) (b : Sandbox) where
             → r ≡ sandboxOk images st s b
         unfolding sandboxOk
         record-decides h r e = e ∙ rw (present, snapshot, pages, ← is, le-leb charge (b .share) h)
-
--- without areas nothing is mapped
-nothing-mapped : (a : Areas) → Formed a → a .count ≡ 0 → (i : ℕ) → slots a i ≡ Unmapped
-nothing-mapped a F e i = between a F i 0 (λ j d. absurd (omega arith)) (λ j d l. absurd (omega arith))
-
-pub no-areas : (st : Store) (s : ℕ) (present snapshot : Areas) → Formed present → Formed snapshot → present .count ≡ 0 → snapshot .count ≡ 0
-    → every (namesNone st s) 0 64 ≡ pagesOk st s present snapshot
-unfolding pagesOk pageOk
-no-areas st s present snapshot F G e g =
-    let same : (i : ℕ) → namesNone st s i ≡ pageOk (slots present i) (slots snapshot i) (entry st (frontOf s i)) (entry st (backOf s i)) =
-    λ i. rw (nothing-mapped present F e i, nothing-mapped snapshot G g i) in
-    ap (λ p. every p 0 64) (λ j i. same i j)
-
--- a page in neither has no entry that names a frame
-pub page-none : (p s : Slot) (front back : ℕ) → isMapped p ≡ false → isMapped s ≡ false → (eqb front 0 && eqb back 0) ≡ pageOk p s front back
-unfolding pageOk
-page-none Unmapped Unmapped front back e g = refl
-page-none Unmapped (Mapped t) front back e g = absurd (false≢true (sym g))
-page-none (Mapped t) s front back e g = absurd (false≢true (sym e))
 
 -- a sandbox and its runs, by the code's ways out: b is what the array gives, d what the world has
 module _ (images : ℕ) (st : Store) (s : ℕ) (b d : Sandbox) (same : b ≡ d) (r : Bool) (is : r ≡ sandboxOk images st s b) where

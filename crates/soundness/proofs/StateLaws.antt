@@ -11,7 +11,7 @@ use Rattle.basics.proofs.LoopLaws.{every-at, every-of}
 use Rattle.marks.specs.Marks.{marksb}
 use Rattle.kept.specs.Test.{spareb}
 use Rattle.state.specs.World.{World, sandboxAt, sharesOf, framesOf, pagesIn, lengthsOk, rowsOf}
-use Rattle.state.specs.Test.{sandboxOk, sandboxesOk, runsOkAt, keptOk, soundb}
+use Rattle.soundness.specs.Test.{sandboxOk, sandboxesOk, runsOkAt, keptOk, soundb}
 
 -- two tests in one pass
 every-both : (P Q : ℕ → Bool) (n : ℕ) → every (λ i. P i && Q i) 0 n ≡ (every P 0 n && every Q 0 n)

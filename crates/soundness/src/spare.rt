@@ -8,19 +8,27 @@ ghost use Rattle.marks.specs.Named.{usedBelow};
 ghost use Rattle.marks.specs.Marks.{from};
 ghost use Rattle.table.specs.Store.{kept as storeOf};
 ghost use Rattle.runs.specs.Row.{row};
+ghost use Rattle.kept.specs.Spare.{Rows};
 ghost use Rattle.kept.specs.Test.{spareb};
 ghost use Rattle.state.specs.World.{closedSandbox};
-ghost use Rattle.state.specs.Test.{runsOk};
+ghost use Rattle.soundness.specs.Test.{runsOk};
 use frames::Held;
 use runs::Runs;
+use state::sandbox::Machine;
 use state::sandbox::Sandbox;
 use totals::kept_marks;
 
 // Whether kept frames "are held and zero, belong to one run and no entry".
-pub(crate) fn spare_ok(sandboxes: [Sandbox; 4], held: Held, pool: &[u8], frames: u8) -> bool
+pub(crate) fn spare_ok(
+    sandboxes: [Sandbox; Machine::SANDBOXES],
+    held: Held,
+    pool: &[u8],
+    frames: u8,
+) -> bool
     requires { ⌜ frames ≤ 128 ⌝ }
     requires { ⌜ length (now pool) ≡ frames * 256 ⌝ }
-    ensures { λ r. ⌜ ((table : List ℕ) → r ≡ spareb frames (storeOf held (now (pool .entry)) table) (λ s. row (getD sandboxes s closedSandbox .runs))) ⌝ }
+    ensures { λ r. ⌜ ((table : List ℕ) → let rows : Rows = λ s. row (getD sandboxes s closedSandbox .runs) in
+        r ≡ spareb frames (storeOf held (now (pool .entry)) table) rows) ⌝ }
 {
     let found = kept_marks(sandboxes);
     let kept = found.held;
@@ -39,7 +47,8 @@ pub(crate) fn runs_ok(runs: Runs, table: &[u16], s: u8, opened: bool, share: u8)
     requires { ⌜ s < 4 ⌝ }
     requires { ⌜ length (now table) ≡ 512 ⌝ }
     requires { ⌜ usedBelow (from (s * 128) (now table)) 128 ≤ share ⌝ }
-    ensures { λ r. ⌜ ((h : Words) (pool : List ℕ) → r ≡ runsOk (storeOf h pool (now (table .entry))) s opened share runs) ⌝ }
+    ensures { λ r. ⌜ ((h : Words) (pool : List ℕ) →
+        r ≡ runsOk (storeOf h pool (now (table .entry))) s opened share runs) ⌝ }
 {
     if runs.is_none() {
         return true;

@@ -1,8 +1,6 @@
 pub mod LengthLaws
 pub mod SharesLaws
-pub mod PageLaws
-pub mod TestLaws
+pub mod LentLaws
 pub mod SettledLaws
 pub mod NearLaws
-pub mod Room
 pub mod StartLaws

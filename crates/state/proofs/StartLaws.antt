@@ -11,7 +11,7 @@ use Rattle.table.specs.Store.{Store, cleared, fresh}
 use Rattle.state.specs.declared.sandbox.Machine.{Machine}
 use Rattle.state.specs.World.{World, worldOf, freshMachine, closedSandbox, started, pagesIn, lengthsOk}
 use Rattle.state.specs.Start.{startAnswer, startedBy}
-use Rattle.state.proofs.TestLaws.{lengths-true}
+use Rattle.state.proofs.LentLaws.{lengths-true}
 
 module _ (pool table image : List ℕ) where
   pub start-refused : lengthsOk (length pool) (length table) (length image) ≡ false → (m : Machine) → m ≡ freshMachine

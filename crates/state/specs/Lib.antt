@@ -2,5 +2,4 @@
 pub mod World
 pub mod Start
 pub mod Sound
-pub mod Test
 pub mod Lengths

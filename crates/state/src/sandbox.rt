@@ -3,9 +3,11 @@ ghost use mathlib.Core.Path.{_≡_};
 ghost use Rattle.interface.specs.Slots.{chargeOf};
 ghost use Rattle.areas.specs.Areas.{slots};
 ghost use Rattle.areas.specs.Walk.{Formed};
-ghost use Rattle.state.specs.World.{closedSandbox, freshMachine, withOpened, withShare, withPresent, withTaken, withSnapshot, withRuns, copyOf};
+ghost use Rattle.state.specs.World.{closedSandbox, freshMachine, copyOf};
+ghost use Rattle.state.specs.World.{withOpened, withShare, withPresent, withTaken, withSnapshot, withRuns};
 use areas::area::Areas;
 use frames::Held;
+use interface::request::Request;
 use runs::Runs;
 
 // What is kept for a sandbox: whether it is open, its share, its areas, whether a snapshot was taken, the snapshot's areas, and the runs of kept frames.
@@ -25,7 +27,10 @@ pub struct Machine {
 }
 
 impl Machine {
-    pub const SANDBOXES: usize = 4;
+    pub const SANDBOXES: usize = Request::SANDBOXES;
+
+    // The same, as a sandbox is numbered.
+    pub const COUNT: u8 = Machine::SANDBOXES as u8;
 
     // "A fresh state has four closed sandboxes and no held frame."
     pub fn fresh() -> Machine
@@ -41,6 +46,12 @@ impl Machine {
 }
 
 impl Sandbox {
+    // "share, 1 to 128"
+    pub const MOST_SHARE: u8 = Request::MOST_SHARE as u8;
+
+    // "2 × the snapshot's pages": each may have a front and a back.
+    const FRAMES_A_COPY: u8 = 2;
+
     // A closed sandbox has nothing.
     pub fn closed() -> Sandbox
         ensures { λ r. ⌜ r ≡ closedSandbox ⌝ }
@@ -118,6 +129,6 @@ impl Sandbox {
         if !self.taken {
             return present.mapped_pages();
         }
-        2 * snapshot.mapped_pages() + present.uncommitted_pages()
+        Sandbox::FRAMES_A_COPY * snapshot.mapped_pages() + present.uncommitted_pages()
     }
 }

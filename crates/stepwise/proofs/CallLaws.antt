@@ -15,9 +15,9 @@ use Rattle.interface.specs.Requests.{isCall}
 use Rattle.interface.specs.Answers.{Answered, numberOf}
 use Rattle.state.specs.World.{World, worldOf}
 use Rattle.state.specs.Start.{startAnswer, startedBy}
-use Rattle.state.specs.Test.{Typed}
+use Rattle.soundness.specs.Test.{Typed}
 use Rattle.state.specs.declared.sandbox.Machine.{Machine}
-use Rattle.state.proofs.TestLaws.{sound-true}
+use Rattle.soundness.proofs.TestLaws.{sound-true}
 use Rattle.layout.specs.Rows.{Bytes}
 use Rattle.layout.specs.Layout.{stateSize, stateBytes, stateFrom, isState, Shaped}
 use Rattle.layout.specs.Claims.{machineOf}

@@ -13,7 +13,7 @@ use interface::answer::Refusal;
 use interface::request::Request;
 use layout::size::Size;
 use machine::call::call;
-use soundness::start::start;
+use starting::start;
 
 // What a call answers, as a host sees it: the refusal's number or 0, and the value.
 #[repr(C)]

@@ -10,29 +10,31 @@ ghost use Rattle.kept.specs.Test.{keptTo};
 ghost use Rattle.state.specs.World.{closedSandbox};
 use frames::Held;
 use marks::Marks;
+use state::sandbox::Machine;
 use state::sandbox::Sandbox;
 
 // "the shares together"
-pub fn shares(sandboxes: [Sandbox; 4]) -> u16
+pub fn shares(sandboxes: [Sandbox; Machine::SANDBOXES]) -> u16
     ensures { λ r. ⌜ r ≡ sum (λ s. getD sandboxes s closedSandbox .share) 4 ⌝ }
     ensures small { λ r. ⌜ r ≤ 1020 ⌝ }
 {
-    let first = sandboxes[0];
-    let second = sandboxes[1];
-    let third = sandboxes[2];
-    let fourth = sandboxes[3];
-    first.share as u16 + second.share as u16 + third.share as u16 + fourth.share as u16
+    let mut n: u16 = 0;
+    for k in 0..Machine::SANDBOXES {
+        let b = sandboxes[k];
+        n += b.share as u16;
+    }
+    n
 }
 
 // The frames that the runs of all sandboxes keep.
-pub fn kept_marks(sandboxes: [Sandbox; 4]) -> Marks
+pub fn kept_marks(sandboxes: [Sandbox; Machine::SANDBOXES]) -> Marks
     ensures { λ r. ⌜ r ≡ keptTo (λ s. row (getD sandboxes s closedSandbox .runs)) 4 ⌝ }
 {
     let mut found = Marks {
         good: true,
         held: Held::none(),
     };
-    for s in 0..4u8 {
+    for s in 0..Machine::COUNT {
         let k = s as usize;
         let b = sandboxes[k];
         let runs = b.runs;

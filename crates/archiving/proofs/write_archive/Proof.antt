@@ -10,7 +10,7 @@ use Rattle.basics.proofs.ListLaws.{getD-any}
 use Rattle.basics.proofs.TestLaws.{length-mapped}
 use Rattle.state.specs.declared.sandbox.Sandbox.{Sandbox}
 use Rattle.state.specs.World.{World, worldOf, sandboxAt, closedSandbox}
-use Rattle.state.specs.Test.{soundb}
+use Rattle.soundness.specs.Test.{soundb}
 use Rattle.state.proofs.SharesLaws.{zeroSandbox}
 use Rattle.archiving.proofs.RollLaws.{readable, roll-here}
 use Rattle.archiving.proofs.ArchivedLaws.{refused-3, refused-4, refused-closed, refused-8, filed}

@@ -27,8 +27,12 @@ add-t9 c = search needs
 front-requires : tie.Need-front-requires Inv-loop μ-loop
 front-requires c κs = search needs
 
+-- the way back from where a fact is needed to where it was learned
+abbrev start-of-turn : tie.In-loop Inv-loop μ-loop → tie.Start Inv-loop μ-loop
+start-of-turn c = c .before .before .before .before
+
 with-entry-requires : tie.Need-with-entry-requires Inv-loop μ-loop
-with-entry-requires c κs = rw (c .front .ensures) (c .before .before .before .before .before .before .pre .1 .1 .1 _)
+with-entry-requires c κs = rw (c .front .ensures) (start-of-turn (c .before .before) .pre .1 .1 .1 _)
 
 add-i : tie.Need-add-i Inv-loop μ-loop
 add-i c = search needs
@@ -36,15 +40,21 @@ add-i c = search needs
 loop-less : tie.Need-loop-less Inv-loop μ-loop
 loop-less c = search needs
 
+abbrev at-turn : tie.After-with-entry Inv-loop μ-loop → tie.In-loop Inv-loop μ-loop
+at-turn c = c .before .before .before
+
 loop-again : tie.Need-loop-again Inv-loop μ-loop
 loop-again c =
-    let l = c .before .before .before .before .loop in
+    let l = at-turn c .before .loop in
     (fronts-more _ _ _ (l .i) _ (l .run) _ (l .inv .0) (c .before .front .ensures) (c .with-entry .ensures), search needs)
+
+abbrev start-of-loop-end : tie.After-loop Inv-loop μ-loop → tie.Start Inv-loop μ-loop
+start-of-loop-end c = c .before .before .before .before
 
 returns : tie.Need-returns Inv-loop μ-loop
 returns c =
     let l = c .before .loop in
-    let end : l .i ≡ c .before .before .before .before .args .pages = omega (arith, l .inv .1, c .loop-test .left) in
+    let end : l .i ≡ start-of-loop-end c .args .pages = omega (arith, l .inv .1, c .loop-test .left) in
     l .inv .0 ∙ ap (frontsTo _ _ _) end
 
 pub fronts-spec : {M : Type 1} → statement M

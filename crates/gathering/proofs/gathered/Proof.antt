@@ -35,9 +35,13 @@ mul-area c = search needs
 element-copy-out-area : tie.Need-element-copy-out-area Inv-loop μ-loop
 element-copy-out-area c = search needs
 
+-- the way back from where a fact is needed to where it was learned
+abbrev start-of-turn : tie.In-loop Inv-loop μ-loop → tie.Start Inv-loop μ-loop
+start-of-turn c = c .before .before .before
+
 push-area-requires : tie.Need-push-area-requires Inv-loop μ-loop
 push-area-requires c κs =
-    let p = c .before .before .before .before .pre in
+    let p = start-of-turn (c .before) .pre in
     (p .0, (end-small _ (p .1 .0) (c .before .before .loop .k), p .1 .1))
 
 add-k : tie.Need-add-k Inv-loop μ-loop
@@ -46,16 +50,22 @@ add-k c = search needs
 loop-less : tie.Need-loop-less Inv-loop μ-loop
 loop-less c = search needs
 
+abbrev at-loop : tie.After-push-area Inv-loop μ-loop → tie.At-loop Inv-loop μ-loop
+at-loop c = c .before .before .before
+
 loop-again : tie.Need-loop-again Inv-loop μ-loop
 loop-again c =
-    let l = c .before .before .before .loop in
-    let formed = c .before .before .before .before .before .pre .1 .0 in
+    let l = at-loop c .loop in
+    let formed = start-of-turn (c .before .before) .pre .1 .0 in
     (search needs, λ h pool. rw (c .push-area .ensures) (gathered-next _ _ _ formed _ (l .k) (l .all) (l .inv .1 h pool)))
+
+abbrev start-of-loop-end : tie.After-loop Inv-loop μ-loop → tie.Start Inv-loop μ-loop
+start-of-loop-end c = c .before .before .before
 
 returns : tie.Need-returns Inv-loop μ-loop
 returns c = λ h pool.
     let l = c .before .loop in
-    let start = c .before .before .before in
+    let start = start-of-loop-end c in
     let formed = start .pre .1 .0 in
     let end : l .k ≡ start .args .t2 .count = omega (arith, l .inv .0, c .loop-test .left) in
     let left = 8 - start .args .t2 .count in

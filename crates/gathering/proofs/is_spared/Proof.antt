@@ -1,3 +1,4 @@
+-- An area is gathered where it is anonymous and not committed.
 use borrow.Author.Needs.{needs}
 use Rattle.gathering.proofs.is_spared.Statement.{statement}
 use Rattle.gathering.proofs.is_spared.Tie as tie

@@ -1,3 +1,4 @@
+-- An entry that names a frame marks it, and an empty one changes nothing.
 use borrow.Author.Needs.{needs}
 use borrow.Author.Tests.{eq-eqb, ne-eqb}
 use Rattle.gathering.proofs.with_entry.Statement.{statement}

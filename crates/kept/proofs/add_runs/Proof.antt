@@ -39,17 +39,24 @@ add-i c = search needs
 loop-less : tie.Need-loop-less Inv-loop μ-loop
 loop-less c = search needs
 
+-- the way back from where a fact is needed to where it was learned
+abbrev at-loop : tie.After-add-run Inv-loop μ-loop → tie.At-loop Inv-loop μ-loop
+at-loop c = c .before .before .before
+
+abbrev start-of-loop : tie.At-loop Inv-loop μ-loop → tie.Start Inv-loop μ-loop
+start-of-loop c = c .before .before .before
+
 loop-again : tie.Need-loop-again Inv-loop μ-loop
 loop-again c =
-    let start = c .before .before .before .before .before .before in
-    let l = c .before .before .before .loop in
+    let start = start-of-loop (at-loop c) in
+    let l = at-loop c .loop in
     (search needs, c .add-run .ensures ∙ runs-more (row (start .args .runs)) (start .args .found) (l .m) (l .i) _ (l .inv .1) (c .before .at .ensures))
 
 returns-2 : tie.Need-returns-2 Inv-loop μ-loop
 returns-2 c =
     let l = c .before .loop in
     let end : l .i ≡ 8 = omega (arith, l .inv .0, c .loop-test .left) in
-    let s = c .before .before .before .before in
+    let s = start-of-loop (c .before) in
     l .inv .1 ∙ ap (runsTo (row (s .args .runs)) (s .args .found)) end
 
 pub add-runs-spec : {M : Type 1} → statement M

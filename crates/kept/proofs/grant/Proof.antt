@@ -29,10 +29,14 @@ cast-grant-one c = search needs
 add-grant-one : tie.Need-add-grant-one Inv-loop μ-loop
 add-grant-one c = search needs
 
+-- the way back from where a fact is needed to where it was learned
+abbrev start-of-turn : tie.In-loop Inv-loop μ-loop → tie.Start Inv-loop μ-loop
+start-of-turn c = c .before .before .before
+
 grant-one-requires : tie.Need-grant-one-requires Inv-loop μ-loop
 grant-one-requires c κs =
     let l = c .before .before .loop in
-    let start = c .before .before .before .before in (
+    let start = start-of-turn (c .before) in (
       omega (arith, l .inv .1, start .pre .0, c .before .loop-test .taken),
       least-low _ (l .g .rest) (l .i) _ (l .inv .2) (c .before .loop-test .taken) (start .pre .1),
     )
@@ -43,9 +47,12 @@ add-i c = search needs
 loop-less : tie.Need-loop-less Inv-loop μ-loop
 loop-less c = search needs
 
+abbrev at-turn : tie.After-slice-known2 Inv-loop μ-loop → tie.In-loop Inv-loop μ-loop
+at-turn c = c .before .before .before .before
+
 loop-again : tie.Need-loop-again Inv-loop μ-loop
 loop-again c =
-    let l = c .before .before .before .before .before .loop in
+    let l = at-turn c .before .loop in
     let e = c .before .before .grant-one .ensures in
     let same = ap length (e .1 .1) ∙ length-set (l .table) _ _ in (
       search needs,
@@ -57,10 +64,13 @@ loop-again c =
 same-length : tie.Need-same-length Inv-loop μ-loop
 same-length c = search needs
 
+abbrev start-of-loop-end : tie.After-loop Inv-loop μ-loop → tie.Start Inv-loop μ-loop
+start-of-loop-end c = c .before .before .before
+
 returns : tie.Need-returns Inv-loop μ-loop
 returns c =
     let l = c .before .loop in
-    let start = c .before .before .before in
+    let start = start-of-loop-end c in
     let end : l .i ≡ start .args .n = omega (arith, l .inv .0, c .loop-test .left) in
     (λ pool. l .inv .3 pool ∙ ap (adoptTo _ _ _) end, l .inv .2 ∙ ap (leftOf _) end)
 

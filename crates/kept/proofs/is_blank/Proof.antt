@@ -11,39 +11,35 @@ use borrow.Author.Needs.{needs}
 use Rattle.kept.proofs.is_blank.Statement.{statement}
 use Rattle.kept.proofs.is_blank.Tie as tie
 
--- src/lib.rt:72:17
+-- the way back from where a fact is needed to where it was learned
+abbrev at-start : tie.After-is-zero → tie.Start
+at-start c = c .before .before .before .before
+
 cast-start : tie.Need-cast-start
 cast-start c = search needs
 
--- src/lib.rt:72:17
 mul-start : tie.Need-mul-start
 mul-start c = search needs
 
--- src/lib.rt:73:26
 add-is-zero : tie.Need-add-is-zero
 add-is-zero c = search needs
 
--- src/lib.rt:73:13
 sub-is-zero : tie.Need-sub-is-zero
 sub-is-zero c = search needs
 
--- src/lib.rt:73:13
 part-is-zero-start : tie.Need-part-is-zero-start
 part-is-zero-start c = search needs
 
--- src/lib.rt:73:13
 part-is-zero-end : tie.Need-part-is-zero-end
 part-is-zero-end c = search needs
 
--- src/lib.rt:73:5
 is-zero-requires : tie.Need-is-zero-requires
 is-zero-requires c κs = search needs
 
--- src/lib.rt:68:1
 returns : tie.Need-returns
 unfolding blankb
 returns c =
-    let start = c .before .before .before .before in
+    let start = at-start c in
     c .is-zero .ensures
     ∙ ap (λ (page : List ℕ). every (λ o. eqb (getD page o 0) 0) 0 256) (part-is-frame 256 (start .args .pool .now) (start .args .f .0))
 

@@ -22,6 +22,10 @@ Inv-loop page zero₀ i₀ zero i = (i ≤ 256) × (zero ≡ every (of page) 0 i
 abbrev μ-loop : tie.MeasureT-loop
 μ-loop page zero₀ i₀ zero i = 256 - i
 
+-- the way back from where a fact is needed to where it was learned
+abbrev at-start : tie.After-shared-slice-known Inv-loop μ-loop → tie.Start Inv-loop μ-loop
+at-start c = c .before .before .before
+
 loop-holds : tie.Need-loop-holds Inv-loop μ-loop
 unfolding every
 loop-holds c = (omega arith, refl)
@@ -37,7 +41,7 @@ loop-less c = search needs
 
 loop-again : tie.Need-loop-again Inv-loop μ-loop
 loop-again c =
-    let page = c .before .before .before .args .page .now in
+    let page = at-start c .args .page .now in
     let l = c .before .before .loop in
     (search needs, rw (l .inv .1) (sym (every-last (of page) (l .i))))
 

@@ -1,3 +1,4 @@
+-- An entry counts as 1 where it is not 0.
 use borrow.Author.Needs.{needs}
 use Rattle.marks.proofs.UsedLaws.{used-one}
 use Rattle.marks.proofs.is_used.Statement.{statement}

@@ -4,6 +4,10 @@ use Rattle.marks.specs.Marks.{marksb}
 use Rattle.marks.proofs.marks_match.Statement.{statement}
 use Rattle.marks.proofs.marks_match.Tie as tie
 
+-- the way back from where a fact is needed to where it was learned
+abbrev at-marks-of : tie.After-struct-known → tie.After-marks-of
+at-marks-of c = c .before .before .before
+
 marks-of-requires : tie.Need-marks-of-requires
 marks-of-requires c κs = search needs
 
@@ -12,7 +16,7 @@ same-requires c κs = search needs
 
 returns : tie.Need-returns
 unfolding marksb
-returns c = rw (c .before .same .ensures, c .before .before .before .marks-of .ensures)
+returns c = rw (c .before .same .ensures, at-marks-of c .marks-of .ensures)
 
 pub marks-match-spec : {M : Type 1} → statement M
 marks-match-spec = tie.close (tie.spec marks-of-requires same-requires returns)

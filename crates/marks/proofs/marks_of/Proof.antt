@@ -39,16 +39,40 @@ add-i c = search needs
 loop-less : tie.Need-loop-less Inv-loop μ-loop
 loop-less c = search needs
 
+-- the way back from where a fact is needed to where it was learned
+abbrev at-loop : tie.After-add Inv-loop μ-loop → tie.At-loop Inv-loop μ-loop
+at-loop c = c .before .before .before
+
+abbrev start-of-turn : tie.In-loop Inv-loop μ-loop → tie.Start Inv-loop μ-loop
+start-of-turn c = c .before .before .before .before
+
 loop-again : tie.Need-loop-again Inv-loop μ-loop
 loop-again c =
-    let start = c .before .before .before .before .before .before in
-    let l = c .before .before .before .loop in
+    let start = start-of-turn (c .before .before) in
+    let l = at-loop c .loop in
     (search needs, c .add .ensures ∙ marks-more (start .args .frames) (from (start .args .first) (start .args .table .now)) (l .i) (l .found) (l .inv .1))
+
+abbrev start-of-loop-end : tie.After-loop Inv-loop μ-loop → tie.Start Inv-loop μ-loop
+start-of-loop-end c = c .before .before .before .before
 
 returns : tie.Need-returns Inv-loop μ-loop
 returns c =
-    let start = c .before .before .before .before in
+    let start = start-of-loop-end c in
     c .before .loop .inv .1 ∙ ap (marksTo (start .args .frames) (from (start .args .first) (start .args .table .now))) (omega arith)
 
 pub marks-of-spec : {M : Type 1} → statement M
-marks-of-spec = tie.close (tie.spec Inv-loop μ-loop none-requires loop-holds add-add mul-add shared-slice-read-add add-requires add-i loop-less loop-again returns)
+marks-of-spec =
+    tie.close
+    (tie.spec
+    Inv-loop
+    μ-loop
+    none-requires
+    loop-holds
+    add-add
+    mul-add
+    shared-slice-read-add
+    add-requires
+    add-i
+    loop-less
+    loop-again
+    returns)

@@ -1,3 +1,4 @@
+-- The entries that were passed are counted: one more at each turn.
 use mathlib.Core.Path.{_≡_, refl, ap, _∙_}
 use Prim.Native.Nat.{_≤_, _*_, _-_}
 use native.Mathlib.Omega.{arith}
@@ -34,8 +35,12 @@ shared-slice-read-is-used c = search needs
 is-used-requires : tie.Need-is-used-requires Inv-loop μ-loop
 is-used-requires c κs = search needs
 
+-- the way back from where a fact is needed to where it was learned
+abbrev at-loop : tie.After-is-used Inv-loop μ-loop → tie.At-loop Inv-loop μ-loop
+at-loop c = c .before .before .before
+
 add-n : tie.Need-add-n Inv-loop μ-loop
-add-n c = let l = c .before .before .before .loop in omega (arith, l .inv .1, l .inv .0, c .is-used .ensures .1)
+add-n c = let l = at-loop c .loop in omega (arith, l .inv .1, l .inv .0, c .is-used .ensures .1)
 
 add-i : tie.Need-add-i Inv-loop μ-loop
 add-i c = search needs
@@ -43,19 +48,25 @@ add-i c = search needs
 loop-less : tie.Need-loop-less Inv-loop μ-loop
 loop-less c = search needs
 
+abbrev start-of-turn : tie.In-loop Inv-loop μ-loop → tie.Start Inv-loop μ-loop
+start-of-turn c = c .before .before .before
+
 loop-again : tie.Need-loop-again Inv-loop μ-loop
 loop-again c =
-    let l = c .before .before .before .loop in
-    let a = c .before .before .before .before .before .args in (
+    let l = at-loop c .loop in
+    let a = start-of-turn (c .before .before) .args in (
       search needs,
       omega (arith, l .inv .1, c .is-used .ensures .1),
       used-more (from (a .sandbox * 128) (a .table .now)) (l .i) (l .n) _ (l .inv .2) (c .is-used .ensures .0),
     )
 
+abbrev start-of-loop-end : tie.After-loop Inv-loop μ-loop → tie.Start Inv-loop μ-loop
+start-of-loop-end c = c .before .before .before
+
 returns : tie.Need-returns Inv-loop μ-loop
 returns c =
     let l = c .before .loop in
-    let a = c .before .before .before .args in
+    let a = start-of-loop-end c .args in
     let end : l .i ≡ 128 = omega (arith, l .inv .0, c .loop-test .left) in
     (l .inv .2 ∙ ap (usedBelow (from (a .sandbox * 128) (a .table .now))) end, omega (arith, l .inv .1, l .inv .0))
 

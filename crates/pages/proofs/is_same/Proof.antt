@@ -23,6 +23,13 @@ Inv-loop part other same₀ i₀ i-end same i = (i ≤ length part) × (same ≡
 abbrev μ-loop : tie.MeasureT-loop
 μ-loop part other same₀ i₀ i-end same i = length part - i
 
+-- the way back from where a fact is needed to where it was learned
+abbrev at-loop : tie.After-shared-slice-known2 Inv-loop μ-loop → tie.At-loop Inv-loop μ-loop
+at-loop c = c .before .before .before
+
+abbrev at-start : tie.After-shared-slice-known2 Inv-loop μ-loop → tie.Start Inv-loop μ-loop
+at-start c = c .before .before .before .before
+
 loop-holds : tie.Need-loop-holds Inv-loop μ-loop
 unfolding every
 loop-holds c = (search needs, refl)
@@ -41,8 +48,8 @@ loop-less c = search needs
 
 loop-again : tie.Need-loop-again Inv-loop μ-loop
 loop-again c =
-    let a = c .before .before .before .before .args in
-    let l = c .before .before .before .loop in
+    let a = at-start c .args in
+    let l = at-loop c .loop in
     (omega arith, rw (l .inv .1) (sym (every-last (of (a .part .now) (a .other .now)) (l .i))))
 
 returns : tie.Need-returns Inv-loop μ-loop

@@ -6,6 +6,10 @@ use Rattle.pages.proofs.PartLaws.{length-zeros, length-lent, frame-back-as}
 use Rattle.pool.proofs.clear_frame.Statement.{statement}
 use Rattle.pool.proofs.clear_frame.Tie as tie
 
+-- the way back from where a fact is needed to where it was learned
+abbrev at-start : tie.After-clear → tie.Start
+at-start c = c .before .before .before .before
+
 cast-start : tie.Need-cast-start
 cast-start c = search needs
 
@@ -33,11 +37,9 @@ same-length c = search needs
 returns : tie.Need-returns
 returns c =
     let m = c .before .before in
-    let start = m .before .before .before .before in
-    let xs = start .args .pool .now in
-    let f = start .args .f .0 in
-    frame-back-as 256 xs (m .clear .last .0) (zeros 256) f
-    (m .clear .ensures ∙ ap zeros (length-lent 256 xs f (start .pre))) (length-zeros 256)
+    let s = at-start m in
+    frame-back-as 256 (s .args .pool .now) (m .clear .last .0) (zeros 256) (s .args .f .0)
+    (m .clear .ensures ∙ ap zeros (length-lent 256 (s .args .pool .now) (s .args .f .0) (s .pre))) (length-zeros 256)
 
 pub clear-frame-spec : {M : Type 1} → statement M
 clear-frame-spec =

@@ -3,6 +3,10 @@ use borrow.Author.Needs.{needs}
 use Rattle.pool.proofs.copy_frame.Statement.{statement}
 use Rattle.pool.proofs.copy_frame.Tie as tie
 
+-- the way back from where a fact is needed to where it was learned
+abbrev at-load-frame : tie.After-slice-known2 → tie.After-load-frame
+at-load-frame c = c .before .before .before .before .before
+
 load-frame-requires : tie.Need-load-frame-requires
 load-frame-requires c κs = search needs
 
@@ -16,7 +20,7 @@ same-length : tie.Need-same-length
 same-length c = search needs
 
 returns : tie.Need-returns
-returns c = cc (c .before .before .fill-frame .ensures, c .before .before .before .before .before .load-frame .ensures)
+returns c = cc (c .before .before .fill-frame .ensures, at-load-frame c .load-frame .ensures)
 
 pub copy-frame-spec : {M : Type 1} → statement M
 copy-frame-spec =

@@ -4,6 +4,10 @@ use Rattle.pages.proofs.PartLaws.{frame-back-as}
 use Rattle.pool.proofs.fill_frame.Statement.{statement}
 use Rattle.pool.proofs.fill_frame.Tie as tie
 
+-- the way back from where a fact is needed to where it was learned
+abbrev at-start : tie.After-fill → tie.Start
+at-start c = c .before .before .before .before .before
+
 cast-start : tie.Need-cast-start
 cast-start c = search needs
 
@@ -31,7 +35,7 @@ same-length c = search needs
 returns : tie.Need-returns
 returns c =
     let m = c .before .before in
-    let start = m .before .before .before .before .before in
+    let start = at-start m in
     frame-back-as 256 (start .args .pool .now) (m .fill .last .0) (start .args .src .now) (start .args .f .0) (m .fill .ensures) (start .pre .1)
 
 pub fill-frame-spec : {M : Type 1} → statement M

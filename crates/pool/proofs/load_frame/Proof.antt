@@ -5,6 +5,10 @@ use Rattle.pages.proofs.PartLaws.{part-is-frame}
 use Rattle.pool.proofs.load_frame.Statement.{statement}
 use Rattle.pool.proofs.load_frame.Tie as tie
 
+-- the way back from where a fact is needed to where it was learned
+abbrev at-start : tie.After-load → tie.Start
+at-start c = c .before .before .before .before
+
 cast-start : tie.Need-cast-start
 cast-start c = search needs
 
@@ -28,7 +32,7 @@ load-requires c κs = search needs
 
 returns : tie.Need-returns
 returns c =
-    let start = c .before .before .before .before in
+    let start = at-start c in
     c .load .ensures ∙ part-is-frame 256 (start .args .pool .now) (start .args .f .0)
 
 pub load-frame-spec : {M : Type 1} → statement M

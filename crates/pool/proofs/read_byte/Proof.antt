@@ -8,6 +8,10 @@ use Rattle.pages.proofs.PartLaws.{part-is-frame}
 use Rattle.pool.proofs.read_byte.Statement.{statement}
 use Rattle.pool.proofs.read_byte.Tie as tie
 
+-- the way back from where a fact is needed to where it was learned
+abbrev at-start : tie.After-read → tie.Start
+at-start c = c .before .before .before .before
+
 cast-start : tie.Need-cast-start
 cast-start c = search needs
 
@@ -31,7 +35,7 @@ read-requires c κs = search needs
 
 returns : tie.Need-returns
 returns c =
-    let start = c .before .before .before .before in
+    let start = at-start c in
     c .read .ensures
     ∙ ap (λ (page : List ℕ). getD page (start .args .offset) 0) (part-is-frame 256 (start .args .pool .now) (start .args .f .0))
 

@@ -9,6 +9,10 @@ use Rattle.pages.proofs.PartLaws.{length-frame, part-is-frame, frame-back-as}
 use Rattle.pool.proofs.store_byte.Statement.{statement}
 use Rattle.pool.proofs.store_byte.Tie as tie
 
+-- the way back from where a fact is needed to where it was learned
+abbrev at-start : tie.After-store → tie.Start
+at-start c = c .before .before .before .before
+
 cast-start : tie.Need-cast-start
 cast-start c = search needs
 
@@ -36,7 +40,7 @@ same-length c = search needs
 returns : tie.Need-returns
 returns c =
     let m = c .before .before in
-    let start = m .before .before .before .before in
+    let start = at-start m in
     let xs = start .args .pool .now in
     let f = start .args .f .0 in
     let o = start .args .offset in

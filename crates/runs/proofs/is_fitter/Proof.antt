@@ -1,3 +1,4 @@
+-- The test by cases: long enough for the pages, or not.
 use mathlib.Core.Path.{sym}
 use borrow.Author.Tests.{le-leb, lt-leb}
 use Rattle.runs.proofs.is_fitter.Statement.{statement}

@@ -1,3 +1,4 @@
+-- The marks of the runs of the sandboxes that were passed: those of one more at each turn.
 use mathlib.Core.Path.{_≡_, ap, _∙_}
 use Prim.Native.Nat.{ℕ, _≤_, _-_}
 use native.Mathlib.Omega.{arith}
@@ -54,22 +55,32 @@ add-s c = search needs
 loop-less : tie.Need-loop-less Inv-loop μ-loop
 loop-less c = search needs
 
+-- the way back from where a fact is needed to where it was learned
+abbrev at-turn : tie.After-add-runs Inv-loop μ-loop → tie.In-loop Inv-loop μ-loop
+at-turn c = c .before .before .before
+
+abbrev start-of-turn : tie.In-loop Inv-loop μ-loop → tie.Start Inv-loop μ-loop
+start-of-turn c = c .before .before .before
+
 loop-again : tie.Need-loop-again Inv-loop μ-loop
 loop-again c =
-    let start = c .before .before .before .before .before .before in
-    let l = c .before .before .before .before .loop in
-    let low = c .before .before .before .loop-test .taken in
+    let start = start-of-turn (at-turn c) in
+    let l = at-turn c .before .loop in
+    let low = at-turn c .loop-test .taken in
     let same = getD-any (start .args .t1) (l .s) zeroSandbox closedSandbox (let e = four start in omega (arith, low, e)) in (
       search needs,
       kept-more (rows (start .args .t1)) (l .s) (l .found) _ (row (getD (start .args .t1) (l .s) zeroSandbox .runs)) (l .inv .1)
           (ap (λ (b : Sandbox). row (b .runs)) same) (c .add-runs .ensures),
     )
 
+abbrev start-of-loop-end : tie.After-loop Inv-loop μ-loop → tie.Start Inv-loop μ-loop
+start-of-loop-end c = c .before .before .before
+
 returns : tie.Need-returns Inv-loop μ-loop
 returns c =
     let l = c .before .loop in
     let end : l .s ≡ 4 = omega (arith, l .inv .0, c .loop-test .left) in
-    l .inv .1 ∙ ap (keptTo (rows (c .before .before .before .args .t1))) end
+    l .inv .1 ∙ ap (keptTo (rows (start-of-loop-end c .args .t1))) end
 
 pub kept-marks-spec : {M : Type 1} → statement M
 kept-marks-spec =

@@ -1,82 +1,75 @@
+-- The shares of the sandboxes that were passed are summed: one more at each turn; the sum does not wrap in the wider type.
+use mathlib.Core.Path.{_≡_, refl, ap, _∙_}
+use mathlib.Core.List.{List}
+use Prim.Native.Nat.{ℕ, _*_, _≤_, _-_}
 use native.Mathlib.Omega.{arith}
-use mathlib.Core.Path.{_≡_}
-use lib.ListN.{length}
-use Rattle.basics.proofs.TestLaws.{length-mapped}
-use Rattle.state.proofs.SharesLaws.{shares-four, zeroSandbox}
+use lib.ListN.{length, getD}
 use borrow.Author.Needs.{needs}
+use Rattle.basics.specs.Ranges.{sum}
+use Rattle.basics.proofs.TestLaws.{length-mapped}
+use Rattle.basics.proofs.ListLaws.{getD-any}
+use Rattle.runs.proofs.RowLaws.{sum-more}
+use Rattle.state.specs.declared.sandbox.Sandbox.{Sandbox}
+use Rattle.state.specs.World.{closedSandbox}
+use Rattle.state.proofs.SharesLaws.{zeroSandbox}
 use Rattle.totals.proofs.shares.Statement.{statement}
 use Rattle.totals.proofs.shares.Tie as tie
-use Rattle.totals.proofs.shares.Reads as reads
-use Rattle.totals.proofs.shares.Lts as lts
 
-four : (c : tie.Start) → length (c .args .t1) ≡ 4
+-- the share of each sandbox
+abbrev shareAt : List Sandbox → ℕ → ℕ
+shareAt sandboxes s = getD sandboxes s closedSandbox .share
+
+abbrev Inv-loop : tie.InvT-loop
+Inv-loop sandboxes n₀ k₀ n k = (k ≤ 4) × (n ≡ sum (shareAt sandboxes) k) × (n ≤ k * 255)
+
+abbrev μ-loop : tie.MeasureT-loop
+μ-loop sandboxes n₀ k₀ n k = 4 - k
+
+-- the way back from where a fact is needed to where it was learned
+abbrev at-loop : tie.After-struct-known Inv-loop μ-loop → tie.At-loop Inv-loop μ-loop
+at-loop c = c .before .before .before
+
+four : (c : tie.Start Inv-loop μ-loop) → length (c .args .t1) ≡ 4
 four c = search length-mapped
 
--- src/sandbox.rt:120:17
-array-copy-out-first : tie.Need-array-copy-out-first
-array-copy-out-first c = search needs
+loop-holds : tie.Need-loop-holds Inv-loop μ-loop
+unfolding sum
+loop-holds c = (omega arith, refl, omega arith)
 
--- src/sandbox.rt:121:18
-array-copy-out-second : tie.Need-array-copy-out-second
-array-copy-out-second c = search needs
+mul-b : tie.Need-mul-b Inv-loop μ-loop
+mul-b c = search needs
 
--- src/sandbox.rt:122:17
-array-copy-out-third : tie.Need-array-copy-out-third
-array-copy-out-third c = search needs
+array-copy-out-b : tie.Need-array-copy-out-b Inv-loop μ-loop
+array-copy-out-b c = search needs
 
--- src/sandbox.rt:123:18
-array-copy-out-fourth : tie.Need-array-copy-out-fourth
-array-copy-out-fourth c = search needs
+cast-n : tie.Need-cast-n Inv-loop μ-loop
+cast-n c = search needs
 
--- src/sandbox.rt:124:5
-cast-result : tie.Need-cast-result
-cast-result c = search needs
+add-n : tie.Need-add-n Inv-loop μ-loop
+add-n c = let l = at-loop c .loop in omega (arith, l .inv .2, c .before .before .loop-test .taken, c .struct-known .given .1 .0 .fits)
 
--- src/sandbox.rt:124:26
-cast-result-2 : tie.Need-cast-result-2
-cast-result-2 c = search needs
+add-k : tie.Need-add-k Inv-loop μ-loop
+add-k c = search needs
 
--- src/sandbox.rt:124:5
-add-result : tie.Need-add-result
-add-result c = search needs
+loop-less : tie.Need-loop-less Inv-loop μ-loop
+loop-less c = search needs
 
--- src/sandbox.rt:124:48
-cast-result-3 : tie.Need-cast-result-3
-cast-result-3 c = search needs
+loop-again : tie.Need-loop-again Inv-loop μ-loop
+loop-again c =
+    let start = at-loop c .before in
+    let l = at-loop c .loop in
+    let low = c .before .before .loop-test .taken in
+    let same = getD-any (start .args .t1) (l .k) zeroSandbox closedSandbox (let e = four start in omega (arith, low, e)) in (
+      search needs,
+      sum-more (shareAt (start .args .t1)) (l .k) (l .n) _ (l .inv .1) (ap (λ (b : Sandbox). b .share) same),
+      omega (arith, l .inv .2, c .struct-known .given .1 .0 .fits),
+    )
 
--- src/sandbox.rt:124:5
-add-result-2 : tie.Need-add-result-2
-add-result-2 c = search needs
-
--- src/sandbox.rt:124:69
-cast-result-4 : tie.Need-cast-result-4
-cast-result-4 c = search needs
-
--- src/sandbox.rt:124:5
-add-result-3 : tie.Need-add-result-3
-add-result-3 c = search needs
-
--- src/sandbox.rt:116:1
-returns : tie.Need-returns
-returns c = (
-  shares-four (c .before .before .before .before .before .before .before .before .args .t1) zeroSandbox
-      (four (c .before .before .before .before .before .before .before .before)),
-  omega arith,
-)
+returns : tie.Need-returns Inv-loop μ-loop
+returns c =
+    let l = c .before .loop in
+    let end : l .k ≡ 4 = omega (arith, l .inv .0, c .loop-test .left) in
+    (l .inv .1 ∙ ap (sum (shareAt (c .before .before .args .t1))) end, omega (arith, l .inv .2, end))
 
 pub shares-spec : {M : Type 1} → statement M
-shares-spec =
-    tie.close
-    (tie.spec
-    array-copy-out-first
-    array-copy-out-second
-    array-copy-out-third
-    array-copy-out-fourth
-    cast-result
-    cast-result-2
-    add-result
-    cast-result-3
-    add-result-2
-    cast-result-4
-    add-result-3
-    returns)
+shares-spec = tie.close (tie.spec Inv-loop μ-loop loop-holds mul-b array-copy-out-b cast-n add-n add-k loop-less loop-again returns)

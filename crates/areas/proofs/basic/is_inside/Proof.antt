@@ -1,3 +1,4 @@
+-- The test is the definition; the sum does not wrap in the wider type.
 use borrow.Author.Needs.{needs}
 use Rattle.basics.proofs.RangeLaws.{inside-ends}
 use Rattle.areas.proofs.basic.is_inside.Statement.{statement}

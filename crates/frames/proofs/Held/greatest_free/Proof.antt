@@ -24,10 +24,14 @@ greatest-unset-requires-2 c κs = search needs
 enum-known-high : tie.Need-enum-known-high
 enum-known-high c = search needs
 
+-- the way back from where a fact is needed to where it was learned
+abbrev at-start : tie.After-high → tie.Start
+at-start c = c .before .before .before .before
+
 add-t8 : tie.Need-add-t8
 add-t8 c =
     let arm = c .before .before in
-    let start = arm .before .before .before .before in
+    let start = at-start arm in
     let found = greatest-found (bit (start .args .self .high)) (start .args .frames - 64) (arm .high .given .0 .0)
     (sym (arm .before .before .greatest-unset2 .ensures) ∙ arm .high .given .1) in
     omega (arith, found .within, start .pre)
@@ -38,16 +42,22 @@ enum-told c = search needs
 greatest-unset-requires-3 : tie.Need-greatest-unset-requires-3
 greatest-unset-requires-3 c κs = search needs
 
+abbrev else1-of-high : tie.After-high → tie.Else1
+else1-of-high c = c .before .before .before
+
 returns-2 : tie.Need-returns-2
 returns-2 c =
     let arm = c .before .before in
-    let test = arm .before .before .before in
+    let test = else1-of-high arm in
     free-found (test .before .args .self) _ _ (le-of-lt (test .if1 .left)) (sym (arm .before .before .greatest-unset2 .ensures) ∙ arm .high .given .1)
+
+abbrev else1-of-enum-told : tie.After-enum-told → tie.Else1
+else1-of-enum-told c = c .before .before .before
 
 returns-3 : tie.Need-returns-3
 returns-3 c =
     let arm = c .before in
-    let test = arm .before .before .before in
+    let test = else1-of-enum-told arm in
     c .greatest-unset3 .ensures ∙ free-rest (test .before .args .self) _ (le-of-lt (test .if1 .left))
     (sym (arm .before .before .greatest-unset2 .ensures) ∙ arm .enum-told .given .1)
 

@@ -10,6 +10,10 @@ use Rattle.frames.proofs.PairLaws.{least-words}
 use Rattle.frames.proofs.Held.least.Statement.{statement}
 use Rattle.frames.proofs.Held.least.Tie as tie
 
+-- the way back from where a fact is needed to where it was learned
+abbrev at-start : tie.After-lowest-set2 → tie.Start
+at-start c = c .before .before .before
+
 lowest-set-requires : tie.Need-lowest-set-requires
 lowest-set-requires c κs = search needs
 
@@ -23,13 +27,13 @@ lowest-set-requires-2 c κs = search needs
 
 add-result : tie.Need-add-result
 add-result c =
-    let words = c .before .before .before .args .self in
+    let words = at-start c .args .self in
     let range = lowest-range (λ k. eqb (bit (words .high) k) 1) 0 64 .1 in
     record { fits = omega (arith, c .lowest-set2 .ensures, range) }
 
 returns-2 : tie.Need-returns-2
 returns-2 c =
-    let self = c .before .before .before .args .self in
+    let self = at-start c .args .self in
     sym (rw (le-ltb _ 64 (c .before .if1 .left)))
     ∙ least-words self (c .before .before .lowest-set .result) (c .lowest-set2 .result) (c .before .before .lowest-set .ensures) (c .lowest-set2 .ensures)
 

@@ -13,8 +13,8 @@ use Rattle.interface.specs.Requests.{isCall}
 use Rattle.interface.specs.Refusals.{View, refusal}
 use Rattle.state.specs.declared.sandbox.Sandbox.{Sandbox}
 use Rattle.state.specs.World.{World, worldOf, sandboxAt, pagesIn}
-use Rattle.state.proofs.TestLaws.{Tested, tested}
-use Rattle.state.specs.Test.{soundb}
+use Rattle.soundness.proofs.TestLaws.{Tested, tested}
+use Rattle.soundness.specs.Test.{soundb}
 use Rattle.state.proofs.SharesLaws.{zeroSandbox}
 use Rattle.state.proofs.SettledLaws.{settled-at}
 use Rattle.decision.specs.declared.Verdict.the-variants.{Accepted}

@@ -5,6 +5,10 @@ use Rattle.marks.specs.Marks.{addEntry}
 use Rattle.marks.proofs.Marks.add.Statement.{statement}
 use Rattle.marks.proofs.Marks.add.Tie as tie
 
+-- the way back from where a fact is needed to where it was learned
+abbrev at-else2 : tie.After-with → tie.Else2
+at-else2 c = c .before .before .before
+
 returns : tie.Need-returns
 unfolding addEntry
 returns c = simp (eq-eqb _ _ (c .if1 .taken))
@@ -28,7 +32,7 @@ with-requires c κs = search needs
 returns-3 : tie.Need-returns-3
 unfolding addEntry
 returns-3 c =
-    let tests = c .before .before .before in
+    let tests = at-else2 c in
     simp (ne-eqb _ _ (tests .before .before .if1 .left), le-ltb _ _ (tests .if2 .left), c .before .before .contains .ensures, c .with .ensures)
 
 pub add-spec : {M : Type 1} → statement M

@@ -1,3 +1,4 @@
+-- By the backing: an anonymous one asks nothing, an image one that the last page is in the image.
 use native.Mathlib.Omega.{arith}
 use borrow.Author.Needs.{needs}
 use Rattle.packing.proofs.formed.images_exist.Statement.{statement}

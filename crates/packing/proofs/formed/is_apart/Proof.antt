@@ -1,3 +1,4 @@
+-- The test is the definition, each part computed by its own call.
 use native.Mathlib.Omega.{arith}
 use Rattle.areas.specs.Formed.{isApart}
 use Rattle.packing.proofs.formed.is_apart.Statement.{statement}

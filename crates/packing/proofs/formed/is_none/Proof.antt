@@ -1,3 +1,4 @@
+-- The test is the definition, field by field.
 use Rattle.areas.specs.Formed.{isNone}
 use Rattle.packing.proofs.formed.is_none.Statement.{statement}
 use Rattle.packing.proofs.formed.is_none.Tie as tie

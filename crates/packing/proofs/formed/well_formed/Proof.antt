@@ -1,3 +1,4 @@
+-- The places that were passed are as they should be, so whether all are is whether the rest are.
 use Prim.Native.Nat.{_-_, _≤_}
 use mathlib.Core.Path.{_≡_, refl, sym, _∙_}
 use lib.ListN.{length}
@@ -32,14 +33,24 @@ loop-holds c = (omega arith, refl)
 place-ok-requires : tie.Need-place-ok-requires Inv-loop μ-loop
 place-ok-requires c κs = omega arith
 
+-- the way back from where a fact is needed to where it was learned
+abbrev at-loop : tie.After-place-ok Inv-loop μ-loop → tie.At-loop Inv-loop μ-loop
+at-loop c = c .before .before
+
+abbrev at-else1 : tie.After-place-ok Inv-loop μ-loop → tie.Else1 Inv-loop μ-loop
+at-else1 c = c .before .before .before
+
+abbrev start-of-turn : tie.In-loop Inv-loop μ-loop → tie.Start Inv-loop μ-loop
+start-of-turn c = c .before .before .before .before
+
 returns-2 : tie.Need-returns-2 Inv-loop μ-loop
 unfolding wellFormed
 returns-2 c = (
   sym
-      (rw (eq-eqb _ 8 (eight (c .before .before .before .before .before .before)), le-leb _ _ (c .before .before .before .before .if1 .left))
-      (c .before .before .before .loop .inv .1
+      (rw (eq-eqb _ 8 (eight (start-of-turn (c .before .before))), le-leb _ _ (at-else1 (c .before) .if1 .left))
+      (at-loop (c .before) .loop .inv .1
       ∙ every-stop _ _ _ (c .before .before .loop-test .taken) (sym (c .before .place-ok .ensures) ∙ not-true _ (c .if2 .taken)))),
-  eight (c .before .before .before .before .before .before),
+  eight (start-of-turn (c .before .before)),
 )
 
 add-k : tie.Need-add-k Inv-loop μ-loop
@@ -51,17 +62,20 @@ loop-less c = omega arith
 loop-again : tie.Need-loop-again Inv-loop μ-loop
 loop-again c = (
   omega arith,
-  c .before .before .before .loop .inv .1
+  at-loop (c .before) .loop .inv .1
       ∙ every-next _ _ _ (c .before .before .loop-test .taken) (sym (c .before .place-ok .ensures) ∙ not-false _ (c .if2 .left)),
 )
+
+abbrev start-of-loop-end : tie.After-loop Inv-loop μ-loop → tie.Start Inv-loop μ-loop
+start-of-loop-end c = c .before .before .before .before
 
 returns-3 : tie.Need-returns-3 Inv-loop μ-loop
 unfolding wellFormed
 returns-3 c = (
   sym
-      (rw (eq-eqb _ 8 (eight (c .before .before .before .before)), le-leb _ _ (c .before .before .if1 .left))
+      (rw (eq-eqb _ 8 (eight (start-of-loop-end c)), le-leb _ _ (c .before .before .if1 .left))
       (c .before .loop .inv .1 ∙ every-end _ _ _ (c .loop-test .left))),
-  eight (c .before .before .before .before),
+  eight (start-of-loop-end c),
 )
 
 pub well-formed-spec : {M : Type 1} → statement M

@@ -1,3 +1,4 @@
+-- One place stored and the count one more are the definition.
 use native.Mathlib.Omega.{arith}
 use Rattle.packing.proofs.pack.added.Statement.{statement}
 use Rattle.packing.proofs.pack.added.Tie as tie

@@ -1,9 +1,14 @@
+-- Without areas no page goes on; else the last area says it.
 use Prim.Native.Nat.{_<_}
 use native.Mathlib.Omega.{arith}
 use borrow.Author.Tests.{lt-ltb}
 use Rattle.packing.specs.Pack.{continues}
 use Rattle.packing.proofs.pack.continues.Statement.{statement}
 use Rattle.packing.proofs.pack.continues.Tie as tie
+
+-- the way back from where a fact is needed to where it was learned
+abbrev at-start : tie.After-goes-on → tie.Start
+at-start c = c .before .before .before
 
 returns : tie.Need-returns
 unfolding continues
@@ -26,7 +31,7 @@ goes-on-requires c κs = tt
 
 returns-2 : tie.Need-returns-2
 unfolding continues
-returns-2 c = let some : 0 < c .before .before .before .args .t1 .count = omega arith in rw (c .goes-on .ensures, lt-ltb 0 _ some)
+returns-2 c = let some : 0 < at-start c .args .t1 .count = omega arith in rw (c .goes-on .ensures, lt-ltb 0 _ some)
 
 pub continues-spec : {M : Type 1} → statement M
 continues-spec =

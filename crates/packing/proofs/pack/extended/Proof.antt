@@ -1,3 +1,4 @@
+-- One place stored is the definition; the last area has a page to gain.
 use native.Mathlib.Omega.{arith}
 use Rattle.packing.proofs.pack.extended.Statement.{statement}
 use Rattle.packing.proofs.pack.extended.Tie as tie

@@ -1,3 +1,4 @@
+-- A place has no run where its marks are those of no frame.
 use mathlib.Core.Path.{ap₂, _∙_}
 use borrow.Author.Needs.{needs}
 use Rattle.frames.specs.Frames.{sameHeld}

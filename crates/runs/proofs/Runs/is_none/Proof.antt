@@ -1,3 +1,4 @@
+-- The places that were passed have no run, so whether none is kept is whether the rest have none.
 use mathlib.Core.Path.{_≡_, refl, sym, _∙_}
 use Prim.Native.Nat.{_≤_, _-_}
 use native.Mathlib.Omega.{arith}
@@ -16,6 +17,13 @@ Inv-loop self i₀ i = (i ≤ 8) × (every (λ j. sameHeld (row self j) noneHeld
 abbrev μ-loop : tie.MeasureT-loop
 μ-loop self i₀ i = 8 - i
 
+-- the way back from where a fact is needed to where it was learned
+abbrev at-loop : tie.After-is-empty Inv-loop μ-loop → tie.At-loop Inv-loop μ-loop
+at-loop c = c .before .before
+
+abbrev at-start : tie.After-is-empty Inv-loop μ-loop → tie.Start Inv-loop μ-loop
+at-start c = c .before .before .before
+
 loop-holds : tie.Need-loop-holds Inv-loop μ-loop
 loop-holds c = (omega arith, refl)
 
@@ -24,8 +32,8 @@ is-empty-requires c κs = search needs
 
 returns : tie.Need-returns Inv-loop μ-loop
 returns c =
-    let l = c .before .before .before .loop in
-    let a = c .before .before .before .before .args in
+    let l = at-loop (c .before) .loop in
+    let a = at-start (c .before) .args in
     sym (l .inv .1 ∙ every-stop (λ j. sameHeld (row (a .self) j) noneHeld) 8 (l .i) (c .before .before .loop-test .taken)
     (sym (c .before .is-empty .ensures) ∙ not-true _ (c .if1 .taken)))
 
@@ -37,8 +45,8 @@ loop-less c = search needs
 
 loop-again : tie.Need-loop-again Inv-loop μ-loop
 loop-again c =
-    let l = c .before .before .before .loop in
-    let a = c .before .before .before .before .args in (
+    let l = at-loop (c .before) .loop in
+    let a = at-start (c .before) .args in (
       search needs,
       l .inv .1 ∙ every-next (λ j. sameHeld (row (a .self) j) noneHeld) 8 (l .i) (c .before .before .loop-test .taken)
           (sym (c .before .is-empty .ensures) ∙ not-false _ (c .if1 .left)),

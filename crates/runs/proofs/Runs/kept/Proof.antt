@@ -1,3 +1,4 @@
+-- The lengths of the runs that were passed are summed: one more at each turn.
 use mathlib.Core.Path.{_≡_, refl, ap, _∙_}
 use Prim.Native.Nat.{_≤_, _*_, _-_}
 use native.Mathlib.Omega.{arith}
@@ -13,6 +14,10 @@ Inv-loop self n₀ i₀ n i = (i ≤ 8) × (n ≤ i * 128) × (n ≡ sum (length
 
 abbrev μ-loop : tie.MeasureT-loop
 μ-loop self n₀ i₀ n i = 8 - i
+
+-- the way back from where a fact is needed to where it was learned
+abbrev at-start : tie.After-length Inv-loop μ-loop → tie.Start Inv-loop μ-loop
+at-start c = c .before .before .before
 
 loop-holds : tie.Need-loop-holds Inv-loop μ-loop
 unfolding sum
@@ -38,7 +43,7 @@ loop-again c =
     let l = c .before .before .loop in (
       search needs,
       omega (arith, l .inv .1, c .length .ensures .1),
-      sum-more (lengthsOf (c .before .before .before .args .self)) (l .i) (l .n) _ (l .inv .2) (c .length .ensures .0),
+      sum-more (lengthsOf (at-start c .args .self)) (l .i) (l .n) _ (l .inv .2) (c .length .ensures .0),
     )
 
 returns : tie.Need-returns Inv-loop μ-loop

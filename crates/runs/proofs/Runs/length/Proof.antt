@@ -1,3 +1,4 @@
+-- A run is as long as it has frames, at most 128.
 use mathlib.Core.Path.{ap, _∙_}
 use native.Mathlib.Omega.{arith}
 use borrow.Author.Needs.{needs}

@@ -1,50 +1,16 @@
-use mathlib.Core.Path.{_≡_, refl, ap, _∙_}
-use Prim.Native.Nat.{_≤_, _<_, _-_}
-use native.Mathlib.Omega.{arith}
+-- The longest run is the best by its rule.
 use borrow.Author.Needs.{needs}
-use Rattle.basics.specs.Rows.{best, longer}
 use Rattle.interface.specs.Runs.{longestRun}
-use Rattle.runs.specs.Row.{lengthsOf}
-use Rattle.runs.proofs.RowLaws.{best-more, better-low}
+use Rattle.runs.specs.Row.{betterBy}
 use Rattle.runs.proofs.Runs.longest.Statement.{statement}
 use Rattle.runs.proofs.Runs.longest.Tie as tie
 
-abbrev Inv-loop : tie.InvT-loop
-Inv-loop self best₀ i₀ found i = (i ≤ 8) × (found < 8) × (found ≡ best longer (lengthsOf self) i)
+best-requires : tie.Need-best-requires
+best-requires c κs = search needs
 
-abbrev μ-loop : tie.MeasureT-loop
-μ-loop self best₀ i₀ found i = 8 - i
-
-loop-holds : tie.Need-loop-holds Inv-loop μ-loop
-unfolding best
-loop-holds c = (omega arith, omega arith, refl)
-
-longer-of-requires : tie.Need-longer-of-requires Inv-loop μ-loop
-longer-of-requires c κs = search needs
-
-add-i : tie.Need-add-i Inv-loop μ-loop
-add-i c = search needs
-
-loop-less : tie.Need-loop-less Inv-loop μ-loop
-loop-less c = search needs
-
-loop-again : tie.Need-loop-again Inv-loop μ-loop
-loop-again c =
-    let a = c .before .before .before .args in
-    let l = c .before .before .loop in
-    let row = lengthsOf (a .self) in (
-      search needs,
-      better-low longer row (l .i) (l .best) _ (c .before .loop-test .taken) (l .inv .1) (c .longer-of .ensures),
-      best-more longer row (l .i) (l .best) _ (l .inv .2) (c .longer-of .ensures),
-    )
-
-returns : tie.Need-returns Inv-loop μ-loop
-unfolding longestRun
-returns c =
-    let a = c .before .before .args in
-    let l = c .before .loop in
-    let end : l .i ≡ 8 = omega (arith, l .inv .0, c .loop-test .left) in
-    (l .inv .2 ∙ ap (best longer (lengthsOf (a .self))) end, l .inv .1)
+returns : tie.Need-returns
+unfolding betterBy longestRun
+returns c = c .best .ensures
 
 pub longest-spec : {M : Type 1} → statement M
-longest-spec = tie.close (tie.spec Inv-loop μ-loop loop-holds longer-of-requires add-i loop-less loop-again returns)
+longest-spec = tie.close (tie.spec best-requires returns)

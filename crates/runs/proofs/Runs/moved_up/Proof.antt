@@ -1,3 +1,4 @@
+-- The runs behind the place move up one by one, and the new run takes the last place.
 use mathlib.Core.Path.{_≡_, ap, _∙_}
 use Prim.Native.Nat.{_≤_, _-_}
 use native.Mathlib.Omega.{arith}
@@ -32,10 +33,17 @@ add-i c = search needs
 loop-less : tie.Need-loop-less Inv-loop μ-loop
 loop-less c = search needs
 
+-- the way back from where a fact is needed to where it was learned
+abbrev at-loop : tie.After-with Inv-loop μ-loop → tie.At-loop Inv-loop μ-loop
+at-loop c = c .before .before .before
+
+abbrev start-of-with : tie.After-with Inv-loop μ-loop → tie.Start Inv-loop μ-loop
+start-of-with c = c .before .before .before .before
+
 loop-again : tie.Need-loop-again Inv-loop μ-loop
 loop-again c =
-    let l = c .before .before .before .loop in
-    let a = c .before .before .before .before .args in (
+    let l = at-loop c .loop in
+    let a = start-of-with c .args in (
       omega (arith, l .inv .0),
       omega (arith, c .before .before .loop-test .taken),
       shift-more (a .place) (a .self) (l .i) (l .r) _ _ (l .inv .0) (l .inv .2) (c .before .at .ensures) (c .with .ensures),
@@ -44,11 +52,14 @@ loop-again c =
 with-requires-2 : tie.Need-with-requires-2 Inv-loop μ-loop
 with-requires-2 c κs = search needs
 
+abbrev start-of-with2 : tie.After-with2 Inv-loop μ-loop → tie.Start Inv-loop μ-loop
+start-of-with2 c = c .before .before .before
+
 returns : tie.Need-returns Inv-loop μ-loop
 unfolding movedRuns
 returns c =
     let l = c .before .before .loop in
-    let a = c .before .before .before .args in
+    let a = start-of-with2 c .args in
     let end : l .i - a .place ≡ 7 - a .place = omega (arith, l .inv .0, l .inv .1, c .before .loop-test .left) in
     c .with2 .ensures ∙ ap (withRunAt 7 (a .run)) (l .inv .2 ∙ ap (shiftTo (a .place) (a .self)) end)
 

@@ -1,3 +1,4 @@
+-- Eight places without a frame, as the definition has them.
 use borrow.Author.Needs.{needs}
 use Rattle.runs.proofs.Runs.none.Statement.{statement}
 use Rattle.runs.proofs.Runs.none.Tie as tie

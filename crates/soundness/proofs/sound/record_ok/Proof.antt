@@ -1,5 +1,6 @@
+-- The test is the definition, written with the code's own operators.
 use mathlib.Core.Path.{refl}
-use Rattle.state.specs.Test.{recordOk}
+use Rattle.soundness.specs.Test.{recordOk}
 use Rattle.soundness.proofs.sound.record_ok.Statement.{statement}
 use Rattle.soundness.proofs.sound.record_ok.Tie as tie
 

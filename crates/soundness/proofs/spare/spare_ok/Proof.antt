@@ -1,3 +1,4 @@
+-- A law for each way out: a frame in two runs, one that is named too, or the kept frames tested.
 use mathlib.Core.Path.{sym, _∙_}
 use mathlib.Core.List.{List}
 use Prim.Native.Nat.{ℕ}
@@ -20,33 +21,41 @@ rows sandboxes s = row (getD sandboxes s closedSandbox .runs)
 kept-marks-requires : tie.Need-kept-marks-requires
 kept-marks-requires c κs = search needs
 
+-- the way back from where a fact is needed to where it was learned
+abbrev kept-marks-of-struct-known : tie.After-struct-known → tie.After-kept-marks
+kept-marks-of-struct-known c = c .before .before
+
 returns : tie.Need-returns
 returns c = λ table.
-    let a = c .before .before .before .before .before .args in
-    twice (a .frames) (kept (a .held) (a .pool .now) table) (rows (a .sandboxes)) (c .before .before .before .kept-marks .result)
-    (c .before .before .before .kept-marks .ensures) (not-true _ (c .if1 .taken))
+    let found = kept-marks-of-struct-known (c .before) in
+    let a = found .before .before .args in
+    twice (a .frames) (kept (a .held) (a .pool .now) table) (rows (a .sandboxes)) (found .kept-marks .result) (found .kept-marks .ensures)
+    (not-true _ (c .if1 .taken))
 
 apart-requires : tie.Need-apart-requires
 apart-requires c κs = search needs
 
+abbrev kept-marks-of-apart : tie.After-apart → tie.After-kept-marks
+kept-marks-of-apart c = kept-marks-of-struct-known (c .before .before)
+
 returns-2 : tie.Need-returns-2
 returns-2 c = λ table.
-    let a = c .before .before .before .before .before .before .before .args in
-    named-too (a .frames) (kept (a .held) (a .pool .now) table) (rows (a .sandboxes)) (c .before .before .before .before .before .kept-marks .result)
-    (c .before .before .before .before .before .kept-marks .ensures) (not-false _ (c .before .before .if1 .left))
-    (sym (c .before .apart .ensures) ∙ not-true _ (c .if2 .taken))
+    let found = kept-marks-of-apart (c .before) in
+    let a = found .before .before .args in
+    named-too (a .frames) (kept (a .held) (a .pool .now) table) (rows (a .sandboxes)) (found .kept-marks .result) (found .kept-marks .ensures)
+    (not-false _ (c .before .before .if1 .left)) (sym (c .before .apart .ensures) ∙ not-true _ (c .if2 .taken))
 
 frames-ok-requires : tie.Need-frames-ok-requires
 frames-ok-requires c κs = search needs
 
 returns-3 : tie.Need-returns-3
 returns-3 c = λ table.
-    let a = c .before .before .before .before .before .before .before .before .args in
+    let apart = c .before .before in
+    let found = kept-marks-of-apart apart in
+    let a = found .before .before .args in
     c .frames-ok .ensures
-    ∙ frames-decide (a .frames) (kept (a .held) (a .pool .now) table) (rows (a .sandboxes))
-    (c .before .before .before .before .before .before .kept-marks .result) (c .before .before .before .before .before .before .kept-marks .ensures)
-    (not-false _ (c .before .before .before .if1 .left))
-    (sym (c .before .before .apart .ensures) ∙ not-false _ (c .before .if2 .left))
+    ∙ frames-decide (a .frames) (kept (a .held) (a .pool .now) table) (rows (a .sandboxes)) (found .kept-marks .result) (found .kept-marks .ensures)
+    (not-false _ (apart .before .if1 .left)) (sym (apart .apart .ensures) ∙ not-false _ (c .before .if2 .left))
 
 pub spare-ok-spec : {M : Type 1} → statement M
 spare-ok-spec = tie.close (tie.spec kept-marks-requires returns apart-requires returns-2 frames-ok-requires returns-3)

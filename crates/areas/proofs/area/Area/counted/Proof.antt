@@ -1,3 +1,4 @@
+-- The area counts with all its pages or with none, by its mark.
 use Rattle.areas.proofs.area.Area.counted.Statement.{statement}
 use Rattle.areas.proofs.area.Area.counted.Tie as tie
 

@@ -1,3 +1,4 @@
+-- The test is the definition, each part computed by its own call.
 use native.Mathlib.Omega.{arith}
 use Rattle.areas.specs.Formed.{goesOn}
 use Rattle.areas.proofs.area.Area.goes_on.Statement.{statement}

@@ -1,3 +1,4 @@
+-- By whether the area covers the page: what it says there, or nothing.
 use mathlib.Core.Path.{sym, _∙_}
 use Rattle.basics.proofs.RangeLaws.{inside-first}
 use borrow.Author.Needs.{needs}

@@ -1,3 +1,4 @@
+-- The pages that were passed are as asked, so whether all are is whether the rest are.
 use Prim.Native.Nat.{ℕ, _-_, _≤_}
 use mathlib.Core.Bool.{Bool}
 use mathlib.Core.Path.{_≡_, sym, _∙_, ap}
@@ -19,11 +20,20 @@ Inv-loop self mapped n i₀ i-end i =
 abbrev μ-loop : tie.MeasureT-loop
 μ-loop self mapped n i₀ i-end i = i-end - i
 
+-- the way back from where a fact is needed to where it was learned
+abbrev at-turn : tie.After-is-same Inv-loop μ-loop → tie.In-loop Inv-loop μ-loop
+at-turn c = c .before .before .before
+
+abbrev at-start : tie.In-loop Inv-loop μ-loop → tie.Start Inv-loop μ-loop
+at-start c = c .before .before .before
+
 abbrev test : tie.Start Inv-loop μ-loop → ℕ → Bool
 test c j = same (c .args .mapped) (isMapped (slots (c .args .self) j))
 
-here : (c : tie.After-is-same Inv-loop μ-loop) → c .is-same .result ≡ test (c .before .before .before .before .before .before) (c .before .before .before .before .loop .i)
-here c = c .is-same .ensures ∙ rw (c .before .is-mapped .ensures, c .before .before .slot .ensures)
+here : (c : tie.After-is-same Inv-loop μ-loop) → c .is-same .result ≡ test (at-start (at-turn c)) (at-turn c .before .loop .i)
+here c =
+    let mapped = at-start (at-turn c) .args .mapped in
+    c .is-same .ensures ∙ ap (same mapped) (c .before .is-mapped .ensures ∙ ap isMapped (c .before .before .slot .ensures))
 
 add-i-end : tie.Need-add-i-end Inv-loop μ-loop
 add-i-end c = omega arith
@@ -33,7 +43,7 @@ loop-holds c =
     (omega arith, omega arith, ap (every (test (c .before)) (c .before .args .first .0)) (omega arith))
 
 slot-requires : tie.Need-slot-requires Inv-loop μ-loop
-slot-requires c κs = (c .before .before .before .pre .0, omega arith)
+slot-requires c κs = (at-start c .pre .0, omega arith)
 
 is-mapped-requires : tie.Need-is-mapped-requires Inv-loop μ-loop
 is-mapped-requires c κs = tt
@@ -44,8 +54,8 @@ is-same-requires c κs = tt
 returns : tie.Need-returns Inv-loop μ-loop
 returns c =
     sym
-    (c .before .before .before .before .before .loop .inv .2
-    ∙ every-stop _ _ _ (c .before .before .before .before .loop-test .taken) (sym (here (c .before)) ∙ not-true _ (c .if1 .taken)))
+    (at-turn (c .before) .before .loop .inv .2
+    ∙ every-stop _ _ _ (at-turn (c .before) .loop-test .taken) (sym (here (c .before)) ∙ not-true _ (c .if1 .taken)))
 
 add-i : tie.Need-add-i Inv-loop μ-loop
 add-i c = omega arith
@@ -57,8 +67,8 @@ loop-again : tie.Need-loop-again Inv-loop μ-loop
 loop-again c = (
   omega arith,
   omega arith,
-  c .before .before .before .before .before .loop .inv .2
-      ∙ every-next _ _ _ (c .before .before .before .before .loop-test .taken) (sym (here (c .before)) ∙ not-false _ (c .if1 .left)),
+  at-turn (c .before) .before .loop .inv .2
+      ∙ every-next _ _ _ (at-turn (c .before) .loop-test .taken) (sym (here (c .before)) ∙ not-false _ (c .if1 .left)),
 )
 
 returns-2 : tie.Need-returns-2 Inv-loop μ-loop

@@ -1,3 +1,4 @@
+-- Eight places without an area, as the definition has them.
 use Rattle.areas.proofs.area.Areas.empty.Statement.{statement}
 use Rattle.areas.proofs.area.Areas.empty.Tie as tie
 

@@ -1,3 +1,4 @@
+-- A gap is as long as asked where the pages are left for it and all are unmapped.
 use mathlib.Core.Path.{_∙_}
 use native.Mathlib.Omega.{arith}
 use borrow.Author.Tests.{le-leb, lt-leb}

@@ -1,3 +1,4 @@
+-- No gap starts at a page that was passed, so the lowest one is the lowest of the rest.
 use Prim.Native.Nat.{_-_, _≤_}
 use mathlib.Core.Path.{_≡_, refl, sym, _∙_}
 use native.Mathlib.Omega.{arith}
@@ -14,6 +15,10 @@ Inv-loop self n i₀ i = (i ≤ 64) × (lowestGap (slots self) n ≡ lowest (gap
 abbrev μ-loop : tie.MeasureT-loop
 μ-loop self n i₀ i = 64 - i
 
+-- the way back from where a fact is needed to where it was learned
+abbrev at-loop : tie.After-is-gap Inv-loop μ-loop → tie.At-loop Inv-loop μ-loop
+at-loop c = c .before .before
+
 loop-holds : tie.Need-loop-holds Inv-loop μ-loop
 unfolding lowestGap
 loop-holds c = (omega arith, refl)
@@ -24,7 +29,7 @@ is-gap-requires c κs = (c .before .before .pre, omega arith)
 returns : tie.Need-returns Inv-loop μ-loop
 returns c =
     sym
-    (c .before .before .before .loop .inv .1
+    (at-loop (c .before) .loop .inv .1
     ∙ lowest-stop _ _ _ (c .before .before .loop-test .taken) (sym (c .before .is-gap .ensures) ∙ c .if1 .taken))
 
 add-i : tie.Need-add-i Inv-loop μ-loop
@@ -36,7 +41,7 @@ loop-less c = omega arith
 loop-again : tie.Need-loop-again Inv-loop μ-loop
 loop-again c = (
   omega arith,
-  c .before .before .before .loop .inv .1
+  at-loop (c .before) .loop .inv .1
       ∙ lowest-next _ _ _ (c .before .before .loop-test .taken) (sym (c .before .is-gap .ensures) ∙ c .if1 .left),
 )
 

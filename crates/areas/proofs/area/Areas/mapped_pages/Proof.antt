@@ -1,3 +1,4 @@
+-- Every area counted is every mapped page counted.
 use Rattle.interface.specs.Slots.{mappedPages}
 use Rattle.areas.proofs.area.Areas.mapped_pages.Statement.{statement}
 use Rattle.areas.proofs.area.Areas.mapped_pages.Tie as tie

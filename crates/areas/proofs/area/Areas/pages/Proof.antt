@@ -1,5 +1,6 @@
-use Prim.Native.Nat.{_+_, _-_, _≤_}
-use mathlib.Core.Path.{_≡_}
+-- The pages of the areas that were passed are counted: areas stand apart, so each page is counted once.
+use Prim.Native.Nat.{ℕ, _+_, _-_, _≤_}
+use mathlib.Core.Path.{_≡_, subst⁻¹}
 use native.Mathlib.Omega.{arith}
 use Rattle.areas.proofs.CountedLaws.{Counted, counted-start, counted-next, counted-small, counted-all}
 use Rattle.areas.proofs.area.Areas.pages.Statement.{statement}
@@ -11,11 +12,23 @@ Inv-loop committed self n₀ k₀ n k = (k ≤ 8) × Counted self committed k n
 abbrev μ-loop : tie.MeasureT-loop
 μ-loop committed self n₀ k₀ n k = 8 - k
 
+-- the way back from where a fact is needed to where it was learned
+abbrev at-loop : tie.After-counted Inv-loop μ-loop → tie.At-loop Inv-loop μ-loop
+at-loop c = c .before .before .before
+
+abbrev at-start : tie.After-counted Inv-loop μ-loop → tie.Start Inv-loop μ-loop
+at-start c = c .before .before .before .before
+
 -- what is counted with the next area
-next : (c : tie.After-counted Inv-loop μ-loop) → Counted (c .before .before .before .before .args .t1) (c .before .before .before .before .args .committed) (c .before .before .before .loop .k + 1) (c .before .before .before .loop .n + c .counted .result)
+next : (c : tie.After-counted Inv-loop μ-loop) →
+    let a = at-start c .args in
+    let l = at-loop c .loop in
+    Counted (a .t1) (a .committed) (l .k + 1) (l .n + c .counted .result)
 next c =
-    let s = c .before .before .before .before in
-    rw (c .counted .ensures) (counted-next (s .args .t1) (s .pre) (s .args .committed) (c .before .before .before .loop .k) (c .before .before .before .loop .n) (c .before .before .before .loop .inv .1))
+    let s = at-start c in
+    let l = at-loop c .loop in
+    subst⁻¹ (λ (x : ℕ). Counted (s .args .t1) (s .args .committed) (l .k + 1) (l .n + x)) (c .counted .ensures)
+    (counted-next (s .args .t1) (s .pre) (s .args .committed) (l .k) (l .n) (l .inv .1))
 
 loop-holds : tie.Need-loop-holds Inv-loop μ-loop
 loop-holds c = (omega arith, counted-start (c .args .t1) (c .args .committed))

@@ -1,3 +1,4 @@
+-- No area that was passed covers the page, so what stands there is what the rest say.
 use Prim.Native.Nat.{_-_, _≤_, _<_}
 use mathlib.Core.Path.{_≡_, sym, _∙_}
 use lib.ListN.{length, drop}
@@ -34,17 +35,30 @@ element-copy-out-area c = omega arith
 covers-requires : tie.Need-covers-requires Inv-loop μ-loop
 covers-requires c κs = tt
 
+-- the way back from where a fact is needed to where it was learned
+abbrev at-loop : tie.After-covers Inv-loop μ-loop → tie.At-loop Inv-loop μ-loop
+at-loop c = c .before .before .before
+
+abbrev turn-of-covers : tie.After-covers Inv-loop μ-loop → tie.In-loop Inv-loop μ-loop
+turn-of-covers c = c .before .before
+
+abbrev at-start : tie.After-covers Inv-loop μ-loop → tie.Start Inv-loop μ-loop
+at-start c = c .before .before .before .before
+
 slot-requires : tie.Need-slot-requires Inv-loop μ-loop
 slot-requires c κs = (
-  c .before .before .before .before .before .pre .0 .at (c .before .before .before .before .loop .k) (c .before .before .before .loop-test .taken),
-  (c .before .before .before .before .before .pre .1, inside-first _ _ _ (sym (c .before .covers .ensures) ∙ c .if1 .taken)),
+  at-start (c .before) .pre .0 .at (at-loop (c .before) .loop .k) (turn-of-covers (c .before) .loop-test .taken),
+  (at-start (c .before) .pre .1, inside-first _ _ _ (sym (c .before .covers .ensures) ∙ c .if1 .taken)),
 )
+
+abbrev turn-of-slot : tie.After-slot Inv-loop μ-loop → tie.In-loop Inv-loop μ-loop
+turn-of-slot c = turn-of-covers (c .before .before)
 
 returns : tie.Need-returns Inv-loop μ-loop
 returns c =
     c .slot .ensures
     ∙ sym
-    (c .before .before .before .before .before .loop .inv .1 ∙ slot-step _ _ _ (here (c .before .before .before .before))
+    (turn-of-slot c .before .loop .inv .1 ∙ slot-step _ _ _ (here (turn-of-slot c))
     ∙ rw (← c .before .before .covers .ensures, c .before .if1 .taken))
 
 add-k : tie.Need-add-k Inv-loop μ-loop
@@ -56,7 +70,7 @@ loop-less c = omega arith
 loop-again : tie.Need-loop-again Inv-loop μ-loop
 loop-again c = (
   omega arith,
-  c .before .before .before .before .loop .inv .1 ∙ slot-step _ _ _ (here (c .before .before .before)) ∙ rw (← c .before .covers .ensures, c .if1 .left),
+  at-loop (c .before) .loop .inv .1 ∙ slot-step _ _ _ (here (turn-of-covers (c .before))) ∙ rw (← c .before .covers .ensures, c .if1 .left),
 )
 
 returns-2 : tie.Need-returns-2 Inv-loop μ-loop

@@ -1,3 +1,4 @@
+-- The uncommitted areas counted are the uncommitted mapped pages counted.
 use Rattle.interface.specs.Slots.{uncommittedPages}
 use Rattle.areas.proofs.area.Areas.uncommitted_pages.Statement.{statement}
 use Rattle.areas.proofs.area.Areas.uncommitted_pages.Tie as tie

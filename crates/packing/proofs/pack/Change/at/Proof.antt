@@ -1,3 +1,4 @@
+-- By the change: each arm is the definition of its own.
 use mathlib.Core.Path.{_∙_, ap}
 use native.Mathlib.Omega.{arith}
 use borrow.Author.Needs.{needs}

@@ -1,8 +1,8 @@
+-- A law for each way out: nothing mapped, the last area goes on, a new one, or no place.
 use mathlib.Core.Path.{sym, _∙_}
 use native.Mathlib.Omega.{arith}
-use borrow.Author.Tests.{lt-ltb, le-ltb}
 use Rattle.packing.specs.Pack.{push}
-use Rattle.packing.proofs.PushLaws.{continues-some, continues-last}
+use Rattle.packing.proofs.PushLaws.{continues-some, continues-last, push-extends, push-adds, push-full}
 use Rattle.packing.proofs.pack.Packed.push.Statement.{statement}
 use Rattle.packing.proofs.pack.Packed.push.Tie as tie
 
@@ -16,23 +16,28 @@ returns : tie.Need-returns
 unfolding push
 returns c = rw (c .enum-told .given .1)
 
+-- the way back from where a fact is needed to where it was learned
+abbrev start-of-areas : tie.After-areas → tie.Start
+start-of-areas c = c .before .before .before .before
+
 continues-requires : tie.Need-continues-requires
-continues-requires c κs = c .before .before .before .before .pre .0
+continues-requires c κs = start-of-areas c .pre .0
+
+abbrev start-of-continues : tie.After-continues → tie.Start
+start-of-continues c = start-of-areas (c .before)
 
 extended-requires : tie.Need-extended-requires
 extended-requires c κs =
     let more = sym (c .before .continues .ensures) ∙ c .if1 .taken in
-    (continues-some _ _ _ more, (c .before .before .before .before .before .before .pre .0, omega (arith, continues-last _ _ _ more .end)))
+    (continues-some _ _ _ more, (start-of-continues (c .before) .pre .0, omega (arith, continues-last _ _ _ more .end)))
+
+abbrev slot-of-extended : tie.After-extended → tie.After-slot
+slot-of-extended c = c .before .before .before .before .before
 
 returns-2 : tie.Need-returns-2
-unfolding push
 returns-2 c =
-    rw (
-      c .extended .ensures,
-      c .before .before .before .before .before .slot .given .1,
-      ← c .before .before .continues .ensures,
-      c .before .if1 .taken,
-    )
+    let more = c .before .before .continues in
+    push-extends _ _ _ _ (slot-of-extended c .slot .given .1) (more .result) (more .ensures) (c .before .if1 .taken) _ (c .extended .ensures)
 
 cast-if2 : tie.Need-cast-if2
 cast-if2 c = omega arith
@@ -40,26 +45,30 @@ cast-if2 c = omega arith
 added-requires : tie.Need-added-requires
 added-requires c κs = c .if2 .taken
 
+abbrev continues-of-struct-known : tie.After-struct-known → tie.After-continues
+continues-of-struct-known c = c .before .before
+
+abbrev continues-of-added : tie.After-added → tie.After-continues
+continues-of-added c = continues-of-struct-known (c .before .before)
+
+abbrev slot-of-struct-known : tie.After-struct-known → tie.After-slot
+slot-of-struct-known c = c .before .before .before .before .before
+
+abbrev slot-of-added : tie.After-added → tie.After-slot
+slot-of-added c = slot-of-struct-known (c .before .before)
+
+abbrev at-else1 : tie.After-added → tie.Else1
+at-else1 c = c .before .before .before
+
 returns-3 : tie.Need-returns-3
-unfolding push
 returns-3 c =
-    rw (
-      c .added .ensures,
-      c .before .before .before .before .before .before .before .slot .given .1,
-      ← c .before .before .before .before .continues .ensures,
-      c .before .before .before .if1 .left,
-      lt-ltb _ _ (c .before .if2 .taken),
-    )
+    let more = continues-of-added c .continues in
+    push-adds _ _ _ _ (slot-of-added c .slot .given .1) (more .result) (more .ensures) (at-else1 c .if1 .left) (c .before .if2 .taken) _ (c .added .ensures)
 
 returns-4 : tie.Need-returns-4
-unfolding push
 returns-4 c =
-    rw (
-      c .before .before .before .before .before .before .slot .given .1,
-      ← c .before .before .before .continues .ensures,
-      c .before .before .if1 .left,
-      le-ltb _ _ (c .if2 .left),
-    )
+    let more = continues-of-struct-known (c .before) .continues in
+    push-full _ _ _ _ (slot-of-struct-known (c .before) .slot .given .1) (more .result) (more .ensures) (c .before .before .if1 .left) (c .if2 .left)
 
 pub push-spec : {M : Type 1} → statement M
 push-spec =

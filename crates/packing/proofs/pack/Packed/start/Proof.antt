@@ -1,3 +1,4 @@
+-- No areas, and they are all.
 use Rattle.packing.proofs.pack.Packed.start.Statement.{statement}
 use Rattle.packing.proofs.pack.Packed.start.Tie as tie
 

@@ -1,3 +1,4 @@
+-- Before a snapshot the mapped pages; afterwards the sum of both counts, which a byte holds.
 use borrow.Author.Tests.{not-true, not-false}
 use native.Mathlib.Omega.{arith}
 use Rattle.interface.specs.Slots.{chargeOf}
@@ -11,44 +12,47 @@ use Rattle.state.proofs.sandbox.Sandbox.charge.Lts as lts
 use Rattle.areas.proofs.area.Areas.mapped_pages.Reads as mapped-pages-reads
 use Rattle.areas.proofs.area.Areas.uncommitted_pages.Reads as uncommitted-pages-reads
 
--- src/sandbox.rt:109:13
 mapped-pages-requires : tie.Need-mapped-pages-requires
 mapped-pages-requires c κs = search needs
 
--- src/sandbox.rt:109:13
+-- the way back from where a fact is needed to where it was learned
+abbrev start-of-mapped-pages : tie.After-mapped-pages → tie.Start
+start-of-mapped-pages c = c .before .before .before .before .before
+
 returns : tie.Need-returns
 unfolding chargeOf
-returns c = rw (not-true (c .before .before .before .before .before .args .self .taken) (c .before .if1 .taken)) (c .mapped-pages .ensures)
+returns c = rw (not-true (start-of-mapped-pages c .args .self .taken) (c .before .if1 .taken)) (c .mapped-pages .ensures)
 
--- src/sandbox.rt:111:13
 mapped-pages-requires-2 : tie.Need-mapped-pages-requires-2
 mapped-pages-requires-2 c κs = search needs
 
--- src/sandbox.rt:111:9
-mul-result : tie.Need-mul-result
-mul-result c = omega (arith, c .mapped-pages2 .ensures, mapped-small (slots (c .before .before .before .before .before .args .self .snapshot)))
+abbrev start-of-mapped-pages2 : tie.After-mapped-pages2 → tie.Start
+start-of-mapped-pages2 c = c .before .before .before .before .before
 
--- src/sandbox.rt:111:39
+mul-result : tie.Need-mul-result
+mul-result c = omega (arith, c .mapped-pages2 .ensures, mapped-small (slots (start-of-mapped-pages2 c .args .self .snapshot)))
+
 uncommitted-pages-requires : tie.Need-uncommitted-pages-requires
 uncommitted-pages-requires c κs = search needs
 
--- src/sandbox.rt:111:9
+abbrev start-of-uncommitted-pages : tie.After-uncommitted-pages → tie.Start
+start-of-uncommitted-pages c = start-of-mapped-pages2 (c .before)
+
 add-result : tie.Need-add-result
 add-result c =
     omega (
       arith,
       c .before .mapped-pages2 .ensures,
       c .uncommitted-pages .ensures,
-      mapped-small (slots (c .before .before .before .before .before .before .args .self .snapshot)),
-      uncommitted-small (slots (c .before .before .before .before .before .before .args .self .present)),
+      mapped-small (slots (start-of-uncommitted-pages c .args .self .snapshot)),
+      uncommitted-small (slots (start-of-uncommitted-pages c .args .self .present)),
     )
 
--- src/sandbox.rt:101:5
 returns-2 : tie.Need-returns-2
 unfolding chargeOf
 returns-2 c =
     rw (
-      not-false (c .before .before .before .before .before .before .args .self .taken) (c .before .before .if1 .left),
+      not-false (start-of-uncommitted-pages c .args .self .taken) (c .before .before .if1 .left),
       c .before .mapped-pages2 .ensures,
       c .uncommitted-pages .ensures,
     )

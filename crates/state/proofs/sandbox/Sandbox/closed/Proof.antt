@@ -1,3 +1,4 @@
+-- Each field is empty, as the definition has it.
 use borrow.Author.Needs.{needs}
 use Rattle.state.proofs.sandbox.Sandbox.closed.Statement.{statement}
 use Rattle.state.proofs.sandbox.Sandbox.closed.Tie as tie
