@@ -14,7 +14,7 @@ use Rattle.interface.specs.Slots.{isMapped, isCommitted, rightsAt, backingAt}
 use Rattle.interface.specs.Compare.{agree}
 use Rattle.pages.specs.Parts.{sameBytes}
 use Rattle.table.specs.Store.{pageIn, pageFrom, underFront}
-use Rattle.content.specs.Content.{backingPage}
+use Rattle.table.specs.Backing.{backingPage}
 
 -- ---- in being mapped and in rights
 

@@ -8,11 +8,10 @@ ghost use Rattle.interface.specs.Compare.{agree};
 ghost use Rattle.frames.specs.declared.Held.{Held as Words};
 ghost use Rattle.pages.specs.Parts.{sameBytes};
 ghost use Rattle.table.specs.Store.{kept, pageIn, pageFrom, underFront, Ranged};
-ghost use Rattle.table.specs.Source.{sourceEnd};
+ghost use Rattle.table.specs.Backing.{backingPage, backingEnd};
 ghost use Rattle.rules.specs.Ready.{Ready};
-ghost use Rattle.content.specs.Content.{sourceOf, backingPage, differing};
+ghost use Rattle.content.specs.Content.{differing};
 ghost use Rattle.content.specs.Unchanged.{stays, unchanged};
-use crate::read::source_of;
 use areas::area::Area;
 use areas::area::Areas;
 use areas::slot::backing_at;
@@ -98,8 +97,8 @@ fn agrees(pool: &[u8], image: &[u8], present: Slot, snapshot: Slot, front: u16, 
     requires { ⌜ front * 256 ≤ length (now pool) ⌝ }
     requires { ⌜ back ≤ 128 ⌝ }
     requires { ⌜ back * 256 ≤ length (now pool) ⌝ }
-    requires { ⌜ sourceEnd (sourceOf (backingAt present)) * 256 ≤ length (now image) ⌝ }
-    requires { ⌜ sourceEnd (sourceOf (backingAt snapshot)) * 256 ≤ length (now image) ⌝ }
+    requires { ⌜ backingEnd (backingAt present) * 256 ≤ length (now image) ⌝ }
+    requires { ⌜ backingEnd (backingAt snapshot) * 256 ≤ length (now image) ⌝ }
     requires { ⌜ (isCommitted present ≡ true → backingAt present ≡ backingAt snapshot) ⌝ }
     ensures { λ r. ⌜ r ≡ agree present snapshot
         (sameBytes 256
@@ -124,8 +123,8 @@ fn agrees(pool: &[u8], image: &[u8], present: Slot, snapshot: Slot, front: u16, 
         pool,
         image,
         front,
-        source_of(backing_at(present)),
+        backing_at(present),
         back,
-        source_of(backing_at(snapshot)),
+        backing_at(snapshot),
     )
 }

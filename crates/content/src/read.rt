@@ -6,14 +6,12 @@ ghost use Rattle.frames.specs.declared.Held.{Held as Words};
 ghost use Rattle.interface.specs.Requests.{Read, pageOf, offsetOf};
 ghost use Rattle.table.specs.Store.{kept, Ranged};
 ghost use Rattle.rules.specs.Ready.{Fit, Ready};
-ghost use Rattle.content.specs.Content.{sourceOf, pageRead};
+ghost use Rattle.content.specs.Content.{pageRead};
 use areas::slot::backing_at;
 use areas::slot::is_committed;
-use interface::page::Backing;
 use interface::page::PageNo;
 use interface::request::Request;
 use state::sandbox::Sandbox;
-use table::source::Source;
 
 // The byte that a page reads.
 pub fn read(pool: &[u8], table: &[u16], image: &[u8], b: Sandbox, q: Request, images: u8) -> u8
@@ -29,7 +27,7 @@ pub fn read(pool: &[u8], table: &[u16], image: &[u8], b: Sandbox, q: Request, im
     let present = b.present;
     let page = PageNo((q.p1 / 256) as u8);
     let slot = present.slot(page);
-    let source = source_of(backing_at(slot));
+    let backing = backing_at(slot);
     reading::store::read_byte(
         pool,
         table,
@@ -37,17 +35,7 @@ pub fn read(pool: &[u8], table: &[u16], image: &[u8], b: Sandbox, q: Request, im
         q.sandbox as u8,
         page,
         is_committed(slot),
-        source,
+        backing,
         (q.p1 % 256) as u8,
     )
-}
-
-// "zero bytes or its image page"
-pub fn source_of(backing: Backing) -> Source
-    ensures { λ r. ⌜ r ≡ sourceOf backing ⌝ }
-{
-    match backing {
-        Backing::Anonymous => Source::Zero,
-        Backing::Image(page) => Source::Image(page),
-    }
 }

@@ -6,7 +6,6 @@ ghost use Rattle.state.specs.World.{worldOf};
 ghost use Rattle.memory.specs.Parts.{Asked, StoreStepped, TouchStepped};
 use areas::slot::backing_at;
 use areas::slot::is_committed;
-use content::read::source_of;
 use gathering::gathered;
 use interface::page::PageNo;
 use interface::request::Request;
@@ -134,8 +133,8 @@ fn touch(
     let present = b.present;
     let slot = present.slot(page);
     let committed = is_committed(slot);
-    let source = source_of(backing_at(slot));
-    let h = filling::store::take(held, pool, table, image, s, page, committed, source, f);
+    let backing = backing_at(slot);
+    let h = filling::store::take(held, pool, table, image, s, page, committed, backing, f);
     Left {
         held: h,
         runs: left,

@@ -6,7 +6,7 @@ ghost use Rattle.frames.specs.declared.Held.{Held as Words};
 ghost use Rattle.pages.specs.Parts.{setFrame};
 ghost use Rattle.table.specs.Store.{kept, frontOf, backOf, pageIn, contents, pageFrom, underFront, Ranged};
 ghost use Rattle.table.specs.Store.{take, storeByte, rewindPage};
-ghost use Rattle.table.specs.Source.{sourceBytes, sourceEnd};
+ghost use Rattle.table.specs.Backing.{backingPage, backingEnd};
 use frames::FrameNo;
 use frames::Held;
 use freeing::store::free_front;
@@ -16,7 +16,7 @@ use table::entry::back_if;
 use table::entry::frame_of;
 use table::entry::front;
 use table::entry::front_index;
-use table::source::Source;
+use interface::page::Backing;
 
 // One byte of a page's front frame, if it has one, is stored.
 pub fn store_byte(pool: &mut [u8], table: &[u16], sandbox: u8, page: PageNo, offset: u8, byte: u8)
@@ -43,22 +43,22 @@ pub fn take(
     sandbox: u8,
     page: PageNo,
     committed: bool,
-    source: Source,
+    backing: Backing,
     f: FrameNo,
 ) -> Held
     requires { ⌜ sandbox < 4 ⌝ }
     requires { ⌜ page .0 < 64 ⌝ }
     requires { ⌜ Ranged 256 (now pool) (now table) ⌝ }
-    requires { ⌜ sourceEnd source * 256 ≤ length (now image) ⌝ }
+    requires { ⌜ backingEnd backing * 256 ≤ length (now image) ⌝ }
     requires { ⌜ f .0 < 128 ⌝ }
     requires { ⌜ f .0 * 256 + 256 ≤ length (now pool) ⌝ }
     ensures { λ r. ⌜ kept r (now (pool .exit)) (now (table .exit)) ≡ take 256 (frontOf sandbox (page .0)) (f .0)
-        (underFront committed (sourceBytes (now (image .entry)) source)
+        (underFront committed (backingPage (now (image .entry)) backing)
         (contents 256 (kept held (now (pool .entry)) (now (table .entry))) (backOf sandbox (page .0))))
         (kept held (now (pool .entry)) (now (table .entry))) ⌝ }
 {
     let under = back_if(table, sandbox, page, committed);
-    fill_frame(pool, f, under, image, source);
+    fill_frame(pool, f, under, image, backing);
     let at = front_index(sandbox, page);
     table[at] = f.0 as u16 + 1;
     held.with(f)
@@ -73,14 +73,14 @@ pub fn restore_page(
     sandbox: u8,
     page: PageNo,
     keep: bool,
-    source: Source,
+    backing: Backing,
 ) -> Held
     requires { ⌜ sandbox < 4 ⌝ }
     requires { ⌜ page .0 < 64 ⌝ }
     requires { ⌜ Ranged 256 (now pool) (now table) ⌝ }
-    requires { ⌜ sourceEnd source * 256 ≤ length (now image) ⌝ }
+    requires { ⌜ backingEnd backing * 256 ≤ length (now image) ⌝ }
     ensures { λ r. ⌜ kept r (now (pool .exit)) (now (table .exit)) ≡ rewindPage 256 (frontOf sandbox (page .0)) (backOf sandbox (page .0)) keep
-        (sourceBytes (now (image .entry)) source) (kept held (now (pool .entry)) (now (table .entry))) ⌝ }
+        (backingPage (now (image .entry)) backing) (kept held (now (pool .entry)) (now (table .entry))) ⌝ }
 {
     let front = front(table, sandbox, page);
     if front == 0 {
@@ -90,21 +90,21 @@ pub fn restore_page(
         return free_front(held, pool, table, sandbox, page);
     }
     let back = back(table, sandbox, page);
-    fill_frame(pool, frame_of(front), back, image, source);
+    fill_frame(pool, frame_of(front), back, image, backing);
     held
 }
 
-// Frame `f` gets the bytes of the frame that an entry names, or the source's where it names none.
-fn fill_frame(pool: &mut [u8], f: FrameNo, entry: u16, image: &[u8], source: Source)
+// Frame `f` gets the bytes of the frame that an entry names, or the backing's where it names none.
+fn fill_frame(pool: &mut [u8], f: FrameNo, entry: u16, image: &[u8], backing: Backing)
     requires { ⌜ f .0 * 256 + 256 ≤ length (now pool) ⌝ }
     requires { ⌜ entry ≤ 128 ⌝ }
     requires { ⌜ entry * 256 ≤ length (now pool) ⌝ }
-    requires { ⌜ sourceEnd source * 256 ≤ length (now image) ⌝ }
+    requires { ⌜ backingEnd backing * 256 ≤ length (now image) ⌝ }
     ensures { λ r. ⌜ now (pool .exit) ≡ setFrame 256 (now (pool .entry)) (f .0)
-        (pageFrom (sourceBytes (now (image .entry)) source) (pageIn 256 (now (pool .entry)) entry)) ⌝ }
+        (pageFrom (backingPage (now (image .entry)) backing) (pageIn 256 (now (pool .entry)) entry)) ⌝ }
 {
     if entry == 0 {
-        crate::source::fill_frame(pool, f, image, source);
+        crate::backing::fill_frame(pool, f, image, backing);
         return;
     }
     pool::copy_frame(pool, frame_of(entry), f);

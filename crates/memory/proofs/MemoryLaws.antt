@@ -13,13 +13,13 @@ use Rattle.interface.specs.Requests.{_is_, Map, Unmap, Write, Snapshot, Rewind,
 use Rattle.interface.specs.Slots.{isCommitted, backingAt}
 use Rattle.interface.specs.Runs.{takesRun}
 use Rattle.frames.specs.Frames.{held}
-use Rattle.table.specs.declared.source.Source.{Source}
+use Rattle.interface.specs.declared.page.Backing.{Backing}
 use Rattle.table.specs.Store.{Store, frontOf, backOf, Ranged, Tidy}
 use Rattle.table.specs.Store.{take, storeByte, freeTo, moveTo, rewindPage, rewindTo}
-use Rattle.table.specs.Source.{sourceBytes, sourceEnd}
+use Rattle.table.specs.Backing.{backingPage, backingEnd}
 use Rattle.table.proofs.StoreLaws.{taken}
 use Rattle.table.proofs.FiledLaws.{filed-ranged}
-use Rattle.table.proofs.TouchLaws.{source-whole, under-whole}
+use Rattle.table.proofs.TouchLaws.{backing-whole, under-whole}
 use Rattle.runs.specs.declared.Runs.{Runs}
 use Rattle.runs.specs.Row.{row, tabled}
 use Rattle.kept.specs.Spare.{rowRewound}
@@ -27,7 +27,7 @@ use Rattle.kept.specs.Test.{keptTo}
 use Rattle.areas.specs.Areas.{slots}
 use Rattle.state.specs.declared.sandbox.Sandbox.{Sandbox}
 use Rattle.state.specs.World.{World, sandboxAt, rowsOf}
-use Rattle.content.specs.Content.{sourceOf, pageUnder, copyPage}
+use Rattle.content.specs.Content.{pageUnder, copyPage}
 use Rattle.reuse.specs.declared.Given.{Given}
 use Rattle.reuse.specs.Reuse.{mapRuns, mapAdopts, GaveUp}
 use Rattle.memory.specs.Memory.{givesAt, runsAfter, touched, keepsFront, storeAfter}
@@ -84,17 +84,17 @@ module _ (image : List ℕ) (frames images : ℕ) (q : Request) (w : World) (A :
   tidy-of : Tidy (λ f. ⊥) 256 frames (w .store)
   tidy-of = record { filed = A .filed; clean = λ f c. absurd c }
 
-  pub touch-ranged : (after : Store) (left : Runs) → page < 64 → sourceEnd (sourceOf (backingAt (slots (own .present) page))) * 256 ≤ length image
+  pub touch-ranged : (after : Store) (left : Runs) → page < 64 → backingEnd (backingAt (slots (own .present) page)) * 256 ≤ length image
       → TouchStepped image frames q w after left → Ranged 256 (after .pool) (after .table)
   unfolding touched pageUnder
   touch-ranged after left m there t =
       by-cases (eqb (ownFront q (w .store)) 0)
       (λ z. let free = takes-free image frames images q w A (t .frame) (t .given) (t .takes z) (t .gave) in
-      let source : Source = sourceOf (backingAt (slots (own .present) page)) in
+      let backing : Backing = (backingAt (slots (own .present) page)) in
       let bytes : List ℕ = pageUnder image (w .store) own (q .sandbox) page in
       let same : after ≡ take 256 (frontOf (q .sandbox) page) (t .frame) bytes (w .store) = t .equals ∙ rw z in
       let whole =
-      under-whole 256 frames (w .store) tidy-of (backOf (q .sandbox) page) (sourceBytes image source) (source-whole image source there)
+      under-whole 256 frames (w .store) tidy-of (backOf (q .sandbox) page) (backingPage image backing) (backing-whole image backing there)
       (isCommitted (slots (own .present) page)) in
       let changed =
       taken 256 frames (w .store) tidy-of (frontOf (q .sandbox) page) (t .frame) bytes (omega (arith, A .row)) (eqb-true _ 0 z) (free .0) (free .1) whole in

@@ -1,7 +1,7 @@
 // Reading: a byte of a page, and the bytes of two pages compared, each where it stands: nothing is copied and nothing changes.
 // It promises: the byte is the one that "A page reads its front frame; else, if committed, its back frame; else zero bytes or its image page" names,
-// and two pages are alike where all their bytes are, in the terms of table/specs/Store and table/specs/Source.
+// and two pages are alike where all their bytes are, in the terms of table/specs/Store and table/specs/Backing.
 // It stands on `table` for entries and the store, on `pool` and `pages` for the bytes of a frame, on `frames`, and on `interface` for the number of a page.
 pub mod compare;
-mod source;
+mod backing;
 pub mod store;

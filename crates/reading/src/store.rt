@@ -4,12 +4,12 @@ ghost use Prim.Native.Nat.{_*_, _≤_, _<_};
 ghost use lib.ListN.{length, getD};
 ghost use Rattle.frames.specs.declared.Held.{Held as Words};
 ghost use Rattle.table.specs.Store.{kept, frontOf, backOf, contents, pageFrom, underFront, Ranged};
-ghost use Rattle.table.specs.Source.{sourceBytes, sourceEnd};
+ghost use Rattle.table.specs.Backing.{backingPage, backingEnd};
 use interface::page::PageNo;
 use table::entry::back_if;
 use table::entry::frame_of;
 use table::entry::front;
-use table::source::Source;
+use interface::page::Backing;
 
 // One byte of a page: "A page reads its front frame; else, if committed, its back frame; else zero bytes or its image page."
 pub fn read_byte(
@@ -19,15 +19,15 @@ pub fn read_byte(
     sandbox: u8,
     page: PageNo,
     committed: bool,
-    source: Source,
+    backing: Backing,
     offset: u8,
 ) -> u8
     requires { ⌜ sandbox < 4 ⌝ }
     requires { ⌜ page .0 < 64 ⌝ }
     requires { ⌜ Ranged 256 (now pool) (now table) ⌝ }
-    requires { ⌜ sourceEnd source * 256 ≤ length (now image) ⌝ }
+    requires { ⌜ backingEnd backing * 256 ≤ length (now image) ⌝ }
     ensures { λ r. ⌜
-        ((h : Words) → r ≡ getD (pageFrom (underFront committed (sourceBytes (now (image .entry)) source)
+        ((h : Words) → r ≡ getD (pageFrom (underFront committed (backingPage (now (image .entry)) backing)
         (contents 256 (kept h (now (pool .entry)) (now (table .entry))) (backOf sandbox (page .0))))
         (contents 256 (kept h (now (pool .entry)) (now (table .entry))) (frontOf sandbox (page .0)))) offset 0) ⌝ }
 {
@@ -39,5 +39,5 @@ pub fn read_byte(
     if under != 0 {
         return pool::read_byte(pool, frame_of(under), offset);
     }
-    crate::source::read_byte(image, source, offset)
+    crate::backing::read_byte(image, backing, offset)
 }

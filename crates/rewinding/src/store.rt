@@ -4,15 +4,14 @@ ghost use Prim.Native.Nat.{_*_, _≤_, _<_};
 ghost use lib.ListN.{length};
 ghost use Rattle.interface.specs.Slots.{isCommitted, backingAt};
 ghost use Rattle.table.specs.Store.{kept, frontOf, backOf, Ranged, rewindPage, rewindTo};
-ghost use Rattle.table.specs.Source.{sourceBytes, sourceEnd};
+ghost use Rattle.table.specs.Backing.{backingPage, backingEnd};
 ghost use Rattle.areas.specs.Areas.{slots, Near};
 ghost use Rattle.rules.specs.Ready.{Ready};
-ghost use Rattle.content.specs.Content.{sourceOf, copyPage};
+ghost use Rattle.content.specs.Content.{copyPage};
 ghost use Rattle.memory.specs.Memory.{keepsFront};
 use areas::area::Areas;
 use areas::slot::backing_at;
 use areas::slot::is_committed;
-use content::read::source_of;
 use frames::Held;
 use interface::page::PageNo;
 use state::sandbox::Sandbox;
@@ -57,9 +56,9 @@ fn rewind_page(
     requires { ⌜ page .0 < 64 ⌝ }
     requires { ⌜ Near (present .list) ⌝ }
     requires { ⌜ Ranged 256 (now pool) (now table) ⌝ }
-    requires { ⌜ sourceEnd (sourceOf (backingAt (slots present (page .0)))) * 256 ≤ length (now image) ⌝ }
+    requires { ⌜ backingEnd (backingAt (slots present (page .0))) * 256 ≤ length (now image) ⌝ }
     ensures { λ r. ⌜ kept r (now (pool .exit)) (now (table .exit)) ≡ rewindPage 256 (frontOf s (page .0)) (backOf s (page .0))
-        (isCommitted (slots present (page .0))) (sourceBytes (now (image .entry)) (sourceOf (backingAt (slots present (page .0)))))
+        (isCommitted (slots present (page .0))) (backingPage (now (image .entry)) (backingAt (slots present (page .0))))
         (kept held (now (pool .entry)) (now (table .entry))) ⌝ }
 {
     let front = table::entry::front(table, s, page);
@@ -68,6 +67,6 @@ fn rewind_page(
     }
     let slot = present.slot(page);
     let keep = is_committed(slot);
-    let source = source_of(backing_at(slot));
-    filling::store::restore_page(held, pool, table, image, s, page, keep, source)
+    let backing = backing_at(slot);
+    filling::store::restore_page(held, pool, table, image, s, page, keep, backing)
 }

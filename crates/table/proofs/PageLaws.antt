@@ -48,8 +48,8 @@ module _ (size : ℕ) (s : Store) (k j : ℕ) (bytes : List ℕ) (committed : Bo
   pub reads-back : front ≡ 0 → (under ≡ 0 → ⊥) → frame size (s .pool) (under - 1) ≡ pageFrom (underFront committed bytes (contents size s j)) (contents size s k)
   reads-back e d = page-there size (s .pool) bytes under d ∙ reads-beneath e
 
-  pub reads-source : front ≡ 0 → under ≡ 0 → bytes ≡ pageFrom (underFront committed bytes (contents size s j)) (contents size s k)
-  reads-source e z = ap (λ (x : ℕ). pageFrom bytes (pageIn size (s .pool) x)) (sym z) ∙ reads-beneath e
+  pub reads-backing : front ≡ 0 → under ≡ 0 → bytes ≡ pageFrom (underFront committed bytes (contents size s j)) (contents size s k)
+  reads-backing e z = ap (λ (x : ℕ). pageFrom bytes (pageIn size (s .pool) x)) (sym z) ∙ reads-beneath e
 
 -- ---- a page that is rewound
 

@@ -1,3 +1,3 @@
 -- In reading order.
 pub mod Store
-pub mod Source
+pub mod Backing

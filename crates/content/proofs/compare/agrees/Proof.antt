@@ -4,7 +4,6 @@ use borrow.Author.Tests.{not-true, not-false}
 use Rattle.interface.specs.Slots.{isMapped}
 use Rattle.interface.specs.Compare.{agree}
 use Rattle.pages.specs.Parts.{sameBytes}
-use Rattle.content.specs.Content.{sourceOf}
 use Rattle.content.proofs.CompareLaws.{readsNow, readsCopied, absent, lost, other-rights, bytes-decide, passed-over, looked-at}
 use borrow.Author.Needs.{needs}
 use Rattle.content.proofs.compare.agrees.Statement.{statement}
@@ -94,31 +93,25 @@ returns-4 c =
 backing-at-requires : tie.Need-backing-at-requires
 backing-at-requires c κs = search needs
 
-source-of-requires : tie.Need-source-of-requires
-source-of-requires c κs = search needs
-
 backing-at-requires-2 : tie.Need-backing-at-requires-2
 backing-at-requires-2 c κs = search needs
 
-source-of-requires-2 : tie.Need-source-of-requires-2
-source-of-requires-2 c κs = search needs
-
 same-pages-requires : tie.Need-same-pages-requires
 same-pages-requires c κs =
-    let s = behindPassed (c .before .before .before .before) in
-    let mine = c .before .before .source-of .ensures ∙ ap sourceOf (c .before .before .before .backing-at .ensures) in
-    let theirs = c .source-of2 .ensures ∙ ap sourceOf (c .before .backing-at2 .ensures) in
+    let s = behindPassed (c .before .before) in
+    let mine = c .before .backing-at .ensures in
+    let theirs = c .backing-at2 .ensures in
     (s .pre .0, (s .pre .1 .0, (rw mine (s .pre .1 .1 .1 .1 .0), (s .pre .1 .1 .0, (s .pre .1 .1 .1 .0, rw theirs (s .pre .1 .1 .1 .1 .1 .0))))))
 
 returns-5 : tie.Need-returns-5
 returns-5 c =
-    let s = behindPassed (c .before .before .before .before .before) in
+    let s = behindPassed (c .before .before .before) in
     let a = s .args in
-    let mine = c .before .before .before .source-of .ensures ∙ ap sourceOf (c .before .before .before .before .backing-at .ensures) in
-    let theirs = c .before .source-of2 .ensures ∙ ap sourceOf (c .before .before .backing-at2 .ensures) in
+    let mine = c .before .before .backing-at .ensures in
+    let theirs = c .before .backing-at2 .ensures in
     let compared = looked-at (a .image .now) (a .pool .now) (a .present) (a .snapshot) (a .front) (a .back)
-    (rw (c .before .before .before .before .before .before .is-committed .ensures) at (c .before .before .before .before .before .if4 .left)) in
-    (rw (mine, theirs) at (c .same-pages .ensures)) ∙ compared ∙ decided (c .before .before .before .before .before .before .before)
+    (rw (c .before .before .before .before .is-committed .ensures) at (c .before .before .before .if4 .left)) in
+    (rw (mine, theirs) at (c .same-pages .ensures)) ∙ compared ∙ decided (c .before .before .before .before .before)
 
 pub agrees-spec : {M : Type 1} → statement M
 agrees-spec =
@@ -135,8 +128,6 @@ agrees-spec =
     is-committed-requires
     returns-4
     backing-at-requires
-    source-of-requires
     backing-at-requires-2
-    source-of-requires-2
     same-pages-requires
     returns-5)

@@ -19,7 +19,7 @@ use Rattle.areas.specs.Walk.{Formed}
 use Rattle.areas.proofs.WalkLaws.{settled, near-formed}
 use Rattle.content.specs.Content.{pageUnder, pageRead, copyRead, differing}
 use Rattle.content.specs.Unchanged.{unchanged}
-use Rattle.content.proofs.ReadingLaws.{source-there}
+use Rattle.content.proofs.ReadingLaws.{backing-there}
 use Rattle.content.proofs.CompareLaws.{readsNow, readsCopied, passed-over}
 use Rattle.content.proofs.UnchangedLaws.{alike-slots, stays-alike}
 use Rattle.content.proofs.compare.lowest_difference.Statement.{statement}
@@ -154,10 +154,10 @@ agrees-requires c κs =
     let s = behind (c .before .before .before .before .before) in
     let i = c .before .before .before .before .before .before .loop .i in
     let front = c .before .before .before .before .front .ensures in
-    let source = source-there (s .args .image .now) (s .args .images) (s .args .b .present) (s .pre .1 .0 .present) (s .pre .1 .1 .0) i in
+    let backing = backing-there (s .args .image .now) (s .args .images) (s .args .b .present) (s .pre .1 .0 .present) (s .pre .1 .1 .0) i in
     let named = entries s i in
     rw (c .before .slot .ensures, c .before .before .back .ensures, front)
-    (named .0, (named .1, (named .2, (named .3, (source, (source, λ m. refl))))))
+    (named .0, (named .1, (named .2, (named .3, (backing, (backing, λ m. refl))))))
 
 returns : tie.Need-returns Inv-loop μ-loop
 unfolding differing lowestDifference pageRead pageUnder copyRead contents
@@ -178,11 +178,11 @@ agrees-requires-2 c κs =
     let i = c .before .before .before .before .before .before .before .loop .i in
     let front = c .before .before .before .before .before .front .ensures in
     let ready = s .pre .1 .0 in
-    let source = source-there (s .args .image .now) (s .args .images) (s .args .b .present) (ready .present) (s .pre .1 .1 .0) i in
-    let copied = source-there (s .args .image .now) (s .args .images) (s .args .b .snapshot) (ready .snapshot) (s .pre .1 .1 .0) i in
+    let backing = backing-there (s .args .image .now) (s .args .images) (s .args .b .present) (ready .present) (s .pre .1 .1 .0) i in
+    let copied = backing-there (s .args .image .now) (s .args .images) (s .args .b .snapshot) (ready .snapshot) (s .pre .1 .1 .0) i in
     let named = entries s i in
     rw (c .slot2 .ensures, c .before .before .slot .ensures, c .before .before .before .back .ensures, front)
-    (named .0, (named .1, (named .2, (named .3, (source, (copied, ready .backing i))))))
+    (named .0, (named .1, (named .2, (named .3, (backing, (copied, ready .backing i))))))
 
 returns-2 : tie.Need-returns-2 Inv-loop μ-loop
 unfolding differing lowestDifference pageRead pageUnder copyRead contents

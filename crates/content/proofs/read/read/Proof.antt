@@ -5,8 +5,7 @@ use Rattle.table.specs.Store.{kept}
 use Rattle.areas.specs.Areas.{Near}
 use Rattle.areas.proofs.FormedLaws.{near}
 use Rattle.rules.proofs.FitLaws.{page-small}
-use Rattle.content.specs.Content.{sourceOf}
-use Rattle.content.proofs.ReadingLaws.{source-there, read-is}
+use Rattle.content.proofs.ReadingLaws.{backing-there, read-is}
 use borrow.Author.Needs.{needs}
 use Rattle.content.proofs.read.read.Statement.{statement}
 use Rattle.content.proofs.read.read.Tie as tie
@@ -29,9 +28,6 @@ slot-requires c κs =
 backing-at-requires : tie.Need-backing-at-requires
 backing-at-requires c κs = search needs
 
-source-of-requires : tie.Need-source-of-requires
-source-of-requires c κs = search needs
-
 cast-read-byte-2 : tie.Need-cast-read-byte-2
 cast-read-byte-2 c = search needs
 
@@ -43,21 +39,20 @@ cast-read-byte-3 c = search needs
 
 read-byte-requires : tie.Need-read-byte-requires
 read-byte-requires c κs =
-    let s = c .before .before .before .before .before .before .before .before .before .before .before in
-    let slot = c .before .before .before .before .before .slot .ensures in
-    let source = c .before .before .before .source-of .ensures ∙ ap sourceOf (c .before .before .before .before .backing-at .ensures ∙ ap backingAt slot) in
-    let there = source-there (s .args .image .now) (s .args .images) (s .args .b .present) (s .pre .1 .1 .1 .0 .present) (s .pre .1 .1 .1 .1 .0) in
-    (s .pre .1 .0, (small s, (s .pre .1 .1 .1 .1 .1, rw source (there (s .args .q .p1 / 256)))))
+    let s = c .before .before .before .before .before .before .before .before .before .before in
+    let slot = c .before .before .before .before .slot .ensures in
+    let backing = c .before .before .before .backing-at .ensures ∙ ap backingAt slot in
+    let there = backing-there (s .args .image .now) (s .args .images) (s .args .b .present) (s .pre .1 .1 .1 .0 .present) (s .pre .1 .1 .1 .1 .0) in
+    (s .pre .1 .0, (small s, (s .pre .1 .1 .1 .1 .1, rw backing (there (s .args .q .p1 / 256)))))
 
 returns : tie.Need-returns
 returns c = λ h.
-    let s = c .before .before .before .before .before .before .before .before .before .before .before .before in
-    let slot = c .before .before .before .before .before .before .slot .ensures in
+    let s = c .before .before .before .before .before .before .before .before .before .before .before in
+    let slot = c .before .before .before .before .before .slot .ensures in
     let committed = c .before .before .is-committed in
-    let source = c .before .before .before .before .source-of in
-    read-is (s .args .image .now) (s .args .q) (s .args .b) (kept h (s .args .pool .now) (s .args .table .now)) (committed .result) (source .result)
-    (c .read-byte .result) (committed .ensures ∙ ap isCommitted slot)
-    (source .ensures ∙ ap sourceOf (c .before .before .before .before .before .backing-at .ensures ∙ ap backingAt slot)) (c .read-byte .ensures h)
+    let backing = c .before .before .before .before .backing-at in
+    read-is (s .args .image .now) (s .args .q) (s .args .b) (kept h (s .args .pool .now) (s .args .table .now)) (committed .result) (backing .result)
+    (c .read-byte .result) (committed .ensures ∙ ap isCommitted slot) (backing .ensures ∙ ap backingAt slot) (c .read-byte .ensures h)
 
 pub read-spec : {M : Type 1} → statement M
 read-spec =
@@ -66,7 +61,6 @@ read-spec =
     cast-read-byte
     slot-requires
     backing-at-requires
-    source-of-requires
     cast-read-byte-2
     is-committed-requires
     cast-read-byte-3

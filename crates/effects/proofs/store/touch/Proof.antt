@@ -8,8 +8,8 @@ use Rattle.basics.proofs.ListLaws.{getD-any}
 use Rattle.interface.specs.declared.page.Slot.{Slot}
 use Rattle.interface.specs.Slots.{isCommitted, backingAt}
 use Rattle.marks.specs.declared.Marks.{Marks}
-use Rattle.table.specs.declared.source.Source.{Source}
-use Rattle.table.specs.Source.{sourceEnd}
+use Rattle.interface.specs.declared.page.Backing.{Backing}
+use Rattle.table.specs.Backing.{backingEnd}
 use Rattle.table.proofs.FiledLaws.{filed-ranged}
 use Rattle.kept.specs.Test.{keptTo}
 use Rattle.areas.specs.Areas.{slots}
@@ -18,8 +18,8 @@ use Rattle.state.specs.declared.sandbox.Sandbox.{Sandbox}
 use Rattle.state.specs.World.{World, worldOf, sandboxAt, closedSandbox, rowsOf}
 use Rattle.state.proofs.SharesLaws.{zeroSandbox}
 use Rattle.rules.proofs.FitLaws.{page-small}
-use Rattle.content.specs.Content.{sourceOf, pageUnder}
-use Rattle.content.proofs.ReadingLaws.{source-there}
+use Rattle.content.specs.Content.{pageUnder}
+use Rattle.content.proofs.ReadingLaws.{backing-there}
 use Rattle.reuse.specs.Reuse.{GaveUp}
 use Rattle.memory.specs.Parts.{ownFront, Asked}
 use Rattle.memory.proofs.SpareLaws.{gives, frame-there}
@@ -82,30 +82,30 @@ gave c =
 abbrev framed : tie.After-unheld-frame → tie.After-give-up
 framed c = c .before .before .before
 
-abbrev looked : tie.After-source-of → tie.After-unheld-frame
-looked c = c .before .before .before .before .before
+abbrev looked : tie.After-backing-at → tie.After-unheld-frame
+looked c = c .before .before .before .before
 
-abbrev behind : tie.After-source-of → tie.Start
+abbrev behind : tie.After-backing-at → tie.Start
 behind c = bare (spared (framed (looked c)))
 
-abbrev slot-of : tie.After-source-of → Slot
+abbrev slot-of : tie.After-backing-at → Slot
 slot-of c = slots (own (behind c) .present) (behind c .args .q .p1 / 256)
 
-slot-is : (c : tie.After-source-of) → c .before .before .before .slot .result ≡ slot-of c
-slot-is c = c .before .before .before .slot .ensures ∙ ap (λ (b : Sandbox). slots (b .present) (behind c .args .q .p1 / 256)) (same-sandbox (behind c))
+slot-is : (c : tie.After-backing-at) → c .before .before .slot .result ≡ slot-of c
+slot-is c = c .before .before .slot .ensures ∙ ap (λ (b : Sandbox). slots (b .present) (behind c .args .q .p1 / 256)) (same-sandbox (behind c))
 
-source-is : (c : tie.After-source-of) → c .source-of .result ≡ sourceOf (backingAt (slot-of c))
-source-is c = c .source-of .ensures ∙ ap sourceOf (c .before .backing-at .ensures ∙ ap backingAt (slot-is c))
+backing-is : (c : tie.After-backing-at) → c .backing-at .result ≡ (backingAt (slot-of c))
+backing-is c = c .backing-at .ensures ∙ ap backingAt (slot-is c)
 
-committed-is : (c : tie.After-source-of) → c .before .before .is-committed .result ≡ isCommitted (slot-of c)
-committed-is c = c .before .before .is-committed .ensures ∙ ap isCommitted (slot-is c)
+committed-is : (c : tie.After-backing-at) → c .before .is-committed .result ≡ isCommitted (slot-of c)
+committed-is c = c .before .is-committed .ensures ∙ ap isCommitted (slot-is c)
 
 -- its image page is there
-source-here : (c : tie.After-source-of) → sourceEnd (c .source-of .result) * 256 ≤ length (behind c .args .image .now)
-source-here c =
+backing-here : (c : tie.After-backing-at) → backingEnd (c .backing-at .result) * 256 ≤ length (behind c .args .image .now)
+backing-here c =
     let s = behind c in
-    subst (λ (x : Source). sourceEnd x * 256 ≤ length (s .args .image .now)) (sym (source-is c))
-    (source-there (s .args .image .now) (s .args .images) (own s .present) (asked s .ready .present) (asked s .whole) (s .args .q .p1 / 256))
+    subst (λ (x : Backing). backingEnd x * 256 ≤ length (s .args .image .now)) (sym (backing-is c))
+    (backing-there (s .args .image .now) (s .args .images) (own s .present) (asked s .ready .present) (asked s .whole) (s .args .q .p1 / 256))
 
 -- ---- the needs
 
@@ -167,9 +167,6 @@ is-committed-requires c κs = search needs
 backing-at-requires : tie.Need-backing-at-requires
 backing-at-requires c κs = search needs
 
-source-of-requires : tie.Need-source-of-requires
-source-of-requires c κs = search needs
-
 take-requires : tie.Need-take-requires
 take-requires c κs =
     let found = c .before .before in
@@ -182,7 +179,7 @@ take-requires c κs =
         (
           filed-ranged 256 (s .args .frames) (worldIn s .store) filed,
           (
-            source-here found,
+            backing-here found,
             (omega (arith, low, filed .few), omega (arith, low, filed .pages)),
           ),
         ),
@@ -204,7 +201,7 @@ returns-2 c =
     let g = framed (looked found) in
     let f = looked found .unheld-frame in
     touch-made (s .args .image .now) (s .args .frames) (s .args .images) (s .args .q) (worldIn s) (asked s) (s .pre .0) _ (g .give-up .result) (f .result .0)
-    (no-front (spared g)) (gave g) (f .ensures .0) (f .ensures .1 .0) (f .ensures .1 .1) (rw (← committed-is found, ← source-is found) (taken .take .ensures))
+    (no-front (spared g)) (gave g) (f .ensures .0) (f .ensures .1 .0) (f .ensures .1 .1) (rw (← committed-is found, ← backing-is found) (taken .take .ensures))
 
 pub touch-spec : {M : Type 1} → statement M
 touch-spec =
@@ -224,7 +221,6 @@ touch-spec =
     slot-requires
     is-committed-requires
     backing-at-requires
-    source-of-requires
     take-requires
     same-length-2
     same-length-3

@@ -2,7 +2,7 @@ use Prim.Native.Nat.{_/_, _<_}
 use native.Mathlib.Omega.{arith}
 use Rattle.state.specs.World.{World, worldOf, sandboxAt}
 use Rattle.rules.proofs.FitLaws.{page-small}
-use Rattle.content.proofs.ReadingLaws.{source-there}
+use Rattle.content.proofs.ReadingLaws.{backing-there}
 use Rattle.memory.proofs.MemoryLaws.{touch-ranged, written}
 use borrow.Author.Needs.{needs}
 use Rattle.effects.proofs.store.write.Statement.{statement}
@@ -44,7 +44,7 @@ store-byte-requires c κs =
       (
         small s,
         touch-ranged (s .args .image .now) (s .args .frames) (s .args .images) (s .args .q) (worldIn s) asked (s .pre .0) _ _ (small s)
-            (source-there (s .args .image .now) (s .args .images) (own .present) (asked .ready .present) (asked .whole) (s .args .q .p1 / 256))
+            (backing-there (s .args .image .now) (s .args .images) (own .present) (asked .ready .present) (asked .whole) (s .args .q .p1 / 256))
             (touching .touch .ensures),
       ),
     )

@@ -1,5 +1,5 @@
 use borrow.Author.Needs.{needs}
-use Rattle.table.specs.Source.{sourceBytes}
+use Rattle.table.specs.Backing.{backingPage}
 use Rattle.table.proofs.PageLaws.{page-there}
 use Rattle.filling.proofs.store.fill_frame.Statement.{statement}
 use Rattle.filling.proofs.store.fill_frame.Tie as tie
@@ -26,7 +26,7 @@ returns-2 : tie.Need-returns-2
 returns-2 c =
     let start = c .before .before .before .before .before .before .before .before in
     rw (
-      ← page-there 256 (start .args .pool .now) (sourceBytes (start .args .image .now) (start .args .source)) (start .args .entry)
+      ← page-there 256 (start .args .pool .now) (backingPage (start .args .image .now) (start .args .backing)) (start .args .entry)
           (c .before .before .before .before .before .if1 .left),
       ← c .before .before .before .frame-of .ensures,
     )

@@ -1,6 +1,6 @@
 use native.Mathlib.Omega.{arith}
 use borrow.Author.Needs.{needs}
-use Rattle.table.specs.Source.{sourceBytes}
+use Rattle.table.specs.Backing.{backingPage}
 use Rattle.table.specs.Store.{Store, kept, backOf, put, take}
 use Rattle.table.proofs.PageLaws.{few-if, room-if, under-if}
 use Rattle.filling.proofs.store.take.Statement.{statement}
@@ -54,7 +54,7 @@ unfolding take put
 returns c =
     let start = c .before .before .before .before .before .before .before .before .before .before .before .before in
     let s : Store = kept (start .args .held) (start .args .pool .now) (start .args .table .now) in
-    let bytes = sourceBytes (start .args .image .now) (start .args .source) in
+    let bytes = backingPage (start .args .image .now) (start .args .backing) in
     rw (
       ← under-if 256 s (backOf (start .args .sandbox) (start .args .page .0)) bytes
           (start .args .committed),

@@ -1,7 +1,7 @@
 use mathlib.Core.Path.{ap}
 use native.Mathlib.Omega.{arith}
 use Rattle.pages.specs.Parts.{zeros}
-use Rattle.table.specs.Source.{sourceEnd}
+use Rattle.table.specs.Backing.{backingEnd}
 use Rattle.reading.proofs.CompareLaws.{at-frame, at-zero, at-image, has-page}
 use borrow.Author.Needs.{needs}
 use Rattle.reading.proofs.compare.has_page.Statement.{statement}
@@ -36,7 +36,7 @@ returns c =
     let s = c .before .before .before .before .before .before .before .before in
     let f = c .before .before .before .frame-of in
     let named = c .before .before .before .before .if1 .taken in
-    let here = at-frame (s .args .pool .now) (s .args .image .now) (s .args .entry) (s .args .source) (f .result .0) (f .ensures) named in
+    let here = at-frame (s .args .pool .now) (s .args .image .now) (s .args .entry) (s .args .backing) (f .result .0) (f .ensures) named in
     has-page (s .args .part .now) _ _ (c .is-same .result) (s .pre .0) here (c .is-same .ensures)
 
 enum-told : tie.Need-enum-told
@@ -48,8 +48,8 @@ slice-aggregate-is-same c = search needs
 is-same-requires-2 : tie.Need-is-same-requires-2
 is-same-requires-2 c κs = search needs
 
-enum-known-source : tie.Need-enum-known-source
-enum-known-source c = search needs
+enum-known-backing : tie.Need-enum-known-backing
+enum-known-backing c = search needs
 
 cast-start-2 : tie.Need-cast-start-2
 cast-start-2 c = search needs
@@ -67,7 +67,7 @@ part-is-same-start-2 : tie.Need-part-is-same-start-2
 part-is-same-start-2 c = search needs
 
 part-is-same-end-2 : tie.Need-part-is-same-end-2
-part-is-same-end-2 c = omega (arith, ap sourceEnd (c .before .before .source .given .1))
+part-is-same-end-2 c = omega (arith, ap backingEnd (c .before .before .backing .given .1))
 
 is-same-requires-3 : tie.Need-is-same-requires-3
 is-same-requires-3 c κs = search needs
@@ -77,15 +77,15 @@ unfolding zeros
 returns-2 c =
     let s = c .before .before .before .before .before .before .before .before in
     let none = c .before .before .before .before .if1 .left in
-    let here = at-zero (s .args .pool .now) (s .args .image .now) (s .args .entry) (s .args .source) none (c .before .before .enum-told .given .1) in
+    let here = at-zero (s .args .pool .now) (s .args .image .now) (s .args .entry) (s .args .backing) none (c .before .before .enum-told .given .1) in
     has-page (s .args .part .now) _ _ (c .is-same2 .result) (s .pre .0) here (c .is-same2 .ensures)
 
 returns-3 : tie.Need-returns-3
 returns-3 c =
     let s = c .before .before .before .before .before .before .before .before .before .before in
     let none = c .before .before .before .before .before .before .if1 .left in
-    let known = c .before .before .before .before .source .given in
-    let here = at-image (s .args .pool .now) (s .args .image .now) (s .args .entry) (s .args .source) (known .0 .0) none (known .1) in
+    let known = c .before .before .before .before .backing .given in
+    let here = at-image (s .args .pool .now) (s .args .image .now) (s .args .entry) (s .args .backing) (known .0 .0) none (known .1) in
     has-page (s .args .part .now) _ _ (c .is-same3 .result) (s .pre .0) here (c .is-same3 .ensures)
 
 pub has-page-spec : {M : Type 1} → statement M
@@ -104,7 +104,7 @@ has-page-spec =
     enum-told
     slice-aggregate-is-same
     is-same-requires-2
-    enum-known-source
+    enum-known-backing
     cast-start-2
     mul-start-2
     add-end-2

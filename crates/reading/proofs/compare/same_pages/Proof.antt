@@ -3,7 +3,7 @@ use mathlib.Core.List.{List}
 use Prim.Native.Nat.{ℕ}
 use native.Mathlib.Omega.{arith}
 use Rattle.pages.specs.Parts.{zeros}
-use Rattle.table.specs.Source.{sourceEnd}
+use Rattle.table.specs.Backing.{backingEnd}
 use Rattle.reading.proofs.CompareLaws.{lent, pageOf, at-frame, at-zero, at-image, same-as}
 use borrow.Author.Needs.{needs}
 use Rattle.reading.proofs.compare.same_pages.Statement.{statement}
@@ -11,7 +11,7 @@ use Rattle.reading.proofs.compare.same_pages.Tie as tie
 
 -- the two pages
 abbrev mine : tie.Start → List ℕ
-mine s = pageOf (s .args .pool .now) (s .args .image .now) (s .args .entry) (s .args .source)
+mine s = pageOf (s .args .pool .now) (s .args .image .now) (s .args .entry) (s .args .backing)
 
 abbrev twin : tie.Start → List ℕ
 twin s = pageOf (s .args .pool .now) (s .args .image .now) (s .args .other) (s .args .twin)
@@ -45,7 +45,7 @@ returns c =
     let s = c .before .before .before .before .before .before .before in
     let f = c .before .before .before .frame-of in
     let named = c .before .before .before .before .if1 .taken in
-    let here = at-frame (s .args .pool .now) (s .args .image .now) (s .args .entry) (s .args .source) (f .result .0) (f .ensures) named in
+    let here = at-frame (s .args .pool .now) (s .args .image .now) (s .args .entry) (s .args .backing) (f .result .0) (f .ensures) named in
     same-as (lent (s .args .pool .now) (f .result .0)) (mine s) (twin s) (c .has-page .result) here (c .has-page .ensures)
 
 enum-told : tie.Need-enum-told
@@ -57,8 +57,8 @@ slice-aggregate-has-page c = search needs
 has-page-requires-2 : tie.Need-has-page-requires-2
 has-page-requires-2 c κs = search needs
 
-enum-known-source : tie.Need-enum-known-source
-enum-known-source c = search needs
+enum-known-backing : tie.Need-enum-known-backing
+enum-known-backing c = search needs
 
 cast-start-2 : tie.Need-cast-start-2
 cast-start-2 c = search needs
@@ -76,7 +76,7 @@ part-has-page-start-2 : tie.Need-part-has-page-start-2
 part-has-page-start-2 c = search needs
 
 part-has-page-end-2 : tie.Need-part-has-page-end-2
-part-has-page-end-2 c = omega (arith, ap sourceEnd (c .before .before .source .given .1))
+part-has-page-end-2 c = omega (arith, ap backingEnd (c .before .before .backing .given .1))
 
 has-page-requires-3 : tie.Need-has-page-requires-3
 has-page-requires-3 c κs = search needs
@@ -86,16 +86,16 @@ unfolding zeros
 returns-2 c =
     let s = c .before .before .before .before .before .before .before in
     let none = c .before .before .before .before .if1 .left in
-    let here = at-zero (s .args .pool .now) (s .args .image .now) (s .args .entry) (s .args .source) none (c .before .before .enum-told .given .1) in
+    let here = at-zero (s .args .pool .now) (s .args .image .now) (s .args .entry) (s .args .backing) none (c .before .before .enum-told .given .1) in
     same-as (zeros 256) (mine s) (twin s) (c .has-page2 .result) here (c .has-page2 .ensures)
 
 returns-3 : tie.Need-returns-3
 returns-3 c =
     let s = c .before .before .before .before .before .before .before .before .before in
     let none = c .before .before .before .before .before .before .if1 .left in
-    let known = c .before .before .before .before .source .given in
+    let known = c .before .before .before .before .backing .given in
     let page = lent (s .args .image .now) (known .0 .0 .0) in
-    let here = at-image (s .args .pool .now) (s .args .image .now) (s .args .entry) (s .args .source) (known .0 .0) none (known .1) in
+    let here = at-image (s .args .pool .now) (s .args .image .now) (s .args .entry) (s .args .backing) (known .0 .0) none (known .1) in
     same-as page (mine s) (twin s) (c .has-page3 .result) here (c .has-page3 .ensures)
 
 pub same-pages-spec : {M : Type 1} → statement M
@@ -114,7 +114,7 @@ same-pages-spec =
     enum-told
     slice-aggregate-has-page
     has-page-requires-2
-    enum-known-source
+    enum-known-backing
     cast-start-2
     mul-start-2
     add-end-2

@@ -5,9 +5,9 @@ use native.Mathlib.Omega.{arith}
 use borrow.Author.Needs.{needs}
 use lib.ListN.{length, getD}
 use Rattle.pages.specs.Parts.{frame}
-use Rattle.table.specs.Source.{sourceBytes}
+use Rattle.table.specs.Backing.{backingPage}
 use Rattle.table.specs.Store.{kept, frontOf, backOf}
-use Rattle.table.proofs.PageLaws.{few-if, room-if, reads-front, reads-back, reads-source}
+use Rattle.table.proofs.PageLaws.{few-if, room-if, reads-front, reads-back, reads-backing}
 use Rattle.reading.proofs.store.read_byte.Statement.{statement}
 use Rattle.reading.proofs.store.read_byte.Tie as tie
 
@@ -32,7 +32,7 @@ returns c =
     λ h. c .read-byte .ensures ∙ ap (λ (page : List ℕ). getD page (a .offset) 0)
     (ap (frame 256 (a .pool .now)) (c .before .frame-of .ensures)
     ∙ reads-front 256 (kept h (a .pool .now) (a .table .now)) (frontOf (a .sandbox) (a .page .0)) (backOf (a .sandbox) (a .page .0))
-    (sourceBytes (a .image .now) (a .source)) (a .committed)
+    (backingPage (a .image .now) (a .backing)) (a .committed)
     (front .result) _ (front .ensures) refl (c .before .before .if1 .taken))
 
 back-if-requires : tie.Need-back-if-requires
@@ -59,7 +59,7 @@ returns-2 c =
     λ h. c .read-byte2 .ensures ∙ ap (λ (page : List ℕ). getD page (a .offset) 0)
     (ap (frame 256 (a .pool .now)) (c .before .frame-of2 .ensures)
     ∙ reads-back 256 (kept h (a .pool .now) (a .table .now)) (frontOf (a .sandbox) (a .page .0)) (backOf (a .sandbox) (a .page .0))
-    (sourceBytes (a .image .now) (a .source)) (a .committed)
+    (backingPage (a .image .now) (a .backing)) (a .committed)
     (front .result) (under .result) (front .ensures) (under .ensures) (c .before .before .before .before .if1 .left) (c .before .before .if2 .taken))
 
 read-byte-requires-3 : tie.Need-read-byte-requires-3
@@ -72,8 +72,8 @@ returns-3 c =
     let front = c .before .before .before .before .front in
     let under = c .before .before .back-if in
     λ h. c .read-byte3 .ensures ∙ ap (λ (page : List ℕ). getD page (a .offset) 0)
-    (reads-source 256 (kept h (a .pool .now) (a .table .now)) (frontOf (a .sandbox) (a .page .0)) (backOf (a .sandbox) (a .page .0))
-    (sourceBytes (a .image .now) (a .source)) (a .committed)
+    (reads-backing 256 (kept h (a .pool .now) (a .table .now)) (frontOf (a .sandbox) (a .page .0)) (backOf (a .sandbox) (a .page .0))
+    (backingPage (a .image .now) (a .backing)) (a .committed)
     (front .result) (under .result) (front .ensures) (under .ensures) (c .before .before .before .if1 .left) (c .before .if2 .left))
 
 pub read-byte-spec : {M : Type 1} → statement M

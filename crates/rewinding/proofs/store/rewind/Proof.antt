@@ -8,13 +8,14 @@ use lib.ListN.{length}
 use Rattle.interface.specs.Slots.{isCommitted, backingAt}
 use Rattle.table.specs.Store.{kept, Ranged, rewindPage, rewindTo}
 use Rattle.table.proofs.RewindLaws.{rewind-kept-as, rewind-more}
-use Rattle.table.proofs.TouchLaws.{source-whole}
+use Rattle.table.proofs.TouchLaws.{backing-whole}
 use Rattle.areas.specs.declared.area.Areas.{Areas}
 use Rattle.areas.specs.Areas.{slots}
 use Rattle.areas.proofs.FormedLaws.{near}
-use Rattle.content.specs.Content.{backingPage, sourceOf, copyPage}
+use Rattle.table.specs.Backing.{backingPage}
+use Rattle.content.specs.Content.{copyPage}
 use Rattle.memory.specs.Memory.{keepsFront}
-use Rattle.content.proofs.ReadingLaws.{source-there}
+use Rattle.content.proofs.ReadingLaws.{backing-there}
 use Rattle.memory.proofs.MemoryLaws.{rewind-alike}
 use Rattle.rewinding.proofs.store.rewind.Statement.{statement}
 use Rattle.rewinding.proofs.store.rewind.Tie as tie
@@ -48,7 +49,7 @@ rewind-page-requires c κs =
         c .before .before .loop-test .taken,
         (
           near (s .args .images) (s .args .b .present) (r .present) (r .few),
-          (l .inv .3, source-there (s .args .image .now) (s .args .images) (s .args .b .present) (r .present) (s .pre .1 .1 .0) (l .i)),
+          (l .inv .3, backing-there (s .args .image .now) (s .args .images) (s .args .b .present) (r .present) (s .pre .1 .1 .0) (l .i)),
         ),
       ),
     )
@@ -70,10 +71,10 @@ loop-again c =
     let r = kept (l .h) (l .pool) (l .table) in
     let q = kept (f .result) (f .last .1 .0) (f .last .1 .1 .0) in
     let e : q ≡ rewindPage 256 (first + l .i) (first + l .i + 64) (keeps present (l .i)) (bytes image present (l .i)) r = f .ensures in
-    let there = source-there image (s .args .images) present (s .pre .1 .0 .present) (s .pre .1 .1 .0) (l .i) in
+    let there = backing-there image (s .args .images) present (s .pre .1 .0 .present) (s .pre .1 .1 .0) (l .i) in
     let k =
     rewind-kept-as 256 (first + l .i) (first + l .i + 64) (keeps present (l .i)) (bytes image present (l .i)) r q e (l .inv .3)
-    (source-whole image (sourceOf (backingAt (slots present (l .i)))) there) in
+    (backing-whole image (backingAt (slots present (l .i))) there) in
     (search needs, k .pool ∙ l .inv .1, k .table ∙ l .inv .2, k .ranged, rewind-more 256 first (l .i) (keeps present) (bytes image present) _ r q (l .inv .4) e)
 
 same-length : tie.Need-same-length Inv-loop μ-loop

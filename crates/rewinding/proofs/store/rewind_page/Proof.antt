@@ -1,7 +1,6 @@
 use mathlib.Core.Path.{sym, ap, _∙_}
 use Rattle.interface.specs.Slots.{isCommitted, backingAt}
 use Rattle.table.proofs.RewindLaws.{rewind-none}
-use Rattle.content.specs.Content.{sourceOf}
 use borrow.Author.Needs.{needs}
 use Rattle.rewinding.proofs.store.rewind_page.Statement.{statement}
 use Rattle.rewinding.proofs.store.rewind_page.Tie as tie
@@ -24,15 +23,11 @@ is-committed-requires c κs = search needs
 backing-at-requires : tie.Need-backing-at-requires
 backing-at-requires c κs = search needs
 
-source-of-requires : tie.Need-source-of-requires
-source-of-requires c κs = search needs
-
 restore-page-requires : tie.Need-restore-page-requires
 restore-page-requires c κs =
-    let s = c .before .before .before .before .before .before .before .before .before .before .before .before in
-    let slot = c .before .before .before .before .before .slot .ensures in
-    let source = c .before .before .source-of .ensures ∙ ap sourceOf (c .before .before .before .backing-at .ensures ∙ ap backingAt slot) in
-    (s .pre .0, (s .pre .1 .0, (s .pre .1 .1 .1 .0, rw source (s .pre .1 .1 .1 .1))))
+    let s = c .before .before .before .before .before .before .before .before .before .before .before in
+    let backing = c .before .before .backing-at .ensures ∙ ap backingAt (c .before .before .before .before .slot .ensures) in
+    (s .pre .0, (s .pre .1 .0, (s .pre .1 .1 .1 .0, rw backing (s .pre .1 .1 .1 .1))))
 
 same-length-2 : tie.Need-same-length-2
 same-length-2 c = search needs
@@ -42,11 +37,10 @@ same-length-3 c = search needs
 
 returns-2 : tie.Need-returns-2
 returns-2 c =
-    let slot = c .before .before .before .before .before .before .before .before .before .before .slot .ensures in
-    let backing = c .before .before .before .before .before .before .before .before .backing-at .ensures ∙ ap backingAt slot in
-    let source = c .before .before .before .before .before .before .before .source-of .ensures ∙ ap sourceOf backing in
-    let keep = c .before .before .before .before .before .before .before .before .before .is-committed .ensures ∙ ap isCommitted slot in
-    rw (← source, ← keep) (c .before .before .before .before .restore-page .ensures)
+    let slot = c .before .before .before .before .before .before .before .before .before .slot .ensures in
+    let backing = c .before .before .before .before .before .before .before .backing-at .ensures ∙ ap backingAt slot in
+    let keep = c .before .before .before .before .before .before .before .before .is-committed .ensures ∙ ap isCommitted slot in
+    rw (← backing, ← keep) (c .before .before .before .before .restore-page .ensures)
 
 pub rewind-page-spec : {M : Type 1} → statement M
 rewind-page-spec =
@@ -58,7 +52,6 @@ rewind-page-spec =
     slot-requires
     is-committed-requires
     backing-at-requires
-    source-of-requires
     restore-page-requires
     same-length-2
     same-length-3

@@ -2,9 +2,9 @@ use mathlib.Core.Path.{ap}
 use native.Mathlib.Omega.{arith}
 use borrow.Author.Needs.{needs}
 use Rattle.pages.proofs.PartLaws.{part-is-frame}
-use Rattle.table.specs.Source.{sourceEnd}
-use Rattle.filling.proofs.source.fill_frame.Statement.{statement}
-use Rattle.filling.proofs.source.fill_frame.Tie as tie
+use Rattle.table.specs.Backing.{backingEnd}
+use Rattle.filling.proofs.backing.fill_frame.Statement.{statement}
+use Rattle.filling.proofs.backing.fill_frame.Tie as tie
 
 enum-told : tie.Need-enum-told
 enum-told c = search needs
@@ -12,8 +12,8 @@ enum-told c = search needs
 clear-frame-requires : tie.Need-clear-frame-requires
 clear-frame-requires c κs = search needs
 
-enum-known-source : tie.Need-enum-known-source
-enum-known-source c = search needs
+enum-known-backing : tie.Need-enum-known-backing
+enum-known-backing c = search needs
 
 cast-start : tie.Need-cast-start
 cast-start c = search needs
@@ -31,7 +31,7 @@ part-fill-frame-start : tie.Need-part-fill-frame-start
 part-fill-frame-start c = search needs
 
 part-fill-frame-end : tie.Need-part-fill-frame-end
-part-fill-frame-end c = omega (arith, ap sourceEnd (c .before .before .before .source .given .1))
+part-fill-frame-end c = omega (arith, ap backingEnd (c .before .before .before .backing .given .1))
 
 fill-frame-requires : tie.Need-fill-frame-requires
 fill-frame-requires c κs = search needs
@@ -48,7 +48,7 @@ same-length-2 c = search needs
 returns-2 : tie.Need-returns-2
 returns-2 c =
     let start = c .before .before .before .before .before .before .before .before .before .before .before in
-    let known = c .before .before .before .before .before .before .before .source .given in
+    let known = c .before .before .before .before .before .before .before .backing .given in
     rw (known .1, ← part-is-frame 256 (start .args .image .now) (known .0 .0 .0)) (c .before .before .fill-frame .ensures)
 
 pub fill-frame-spec : {M : Type 1} → statement M
@@ -57,7 +57,7 @@ fill-frame-spec =
     (tie.spec
     enum-told
     clear-frame-requires
-    enum-known-source
+    enum-known-backing
     cast-start
     mul-start
     add-end
