@@ -118,7 +118,7 @@ module _ (image : List ℕ) (w : World) (s : ℕ) where
           row = omega arith;
           near = near (pagesIn (length image)) (b .snapshot) well (t .images);
           ranged = filed-ranged 256 (framesOf w) (w .store) (t .filed);
-          backed = backing-there image (pagesIn (length image)) (b .snapshot) well (t .whole);
+          backed = backing-there image (b .snapshot) well;
         }
 
     pub roll-here : rollOf image (w .store .pool) (w .store .table) handedOn ≡ archiveOf image w s

@@ -5,8 +5,8 @@ ghost use lib.ListN.{length};
 ghost use Rattle.pages.specs.Parts.{setFrame};
 ghost use Rattle.table.specs.Backing.{backingPage, backingEnd};
 use frames::FrameNo;
-use pages::Page;
 use interface::page::Backing;
+use pages::Page;
 
 // A frame gets the backing's bytes.
 pub(crate) fn fill_frame(pool: &mut [u8], f: FrameNo, image: &[u8], backing: Backing)

@@ -12,7 +12,7 @@ use Rattle.interface.specs.Requests.{_is_, Write, isCall, pageOf}
 use Rattle.interface.specs.Refusals.{refusal}
 use Rattle.table.specs.Store.{entry, frontOf}
 use Rattle.state.specs.declared.sandbox.Sandbox.{Sandbox}
-use Rattle.state.specs.World.{World, sandboxAt, withSandbox, withRuns, framesOf, viewAt}
+use Rattle.state.specs.World.{World, sandboxAt, withSandbox, withRuns, viewAt}
 use Rattle.state.specs.Test.{soundb}
 use Rattle.rules.specs.After.{sandboxAfter}
 use Rattle.runs.specs.Row.{InLongest}
@@ -61,7 +61,7 @@ gives image w q = eqb (numberAt image w q) 0 && givesAt q (sandboxAt w (q .sandb
 
 -- a frame of the pool that is not held
 abbrev pub Free : World → ℕ → Type 0
-Free w f = Unheld (framesOf w) w f
+Free w f = Unheld w f
 
 -- a frame of the longest run of sandbox s
 abbrev pub OfLongest : World → ℕ → ℕ → Type 0

@@ -3,8 +3,8 @@ ghost use mathlib.Core.Path.{_≡_};
 ghost use Prim.Native.Nat.{_*_, _≤_};
 ghost use lib.ListN.{length, getD};
 ghost use Rattle.table.specs.Backing.{backingPage, backingEnd};
-use pages::Page;
 use interface::page::Backing;
+use pages::Page;
 
 // One of the backing's bytes.
 pub(crate) fn read_byte(image: &[u8], backing: Backing, offset: u8) -> u8

@@ -5,9 +5,9 @@ ghost use lib.ListN.{length};
 ghost use Rattle.pages.specs.Parts.{sameBytes};
 ghost use Rattle.table.specs.Store.{pageIn, pageFrom};
 ghost use Rattle.table.specs.Backing.{backingPage, backingEnd};
+use interface::page::Backing;
 use pages::Page;
 use table::entry::frame_of;
-use interface::page::Backing;
 
 // Whether two pages have the same bytes. Each is the frame that its entry names; where that names none, it has its backing's bytes.
 pub fn same_pages(

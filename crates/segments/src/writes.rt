@@ -17,11 +17,11 @@ use areas::slot::is_mapped;
 use frames::FrameNo;
 use interface::page::Backing;
 use interface::page::PageNo;
-use interface::page::Slot;
 use interface::request::Request;
 use printing::Cursor;
 use printing::put_if;
 use table::entry::frame_of;
+use table::page::VirtualPage;
 
 // The writes of a snapshot, page by page.
 pub fn put_writes(
@@ -42,7 +42,7 @@ pub fn put_writes(
     for i in 0..Areas::PAGES {
         let number = PageNo(i);
         let slot = areas.slot(number);
-        let page = Page {
+        let page = VirtualPage {
             sandbox: snapshot.sandbox,
             number: number,
             slot: slot,
@@ -52,19 +52,12 @@ pub fn put_writes(
     next
 }
 
-// A page of the snapshot: whose it is, its number, and what stands there.
-struct Page {
-    sandbox: u8,
-    number: PageNo,
-    slot: Slot,
-}
-
 // One page. Without a back it has its backing's bytes, and none is looked at.
 fn put_page(
     pool: &[u8],
     table: &[u16],
     image: &[u8],
-    page: Page,
+    page: VirtualPage,
     out: &mut [u8],
     to: Cursor,
 ) -> Cursor
@@ -92,7 +85,7 @@ fn put_page(
 fn put_bytes(
     pool: &[u8],
     image: &[u8],
-    page: Page,
+    page: VirtualPage,
     f: FrameNo,
     out: &mut [u8],
     to: Cursor,
@@ -116,7 +109,7 @@ fn put_bytes(
 }
 
 // The write of one byte of a page.
-fn write_line(page: Page, offset: u8, byte: u8) -> Request
+fn write_line(page: VirtualPage, offset: u8, byte: u8) -> Request
     ensures { λ r. ⌜ r ≡ requestOf Write (page .sandbox) (page .number .0 * 256 + offset) byte 0 0 0 ⌝ }
 {
     Request {

@@ -6,3 +6,4 @@
 // It stands on `pool` and `pages` for the bytes of a frame, on `frames` for the held marks, on `marks` for the frames that entries name, and on
 // `interface` for the number of a page.
 pub mod entry;
+pub mod page;

@@ -72,7 +72,7 @@ first-of-requires : tie.Need-first-of-requires
 first-of-requires c κs =
     let s = c .before .before .before .before .before .before .before .before .before .before in
     let ready = s .pre .1 .1 .1 .0 in
-    (near (s .args .images) (s .args .b .present) (ready .present) (ready .few), (s .pre .0, s .pre .1 .1 .0))
+    (near (ready .0) (s .args .b .present) (ready .1 .present) (ready .1 .few), (s .pre .0, s .pre .1 .1 .0))
 
 cast-at : tie.Need-cast-at
 cast-at c = search needs

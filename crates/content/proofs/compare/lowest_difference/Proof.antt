@@ -17,6 +17,7 @@ use Rattle.areas.specs.declared.area.Areas.{Areas}
 use Rattle.areas.specs.Areas.{slots}
 use Rattle.areas.specs.Walk.{Formed}
 use Rattle.areas.proofs.WalkLaws.{settled, near-formed}
+use Rattle.state.specs.World.{pagesIn}
 use Rattle.content.specs.Content.{pageUnder, pageRead, copyRead, differing}
 use Rattle.content.specs.Unchanged.{unchanged}
 use Rattle.content.proofs.ReadingLaws.{backing-there}
@@ -36,11 +37,11 @@ abbrev of : List ℕ → List ℕ → List ℕ → ℕ → Areas → Areas → �
 of image pool table s present snapshot i = agree (slots present i) (slots snapshot i) (same image pool table s present snapshot i)
 
 abbrev Inv-loop : tie.InvT-loop
-Inv-loop pool table image s images present snapshot stay i₀ i =
+Inv-loop pool table image s present snapshot stay i₀ i =
     (i ≤ 64) × (lowest (λ k. not (of image pool table s present snapshot k)) 0 64 ≡ lowest (λ k. not (of image pool table s present snapshot k)) i (64 - i))
 
 abbrev μ-loop : tie.MeasureT-loop
-μ-loop pool table image s images present snapshot stay i₀ i = 64 - i
+μ-loop pool table image s present snapshot stay i₀ i = 64 - i
 
 -- ---- where the loop starts
 
@@ -48,10 +49,10 @@ abbrev Start : Type 0
 Start = tie.Start Inv-loop μ-loop
 
 formed : (s : Start) → Formed (s .args .b .present)
-formed s = settled (s .args .images) (s .args .b .present) (s .pre .1 .0 .present) (s .pre .1 .0 .few)
+formed s = settled (pagesIn (length (s .args .image .now))) (s .args .b .present) (s .pre .1 .0 .present) (s .pre .1 .0 .few)
 
 formed-copy : (s : Start) → Formed (s .args .b .snapshot)
-formed-copy s = settled (s .args .images) (s .args .b .snapshot) (s .pre .1 .0 .snapshot) (s .pre .1 .0 .few)
+formed-copy s = settled (pagesIn (length (s .args .image .now))) (s .args .b .snapshot) (s .pre .1 .0 .snapshot) (s .pre .1 .0 .few)
 
 -- what page i is tested by
 abbrev ofIn : Start → ℕ → Bool
@@ -68,7 +69,7 @@ entries : (s : Start) (i : ℕ) → let at : ℕ → ℕ = λ k. getD (s .args .
     (at (frontOf (s .args .s) i) ≤ 128) × (at (frontOf (s .args .s) i) * 256 ≤ room) × (at (backOf (s .args .s) i) ≤ 128)
     × (at (backOf (s .args .s) i) * 256 ≤ room)
 entries s i =
-    let ranged = s .pre .1 .1 .1 in
+    let ranged = s .pre .1 .1 in
     (ranged .few (frontOf (s .args .s) i), ranged .room (frontOf (s .args .s) i), ranged .few (backOf (s .args .s) i), ranged .room (backOf (s .args .s) i))
 
 -- a page without a front, where every area stays
@@ -139,10 +140,10 @@ loop-holds : tie.Need-loop-holds Inv-loop μ-loop
 loop-holds c = (omega arith, refl)
 
 front-requires : tie.Need-front-requires Inv-loop μ-loop
-front-requires c κs = let s = behind c in (s .pre .0, (c .loop-test .taken, s .pre .1 .1 .1 .entries))
+front-requires c κs = let s = behind c in (s .pre .0, (c .loop-test .taken, s .pre .1 .1 .entries))
 
 back-requires : tie.Need-back-requires Inv-loop μ-loop
-back-requires c κs = let s = behind (c .before .before) in (s .pre .0, (c .before .before .loop-test .taken, s .pre .1 .1 .1 .entries))
+back-requires c κs = let s = behind (c .before .before) in (s .pre .0, (c .before .before .loop-test .taken, s .pre .1 .1 .entries))
 
 slot-requires : tie.Need-slot-requires Inv-loop μ-loop
 slot-requires c κs =
@@ -154,7 +155,7 @@ agrees-requires c κs =
     let s = behind (c .before .before .before .before .before) in
     let i = c .before .before .before .before .before .before .loop .i in
     let front = c .before .before .before .before .front .ensures in
-    let backing = backing-there (s .args .image .now) (s .args .images) (s .args .b .present) (s .pre .1 .0 .present) (s .pre .1 .1 .0) i in
+    let backing = backing-there (s .args .image .now) (s .args .b .present) (s .pre .1 .0 .present) i in
     let named = entries s i in
     rw (c .before .slot .ensures, c .before .before .back .ensures, front)
     (named .0, (named .1, (named .2, (named .3, (backing, (backing, λ m. refl))))))
@@ -178,8 +179,8 @@ agrees-requires-2 c κs =
     let i = c .before .before .before .before .before .before .before .loop .i in
     let front = c .before .before .before .before .before .front .ensures in
     let ready = s .pre .1 .0 in
-    let backing = backing-there (s .args .image .now) (s .args .images) (s .args .b .present) (ready .present) (s .pre .1 .1 .0) i in
-    let copied = backing-there (s .args .image .now) (s .args .images) (s .args .b .snapshot) (ready .snapshot) (s .pre .1 .1 .0) i in
+    let backing = backing-there (s .args .image .now) (s .args .b .present) (ready .present) i in
+    let copied = backing-there (s .args .image .now) (s .args .b .snapshot) (ready .snapshot) i in
     let named = entries s i in
     rw (c .slot2 .ensures, c .before .before .slot .ensures, c .before .before .before .back .ensures, front)
     (named .0, (named .1, (named .2, (named .3, (backing, (copied, ready .backing i))))))

@@ -1,5 +1,5 @@
 -- A call: what each test shows of the number, and from it the step that each answer is.
-use mathlib.Core.Path.{_≡_, refl, sym, ap, _∙_}
+use mathlib.Core.Path.{_≡_, sym, ap, _∙_}
 use mathlib.Core.Bool.{true, false}
 use mathlib.Core.List.{List}
 use Prim.Native.Nat.{ℕ, _/_, _<_}
@@ -7,7 +7,6 @@ use native.Mathlib.Omega.{arith}
 use lib.ListN.{length, getD}
 use borrow.Author.Tests.{not-true, not-false}
 use Rattle.basics.proofs.TestLaws.{length-mapped}
-use Rattle.basics.proofs.ListLaws.{getD-any}
 use Rattle.interface.specs.declared.answer.Refusal.the-variants.{NoSuchCall, Unsound, NotOpen}
 use Rattle.interface.specs.Requests.{isCall}
 use Rattle.interface.specs.Refusals.{View, refusal}
@@ -22,6 +21,7 @@ use Rattle.decision.specs.declared.Decision.{Decision}
 use Rattle.rules.specs.After.{presentAfter}
 use Rattle.rules.specs.Ready.{viewFrom}
 use Rattle.decision.specs.Decision.{verdictNumber, Decided}
+use Rattle.memory.proofs.MemoryLaws.{read-own}
 use Rattle.machine.specs.Step.{numberAt}
 use Rattle.machine.proofs.CallLaws.{stepped-refused, number-two, number-three, number-four, number-rest, stepped, ready, asked}
 use borrow.Author.Needs.{needs}
@@ -48,7 +48,7 @@ four c = search length-mapped
 
 -- is that of the world
 same-sandbox : (c : tie.Start) → c .args .q .sandbox < 4 → sandboxIn c ≡ getD (c .args .machine .sandboxes) (c .args .q .sandbox) closedSandbox
-same-sandbox c row = let l = four c in getD-any (c .args .machine .sandboxes) (c .args .q .sandbox) zeroSandbox closedSandbox (omega arith)
+same-sandbox c row = read-own (c .args .machine .sandboxes) (c .args .q .sandbox) (four c) row
 
 -- ---- what is known behind each test
 
@@ -209,7 +209,7 @@ perform-requires c κs =
     let row = in-row inside in
     let n = accepted-here start row (all .result) (all .ensures .0) (d .result) (d .ensures) (c .before .before .enum-told .given .1) in (
       asked (imageIn start) (worldIn start) (start .args .q) (is-sound (inside .before .before)) row n,
-      (refl, areas-here start row (all .result) (all .ensures .0) (d .result) (d .ensures) n),
+      areas-here start row (all .result) (all .ensures .0) (d .result) (d .ensures) n,
     )
 
 same-length-5 : tie.Need-same-length-5
