@@ -1,3 +1,4 @@
 pub mod PartLaws
+pub mod ClearLaws
 pub mod ListedLaws
 pub mod Examples

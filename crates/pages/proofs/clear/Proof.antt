@@ -1,23 +1,20 @@
 -- The bytes before i are zero, the others as they were.
-use mathlib.Core.Path.{_≡_, refl, ap, _∙_}
-use mathlib.Core.List.{List, _++_}
-use Prim.Native.Nat.{ℕ, _≤_, _-_}
+use Prim.Native.Nat.{_-_}
 use native.Mathlib.Omega.{arith}
 use borrow.Author.Needs.{needs}
-use borrow.Author.Fill.{fill-more}
-use lib.ListN.{length, set, drop, replicate, length-set}
-use Rattle.pages.proofs.PartLaws.{fill-done}
+use lib.ListN.{length}
+use Rattle.pages.proofs.ClearLaws.{Cleared, cleared-first, cleared-next, cleared-last}
 use Rattle.pages.proofs.clear.Statement.{statement}
 use Rattle.pages.proofs.clear.Tie as tie
 
 abbrev Inv-loop : tie.InvT-loop
-Inv-loop part₀ i₀ i-end part i = (i ≤ length part₀) × (length part ≡ length part₀) × (part ≡ replicate i 0 ++ drop i part₀)
+Inv-loop part₀ i₀ i-end part i = Cleared part₀ part i
 
 abbrev μ-loop : tie.MeasureT-loop
 μ-loop part₀ i₀ i-end part i = length part₀ - i
 
 loop-holds : tie.Need-loop-holds Inv-loop μ-loop
-loop-holds c = (search needs, refl, refl)
+loop-holds c = cleared-first _
 
 slice-write-part : tie.Need-slice-write-part Inv-loop μ-loop
 slice-write-part c = search needs
@@ -29,22 +26,13 @@ loop-less : tie.Need-loop-less Inv-loop μ-loop
 loop-less c = search needs
 
 loop-again : tie.Need-loop-again Inv-loop μ-loop
-loop-again c =
-    let at = c .before in
-    let inv = at .loop .inv in (
-      omega arith,
-      simp length-set (inv .1),
-      ap (λ (d : List ℕ). set d (at .loop .i) 0) (inv .2)
-          ∙ fill-more (at .loop .i) 0 (at .before .args .part .now) (omega arith),
-    )
+loop-again c = cleared-next _ _ (c .before .loop .i) (c .before .loop .inv) (omega arith)
 
 same-length : tie.Need-same-length Inv-loop μ-loop
 same-length c = search needs
 
 returns : tie.Need-returns Inv-loop μ-loop
-returns c =
-    let at = c .before in
-    at .loop .inv .2 ∙ fill-done (at .loop .i) (at .before .args .part .now) (omega arith)
+returns c = cleared-last _ _ (c .before .loop .i) (c .before .loop .inv) (omega arith)
 
 pub clear-spec : {M : Type 1} → statement M
 clear-spec =
