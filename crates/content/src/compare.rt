@@ -28,7 +28,7 @@ pub struct Difference;
 
 impl Difference {
     // "and 64 if they nowhere differ"
-    pub const NOWHERE: u8 = 64;
+    pub const NOWHERE: u8 = Areas::PAGES;
 }
 
 // Page by page, up to the first page that differs. Where every area stands in the snapshot as it is, a page without a front is not even looked up.

@@ -29,8 +29,7 @@ pub fn store_after(
 ) -> Left
     requires { ⌜ Asked (now image) q (worldOf machine (now pool) (now table)) ⌝ }
     ensures { λ r. ⌜ (let before = worldOf machine (now (pool .entry)) (now (table .entry)) in
-        let after = kept (r .held) (now (pool .exit)) (now (table .exit)) in
-        StoreStepped (now (image .entry)) q before after (r .runs)) ⌝ }
+        StoreStepped (now (image .entry)) q before (kept (r .held) (now (pool .exit)) (now (table .exit))) (r .runs)) ⌝ }
 {
     let code = q.code;
     let s = q.sandbox as u8;
@@ -77,8 +76,7 @@ fn write(machine: Machine, pool: &mut [u8], table: &mut [u16], image: &[u8], q: 
     requires { ⌜ q .code ≡ Write ⌝ }
     requires { ⌜ Asked (now image) q (worldOf machine (now pool) (now table)) ⌝ }
     ensures { λ r. ⌜ (let before = worldOf machine (now (pool .entry)) (now (table .entry)) in
-        let after = kept (r .held) (now (pool .exit)) (now (table .exit)) in
-        StoreStepped (now (image .entry)) q before after (r .runs)) ⌝ }
+        StoreStepped (now (image .entry)) q before (kept (r .held) (now (pool .exit)) (now (table .exit))) (r .runs)) ⌝ }
 {
     let left = touch(machine, pool, table, image, q);
     let s = q.sandbox as u8;
@@ -99,8 +97,7 @@ fn touch(machine: Machine, pool: &mut [u8], table: &mut [u16], image: &[u8], q: 
     requires { ⌜ q .code ≡ Write ⌝ }
     requires { ⌜ Asked (now image) q (worldOf machine (now pool) (now table)) ⌝ }
     ensures { λ r. ⌜ (let before = worldOf machine (now (pool .entry)) (now (table .entry)) in
-        let after = kept (r .held) (now (pool .exit)) (now (table .exit)) in
-        TouchStepped (now (image .entry)) q before after (r .runs)) ⌝ }
+        TouchStepped (now (image .entry)) q before (kept (r .held) (now (pool .exit)) (now (table .exit))) (r .runs)) ⌝ }
 {
     let s = q.sandbox as u8;
     let number = PageNo((q.p1 / PageNo::BYTES as u16) as u8);

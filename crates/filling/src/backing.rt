@@ -12,7 +12,8 @@ use pages::Page;
 pub(crate) fn fill_frame(pool: &mut [u8], f: FrameNo, image: &[u8], backing: Backing)
     requires { ⌜ f .0 * 256 + 256 ≤ length (now pool) ⌝ }
     requires { ⌜ backingEnd backing * 256 ≤ length (now image) ⌝ }
-    ensures { λ r. ⌜ now (pool .exit) ≡ setFrame 256 (now (pool .entry)) (f .0) (backingPage (now (image .entry)) backing) ⌝ }
+    ensures { λ r. ⌜ (let bytes = backingPage (now (image .entry)) backing in
+        now (pool .exit) ≡ setFrame 256 (now (pool .entry)) (f .0) bytes) ⌝ }
 {
     match backing {
         Backing::Anonymous => pool::clear_frame(pool, f),

@@ -74,8 +74,8 @@ pub fn restore_page(
     image: &[u8],
     page: VirtualPage,
 ) -> Held
-    requires { ⌜ Placed (now image) page ⌝ }
     requires { ⌜ Ranged 256 (now pool) (now table) ⌝ }
+    requires { ⌜ Placed (now image) page ⌝ }
     ensures { λ r. ⌜ (let before = kept held (now (pool .entry)) (now (table .entry)) in
         kept r (now (pool .exit)) (now (table .exit))
         ≡ rewindPage 256 (frontAt page) (backAt page) (isCommitted (page .slot))

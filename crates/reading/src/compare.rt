@@ -24,7 +24,8 @@ pub fn same_pages(
     requires { ⌜ other ≤ 128 ⌝ }
     requires { ⌜ other * 256 ≤ length (now pool) ⌝ }
     requires { ⌜ backingEnd twin * 256 ≤ length (now image) ⌝ }
-    ensures { λ r. ⌜ r ≡ sameBytes 256 (pageFrom (backingPage (now (image .entry)) backing) (pageIn 256 (now (pool .entry)) entry))
+    ensures { λ r. ⌜ r ≡ sameBytes 256
+        (pageFrom (backingPage (now (image .entry)) backing) (pageIn 256 (now (pool .entry)) entry))
         (pageFrom (backingPage (now (image .entry)) twin) (pageIn 256 (now (pool .entry)) other)) ⌝ }
 {
     if entry != 0 {
@@ -51,7 +52,8 @@ fn has_page(part: &[u8], pool: &[u8], image: &[u8], entry: u16, backing: Backing
     requires { ⌜ entry ≤ 128 ⌝ }
     requires { ⌜ entry * 256 ≤ length (now pool) ⌝ }
     requires { ⌜ backingEnd backing * 256 ≤ length (now image) ⌝ }
-    ensures { λ r. ⌜ r ≡ sameBytes 256 (now (part .entry)) (pageFrom (backingPage (now (image .entry)) backing) (pageIn 256 (now (pool .entry)) entry)) ⌝ }
+    ensures { λ r. ⌜ r ≡ sameBytes 256 (now (part .entry))
+        (pageFrom (backingPage (now (image .entry)) backing) (pageIn 256 (now (pool .entry)) entry)) ⌝ }
 {
     if entry != 0 {
         let start = frame_of(entry).0 as usize * Page::SIZE;

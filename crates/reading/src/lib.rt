@@ -5,3 +5,6 @@
 mod backing;
 pub mod compare;
 pub mod store;
+
+pub use compare::same_pages;
+pub use store::read_byte;

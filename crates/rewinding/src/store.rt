@@ -51,7 +51,8 @@ fn page_of(table: &[u16], present: Areas, s: u8, number: PageNo) -> VirtualPage
     requires { ⌜ length (now table) ≡ 512 ⌝ }
     requires { ⌜ Near (present .list) ⌝ }
     ensures { λ r. ⌜ (let front = getD (now (table .entry)) (frontOf s (number .0)) 0 in
-        r ≡ record { sandbox = s; number = number; slot = Slot.Unmapped when eqb front 0 else slots present (number .0) }) ⌝ }
+        let slot = Slot.Unmapped when eqb front 0 else slots present (number .0) in
+        r ≡ record { sandbox = s; number = number; slot = slot }) ⌝ }
 {
     let front = table::entry::front(table, s, number);
     if front == 0 {

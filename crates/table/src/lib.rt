@@ -7,3 +7,11 @@
 // `interface` for the number of a page.
 pub mod entry;
 pub mod page;
+
+pub use entry::back;
+pub use entry::back_if;
+pub use entry::frame_of;
+pub use entry::front;
+pub use entry::front_index;
+pub use entry::move_fronts;
+pub use page::VirtualPage;

@@ -1,3 +1,4 @@
+-- Each test settles the comparison, up to the last, which compares bytes.
 use mathlib.Core.Path.{_≡_, sym, ap, _∙_}
 use mathlib.Core.Bool.{Bool, true, not}
 use borrow.Author.Tests.{not-true, not-false}

@@ -66,7 +66,7 @@ back-requires c κs = search needs
 frame-of-requires : tie.Need-frame-of-requires
 frame-of-requires c κs =
     let s = behind (c .before) in
-    (omega arith, omega (arith, tested (backed (c .before) .before) .front .ensures, s .pre .1 .few (frontAt (s .args .page))))
+    (omega arith, omega (arith, tested (backed (c .before) .before) .front .ensures, s .pre .0 .few (frontAt (s .args .page))))
 
 backing-at-requires : tie.Need-backing-at-requires
 backing-at-requires c κs = search needs
@@ -76,12 +76,12 @@ fill-frame-requires c κs =
     let back = c .before .before .before in
     let front = tested (backed back .before) in
     let s = behind back in
-    let ranged = s .pre .1 in
+    let ranged = s .pre .0 in
     let page = s .args .page in (
       omega (arith, c .before .frame-of .ensures, front .front .ensures, ranged .room (frontAt page)),
       (
         omega (arith, back .back .ensures, ranged .few (backAt page)),
-        (omega (arith, back .back .ensures, ranged .room (backAt page)), rw (c .backing-at .ensures) (s .pre .0 .backed)),
+        (omega (arith, back .back .ensures, ranged .room (backAt page)), rw (c .backing-at .ensures) (s .pre .1 .backed)),
       ),
     )
 

@@ -1,3 +1,4 @@
+-- A byte of an anonymous backing is zero; any other is read in the part of the image that is its page.
 use mathlib.Core.Path.{ap}
 use native.Mathlib.Omega.{arith}
 use borrow.Author.Needs.{needs}
@@ -5,6 +6,13 @@ use Rattle.pages.proofs.PartLaws.{part-is-frame, getD-zeros}
 use Rattle.table.specs.Backing.{backingEnd}
 use Rattle.reading.proofs.backing.read_byte.Statement.{statement}
 use Rattle.reading.proofs.backing.read_byte.Tie as tie
+
+-- behind the page of the image
+abbrev paged : tie.After-read → tie.After-backing
+paged c = c .before .before .before .before
+
+abbrev behind : tie.After-backing → tie.Start
+behind c = c .before .before .before
 
 enum-told : tie.Need-enum-told
 enum-told c = search needs
@@ -38,9 +46,8 @@ returns c = rw (c .enum-told .given .1, getD-zeros)
 
 returns-2 : tie.Need-returns-2
 returns-2 c =
-    let start = c .before .before .before .before .before .before .before in
-    let known = c .before .before .before .before .backing .given in
-    rw (known .1, ← part-is-frame 256 (start .args .image .now) (known .0 .0 .0)) (c .read .ensures)
+    let known = paged c .backing .given in
+    rw (known .1, ← part-is-frame 256 (behind (paged c) .args .image .now) (known .0 .0 .0)) (c .read .ensures)
 
 pub read-byte-spec : {M : Type 1} → statement M
 read-byte-spec =

@@ -82,9 +82,9 @@ restore-page-requires c κs =
     let turn = turning page in
     let s = behind turn in
     let i = turn .before .loop .i in (
+      turn .before .loop .inv .3,
       placed (s .args .image .now) (found turn) (s .args .s) _ (slots (s .args .b .present) i) (page .page-of .result) (page .page-of .ensures) (s .pre .0)
           (turn .loop-test .taken) (there s i),
-      turn .before .loop .inv .3,
     )
 
 add-i : tie.Need-add-i Inv-loop μ-loop
