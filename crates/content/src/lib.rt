@@ -6,4 +6,3 @@ pub mod compare;
 pub mod read;
 
 pub use compare::lowest_difference;
-pub use read::read;
