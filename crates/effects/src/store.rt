@@ -1,9 +1,13 @@
 // What an accepted request makes of the lent memory.
 ghost use mathlib.Core.Path.{_≡_};
-ghost use Rattle.interface.specs.Requests.{Write};
-ghost use Rattle.table.specs.Store.{kept};
-ghost use Rattle.state.specs.World.{worldOf};
-ghost use Rattle.memory.specs.Parts.{Asked, StoreStepped, TouchStepped};
+ghost use Prim.Native.Nat.{_<_};
+ghost use lib.ListN.{length};
+ghost use Rattle.interface.specs.Requests.{Map, Write};
+ghost use Rattle.table.specs.Store.{kept, Ranged};
+ghost use Rattle.state.specs.World.{worldOf, pagesIn};
+ghost use Rattle.rules.specs.Ready.{Fit, Ready};
+ghost use Rattle.memory.specs.Parts.{Asked, LeftBy, StoreStepped, TouchStepped};
+use frames::Held;
 use freeing::store::free_range;
 use gathering::gathered;
 use interface::page::PageNo;
@@ -15,6 +19,7 @@ use reuse::map;
 use reuse::unheld_frame;
 use rewinding::store::rewind;
 use state::sandbox::Machine;
+use state::sandbox::Sandbox;
 use table::entry::move_fronts;
 use table::page::VirtualPage;
 use totals::kept_marks;
@@ -32,15 +37,39 @@ pub fn store_after(
         StoreStepped (now (image .entry)) q before (kept (r .held) (now (pool .exit)) (now (table .exit))) (r .runs)) ⌝ }
 {
     let code = q.code;
-    let s = q.sandbox as u8;
     let k = q.sandbox as usize;
     let held = machine.held;
     let sandboxes = machine.sandboxes;
     let b = sandboxes[k];
-    let runs = b.runs;
-    let present = b.present;
     match code {
         Request::MAP => map(held, table, b, q),
+        Request::WRITE => write(machine, pool, table, image, q),
+        _ => without_frames(held, pool, table, image, b, q),
+    }
+}
+
+// The store and the runs after a request that takes no frame: any but a map and a write.
+fn without_frames(
+    held: Held,
+    pool: &mut [u8],
+    table: &mut [u16],
+    image: &[u8],
+    b: Sandbox,
+    q: Request,
+) -> Left
+    requires { ⌜ (q .code ≡ Map → ⊥) ⌝ }
+    requires { ⌜ (q .code ≡ Write → ⊥) ⌝ }
+    requires { ⌜ q .sandbox < 4 ⌝ }
+    requires { ⌜ Fit q ⌝ }
+    requires { ⌜ Ready (pagesIn (length (now image))) b ⌝ }
+    requires { ⌜ Ranged 256 (now pool) (now table) ⌝ }
+    ensures { λ r. ⌜ (let before = kept held (now (pool .entry)) (now (table .entry)) in
+        LeftBy (now (image .entry)) q b before (kept (r .held) (now (pool .exit)) (now (table .exit))) (r .runs)) ⌝ }
+{
+    let code = q.code;
+    let s = q.sandbox as u8;
+    let runs = b.runs;
+    match code {
         3 => {
             let h = free_range(held, pool, table, s, PageNo(q.p1 as u8), q.p2 as u8);
             Left {
@@ -48,7 +77,6 @@ pub fn store_after(
                 runs: runs,
             }
         }
-        Request::WRITE => write(machine, pool, table, image, q),
         Request::SNAPSHOT => {
             move_fronts(table, s);
             Left {
@@ -57,6 +85,7 @@ pub fn store_after(
             }
         }
         8 => {
+            let present = b.present;
             let left = gathered(table, present, runs, s);
             let h = rewind(held, pool, table, image, b, s);
             Left {

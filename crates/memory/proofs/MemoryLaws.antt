@@ -34,7 +34,7 @@ use Rattle.content.proofs.ReadingLaws.{backing-there}
 use Rattle.reuse.specs.declared.Given.{Given}
 use Rattle.reuse.specs.Reuse.{mapRuns, mapAdopts, GaveUp}
 use Rattle.memory.specs.Memory.{givesAt, runsAfter, touched, keepsFront, storeAfter}
-use Rattle.memory.specs.Parts.{ownSandbox, ownFront, Asked, WithFrames, StoreStepped, TouchStepped}
+use Rattle.memory.specs.Parts.{ownSandbox, ownFront, Asked, WithFrames, LeftBy, StoreStepped, TouchStepped}
 use Rattle.memory.proofs.SpareLaws.{gives, gives-is, takes-of, takes-free, adopts}
 
 -- the sandbox as the code reads it is that of the world: the default of an array read is another, but no read is past the row
@@ -128,47 +128,46 @@ module _ (image : List ℕ) (q : Request) (w : World) where
       (λ f g mid-is. (a ∙ ap (storeByte 256 (frontOf (q .sandbox) (pageOf q)) (offsetOf q) (q .p2)) (mid-is .0) ∙ rw e, mid-is .1)) t
 
   -- the calls that take no frame and give none up
-  pub stepped-none : (after : Store) (left : Runs) → (q is Write) ≡ false → after ≡ storeAfter image 0 q its (w .store) → left ≡ runsAfter 0 q its (w .store)
-      → StoreStepped image q w after left
+  pub stepped-none : (after : Store) (left : Runs) → (q is Write) ≡ false → LeftBy image q its (w .store) after left → StoreStepped image q w after left
   unfolding givesAt
-  stepped-none after left n a r = record {
+  stepped-none after left n so = record {
     frame = 0;
     given = 0;
     gave = λ h. absurd (false≢true (sym n ∙ and-left (q is Write) _ h));
     takes = λ h. absurd (false≢true (sym n ∙ and-left (q is Write) _ h));
-    so = (a, r);
+    so = so;
   }
 
   pub mapped : Asked image q w → (after : Store) (left : Runs) → q .code ≡ Map
       → after ≡ mapAdopts q its (w .store) → left ≡ mapRuns q its → StoreStepped image q w after left
   unfolding storeAfter runsAfter givesAt mapAdopts mapRuns
   mapped A after left e a r =
-      stepped-none after left (rw e)
-      (by-cases (takesRun q)
-      (λ t. a ∙ rw t (adopts image q w A e))
-      (λ t. a ∙ rw (t, e)))
-      (by-cases (takesRun q) (λ t. r ∙ rw t) (λ t. r ∙ rw (t, e)))
+      stepped-none after left (rw e) (
+        by-cases (takesRun q)
+            (λ t. a ∙ rw t (adopts image q w A e))
+            (λ t. a ∙ rw (t, e)),
+        by-cases (takesRun q) (λ t. r ∙ rw t) (λ t. r ∙ rw (t, e)),
+      )
 
-  pub unmapped : (after : Store) → q .code ≡ Unmap → after ≡ freeTo 256 (frontOf (q .sandbox) (q .p1)) (w .store) (q .p2)
-      → StoreStepped image q w after (its .runs)
+module _ (image : List ℕ) (q : Request) (b : Sandbox) (st : Store) where
+  pub unmapped : (after : Store) → q .code ≡ Unmap → after ≡ freeTo 256 (frontOf (q .sandbox) (q .p1)) st (q .p2) → LeftBy image q b st after (b .runs)
   unfolding storeAfter runsAfter givesAt
-  unmapped after e a = stepped-none after (its .runs) (rw e) (a ∙ rw e) (rw e)
+  unmapped after e a = (a ∙ rw e, rw e)
 
-  pub copied : (after : Store) → q .code ≡ Snapshot → after ≡ moveTo (q .sandbox * 128) (w .store) 64 → StoreStepped image q w after (its .runs)
+  pub copied : (after : Store) → q .code ≡ Snapshot → after ≡ moveTo (q .sandbox * 128) st 64 → LeftBy image q b st after (b .runs)
   unfolding storeAfter runsAfter givesAt
-  copied after e a = stepped-none after (its .runs) (rw e) (a ∙ rw e) (rw e)
+  copied after e a = (a ∙ rw e, rw e)
 
-  pub rewound : (after : Store) (left : Runs) → q .code ≡ Rewind
-      → after ≡ rewindTo 256 (q .sandbox * 128) (keepsFront its) (copyPage image its) (w .store) 64
-      → left ≡ tabled (rowRewound (w .store) (q .sandbox) (slots (its .present)) (row (its .runs))) → StoreStepped image q w after left
+  pub rewound : (after : Store) (left : Runs) → q .code ≡ Rewind → after ≡ rewindTo 256 (q .sandbox * 128) (keepsFront b) (copyPage image b) st 64
+      → left ≡ tabled (rowRewound st (q .sandbox) (slots (b .present)) (row (b .runs))) → LeftBy image q b st after left
   unfolding storeAfter runsAfter givesAt
-  rewound after left e a r = stepped-none after left (rw e) (a ∙ rw e) (r ∙ rw e)
+  rewound after left e a r = (a ∙ rw e, r ∙ rw e)
 
   pub left-alone : (q .code ≡ Map → ⊥) → (q .code ≡ Unmap → ⊥) → (q .code ≡ Write → ⊥) → (q .code ≡ Snapshot → ⊥) → (q .code ≡ Rewind → ⊥)
-      → StoreStepped image q w (w .store) (its .runs)
+      → LeftBy image q b st st (b .runs)
   unfolding storeAfter runsAfter givesAt
   left-alone m u x s r =
-      let none = ne-eqb (q .code) Map m in
-      stepped-none (w .store) (its .runs) (ne-eqb (q .code) Write x)
-      (rw (none, ne-eqb (q .code) Unmap u, ne-eqb (q .code) Write x, ne-eqb (q .code) Snapshot s, ne-eqb (q .code) Rewind r))
-      (rw (none, ne-eqb (q .code) Write x, ne-eqb (q .code) Rewind r))
+      let none = ne-eqb (q .code) Map m in (
+        rw (none, ne-eqb (q .code) Unmap u, ne-eqb (q .code) Write x, ne-eqb (q .code) Snapshot s, ne-eqb (q .code) Rewind r),
+        rw (none, ne-eqb (q .code) Write x, ne-eqb (q .code) Rewind r),
+      )

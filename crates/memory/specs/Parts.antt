@@ -61,6 +61,10 @@ pub record WithFrames (q : Request) (w : World) (So : ℕ → ℕ → Type 0) : 
   pub takes : (q is Write && eqb (ownFront q (w .store)) 0) ≡ true → Takes q w frame given
   pub so : So frame given
 
+-- the store and the runs after a request that takes no frame and gives none up
+abbrev pub LeftBy : List ℕ → Request → Sandbox → Store → Store → Runs → Type 0
+LeftBy image q b st after left = (after ≡ storeAfter image 0 q b st) × (left ≡ runsAfter 0 q b st)
+
 -- the store and the runs after an accepted request
 abbrev pub StoreStepped : List ℕ → Request → World → Store → Runs → Type 0
 StoreStepped image q w after left = WithFrames q w (λ frame given.
