@@ -33,8 +33,8 @@ pub fn store_after(
     q: Request,
 ) -> Left
     requires { ⌜ Asked (now image) q (worldOf machine (now pool) (now table)) ⌝ }
-    ensures { λ r. ⌜ (let before = worldOf machine (now (pool .entry)) (now (table .entry)) in
-        StoreStepped (now (image .entry)) q before (kept (r .held) (now (pool .exit)) (now (table .exit))) (r .runs)) ⌝ }
+    ensures { λ r. ⌜ (let w = worldOf machine (now (pool .entry)) (now (table .entry)) in
+        StoreStepped (now (image .entry)) q w (kept (r .held) (now (pool .exit)) (now (table .exit))) (r .runs)) ⌝ }
 {
     let code = q.code;
     let k = q.sandbox as usize;
@@ -104,8 +104,8 @@ fn without_frames(
 fn write(machine: Machine, pool: &mut [u8], table: &mut [u16], image: &[u8], q: Request) -> Left
     requires { ⌜ q .code ≡ Write ⌝ }
     requires { ⌜ Asked (now image) q (worldOf machine (now pool) (now table)) ⌝ }
-    ensures { λ r. ⌜ (let before = worldOf machine (now (pool .entry)) (now (table .entry)) in
-        StoreStepped (now (image .entry)) q before (kept (r .held) (now (pool .exit)) (now (table .exit))) (r .runs)) ⌝ }
+    ensures { λ r. ⌜ (let w = worldOf machine (now (pool .entry)) (now (table .entry)) in
+        StoreStepped (now (image .entry)) q w (kept (r .held) (now (pool .exit)) (now (table .exit))) (r .runs)) ⌝ }
 {
     let left = touch(machine, pool, table, image, q);
     let s = q.sandbox as u8;
@@ -125,8 +125,8 @@ fn write(machine: Machine, pool: &mut [u8], table: &mut [u16], image: &[u8], q: 
 fn touch(machine: Machine, pool: &mut [u8], table: &mut [u16], image: &[u8], q: Request) -> Left
     requires { ⌜ q .code ≡ Write ⌝ }
     requires { ⌜ Asked (now image) q (worldOf machine (now pool) (now table)) ⌝ }
-    ensures { λ r. ⌜ (let before = worldOf machine (now (pool .entry)) (now (table .entry)) in
-        TouchStepped (now (image .entry)) q before (kept (r .held) (now (pool .exit)) (now (table .exit))) (r .runs)) ⌝ }
+    ensures { λ r. ⌜ (let w = worldOf machine (now (pool .entry)) (now (table .entry)) in
+        TouchStepped (now (image .entry)) q w (kept (r .held) (now (pool .exit)) (now (table .exit))) (r .runs)) ⌝ }
 {
     let s = q.sandbox as u8;
     let number = PageNo((q.p1 / PageNo::BYTES as u16) as u8);

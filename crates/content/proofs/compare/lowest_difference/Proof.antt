@@ -148,6 +148,11 @@ agreed c =
     v)
     (c .if1 .came)
 
+-- where it does not, the loop stops there
+stops : (turn : tie.In-loop Inv-loop μ-loop) → not (ofIn (behind turn) (pageIn turn)) ≡ true
+    → pageIn turn ≡ lowest (λ k. not (ofIn (behind turn) k)) 0 64
+stops turn h = sym (turn .before .loop .inv .1 ∙ lowest-stop (λ k. not (ofIn (behind turn) k)) 64 (pageIn turn) (turn .loop-test .taken) h)
+
 -- ---- the needs
 
 are-unchanged-requires : tie.Need-are-unchanged-requires Inv-loop μ-loop
@@ -181,11 +186,7 @@ agrees-requires c κs =
 
 returns : tie.Need-returns Inv-loop μ-loop
 unfolding differing lowestDifference pageRead pageUnder copyRead contents
-returns c = λ h.
-    let turn = turnOf (foundSame (c .before)) in
-    let s = behind turn in
-    sym (turn .before .loop .inv .1
-    ∙ lowest-stop (λ k. not (ofIn s k)) 64 (pageIn turn) (turn .loop-test .taken) (ap not (sym (compared-itself (c .before))) ∙ c .if3 .taken))
+returns c = λ h. stops (turnOf (foundSame (c .before))) (ap not (sym (compared-itself (c .before))) ∙ c .if3 .taken)
 
 slot-requires-2 : tie.Need-slot-requires-2 Inv-loop μ-loop
 slot-requires-2 c κs =
@@ -208,11 +209,7 @@ agrees-requires-2 c κs =
 
 returns-2 : tie.Need-returns-2 Inv-loop μ-loop
 unfolding differing lowestDifference pageRead pageUnder copyRead contents
-returns-2 c = λ h.
-    let turn = turnOf (foundOther (c .before)) in
-    let s = behind turn in
-    sym (turn .before .loop .inv .1
-    ∙ lowest-stop (λ k. not (ofIn s k)) 64 (pageIn turn) (turn .loop-test .taken) (ap not (sym (compared (c .before))) ∙ c .if4 .taken))
+returns-2 c = λ h. stops (turnOf (foundOther (c .before))) (ap not (sym (compared (c .before))) ∙ c .if4 .taken)
 
 add-i : tie.Need-add-i Inv-loop μ-loop
 add-i c = omega arith
