@@ -30,8 +30,9 @@ returns c =
     let free = sought (c .before) in
     let both = free .before .both in
     let s = free .before .before in
-    let g = greatest-found (held (both .result)) (s .args .frames) (c .before .found .given .0 .0) (sym (free .greatest-free .ensures) ∙ c .before .found .given .1) in
-    let f = c .before .found .given .0 .0 .0 in
+    let found = c .before .found .given in
+    let f = found .0 .0 .0 in
+    let g = greatest-found (held (both .result)) (s .args .frames) (found .0 .0) (sym (free .greatest-free .ensures) ∙ found .1) in
     let two =
     both-free (s .args .named) (s .args .kept) f (omega (arith, g .within, s .pre .0)) (ap (λ (h : Held). held h f) (sym (both .ensures)) ∙ g .free) in
     (g .within, (two .0, two .1))
