@@ -21,7 +21,7 @@ use Rattle.soundness.specs.Test.{soundb}
 use Rattle.soundness.proofs.TestLaws.{tested}
 use Rattle.plain.specs.Machine.{Pages}
 use Rattle.content.specs.Content.{copyRead}
-use Rattle.content.proofs.ReadingLaws.{source-there}
+use Rattle.content.proofs.ReadingLaws.{backing-there}
 use Rattle.archive.specs.Archive.{joined, only, opening, maps, differs, writeAt, writes, protects, closing, archive}
 use Rattle.replay.specs.Snapshot.{snapshotOf, archiveOf}
 use Rattle.segments.specs.declared.Snapshot.{Snapshot}
@@ -118,7 +118,7 @@ module _ (image : List ℕ) (w : World) (s : ℕ) where
           row = omega arith;
           near = near (pagesIn (length image)) (b .snapshot) well (t .images);
           ranged = filed-ranged 256 (framesOf w) (w .store) (t .filed);
-          backed = source-there image (pagesIn (length image)) (b .snapshot) well (t .whole);
+          backed = backing-there image (b .snapshot) well;
         }
 
     pub roll-here : rollOf image (w .store .pool) (w .store .table) handedOn ≡ archiveOf image w s

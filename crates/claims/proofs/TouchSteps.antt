@@ -34,7 +34,8 @@ use Rattle.areas.specs.Areas.{slots}
 use Rattle.areas.specs.Formed.{WellFormed}
 use Rattle.state.specs.declared.sandbox.Sandbox.{Sandbox}
 use Rattle.state.specs.World.{pagesIn}
-use Rattle.content.specs.Content.{backingPage, pageUnder, pageRead, copyPage}
+use Rattle.table.specs.Backing.{backingPage}
+use Rattle.content.specs.Content.{pageUnder, pageRead, copyPage}
 use Rattle.memory.specs.Memory.{framesFor, touched, keepsFront, storeAfter}
 use Rattle.simulation.proofs.AreaSteps.{image-at}
 use Rattle.simulation.proofs.ReadSteps.{backing-whole}

@@ -14,7 +14,7 @@ use Rattle.interface.specs.Slots.{isMapped, isCommitted, rightsAt, backingAt}
 use Rattle.interface.specs.Compare.{agree}
 use Rattle.pages.specs.Parts.{sameBytes}
 use Rattle.table.specs.Store.{pageIn, pageFrom, underFront}
-use Rattle.content.specs.Content.{backingPage}
+use Rattle.table.specs.Backing.{backingPage}
 
 -- ---- in being mapped and in rights
 
@@ -73,3 +73,11 @@ module _ (image pool : List ℕ) (p c : Slot) (front back : ℕ) where
           ≡ pageFrom (underFront (isCommitted p) (backingPage image (backingAt p)) (pageIn 256 pool back)) (pageIn 256 pool f)
       go zero e = by-cases (isCommitted p) (λ t. absurd (false≢true (sym (rw t at e)))) (λ t. rw t)
       go (suc f) e = refl
+
+-- the comparison of two pages by what stands there and by their entries
+abbrev pub agreeBy : List ℕ → List ℕ → Slot → Slot → ℕ → ℕ → Bool
+agreeBy image pool p c front back = agree p c (sameBytes 256 (readsNow image pool p c front back) (readsCopied image pool p c front back))
+
+-- is the same of what is the same
+pub agree-as : (image pool : List ℕ) (p q c d : Slot) (f g b k : ℕ) → p ≡ q → c ≡ d → f ≡ g → b ≡ k → agreeBy image pool p c f b ≡ agreeBy image pool q d g k
+agree-as image pool p q c d f g b k same-p same-c same-f same-b = rw (same-p, same-c, same-f, same-b)

@@ -1,41 +1,40 @@
--- What a page reads, from what the code finds of it.
+-- The image page of a page's backing is there, and a page read by its slot is the page of the sandbox.
 use Prim.Native.Nat.{ℕ, _*_, _≤_}
-use mathlib.Core.Path.{_≡_, _∙_}
-use mathlib.Core.Bool.{Bool}
+use mathlib.Core.Path.{_≡_}
 use mathlib.Core.List.{List}
 use native.Mathlib.Omega.{arith}
-use lib.ListN.{length, getD}
+use lib.ListN.{length}
 use Rattle.interface.specs.declared.page.Backing.{Backing}
 use Rattle.interface.specs.declared.page.Backing.the-variants.{Anonymous, Image}
-use Rattle.interface.specs.declared.request.Request.{Request}
-use Rattle.interface.specs.Requests.{pageOf, offsetOf}
-use Rattle.interface.specs.Slots.{isCommitted, backingAt}
-use Rattle.table.specs.declared.source.Source.{Source}
-use Rattle.table.specs.Store.{Store, frontOf, backOf, contents, pageFrom, underFront}
-use Rattle.table.specs.Source.{sourceBytes, sourceEnd}
+use Rattle.interface.specs.declared.page.Slot.{Slot}
+use Rattle.interface.specs.declared.page.PageNo.{PageNo}
+use Rattle.interface.specs.Slots.{backingAt}
+use Rattle.table.specs.Store.{Store}
+use Rattle.table.specs.Backing.{backingEnd}
+use Rattle.table.specs.Virtual.{bytesUnder, bytesRead}
 use Rattle.areas.specs.declared.area.Areas.{Areas}
 use Rattle.areas.specs.Areas.{slots}
 use Rattle.areas.specs.Formed.{WellFormed, ImagesExist}
 use Rattle.state.specs.declared.sandbox.Sandbox.{Sandbox}
+use Rattle.state.specs.World.{pagesIn}
 use Rattle.state.proofs.NearLaws.{image-exists}
-use Rattle.content.specs.Content.{sourceOf, pageUnder, pageRead}
+use Rattle.content.specs.Content.{pageUnder, pageRead}
 
 -- the image page of a page's backing is there
-pub source-there : (image : List ℕ) (images : ℕ) (a : Areas) → WellFormed images a → length image ≡ images * 256 → (i : ℕ)
-    → sourceEnd (sourceOf (backingAt (slots a i))) * 256 ≤ length image
-source-there image images a f w i = go (backingAt (slots a i)) (image-exists images a f i)
+pub backing-there : (image : List ℕ) (a : Areas) → WellFormed (pagesIn (length image)) a → (i : ℕ)
+    → backingEnd (backingAt (slots a i)) * 256 ≤ length image
+backing-there image a f i = go (backingAt (slots a i)) (image-exists (pagesIn (length image)) a f i)
   where
-    go : (b : Backing) → ImagesExist images b 1 → sourceEnd (sourceOf b) * 256 ≤ length image
+    go : (b : Backing) → ImagesExist (pagesIn (length image)) b 1 → backingEnd b * 256 ≤ length image
     go Anonymous e = omega arith
     go (Image p) e = omega arith
 
--- one byte
-module _ (image : List ℕ) (q : Request) (b : Sandbox) (st : Store) where
-  pub read-is : (committed : Bool) (source : Source) (value : ℕ)
-      → committed ≡ isCommitted (slots (b .present) (pageOf q)) → source ≡ sourceOf (backingAt (slots (b .present) (pageOf q)))
-      → let back = contents 256 st (backOf (q .sandbox) (pageOf q)) in
-      let front = contents 256 st (frontOf (q .sandbox) (pageOf q)) in
-      value ≡ getD (pageFrom (underFront committed (sourceBytes image source) back) front) (offsetOf q) 0
-      → value ≡ getD (pageRead image st b (q .sandbox) (pageOf q)) (offsetOf q) 0
+-- what a page reads, by what stands there
+module _ (image : List ℕ) (st : Store) (b : Sandbox) (s : ℕ) (number : PageNo) (slot : Slot) (is : slot ≡ slots (b .present) (number .0)) where
+  pub under-is : bytesUnder image st (record { sandbox = s; number = number; slot = slot }) ≡ pageUnder image st b s (number .0)
+  unfolding pageUnder
+  under-is = rw is
+
+  pub read-is : bytesRead image st (record { sandbox = s; number = number; slot = slot }) ≡ pageRead image st b s (number .0)
   unfolding pageRead pageUnder
-  read-is committed source value c s v = v ∙ rw (c, s)
+  read-is = rw is

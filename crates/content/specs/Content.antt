@@ -1,26 +1,13 @@
 -- What a page of a sandbox reads, now and in the snapshot, and the lowest page at which the two differ.
 use mathlib.Core.List.{List}
 use Prim.Native.Nat.{ℕ}
-use Rattle.interface.specs.declared.page.Backing.{Backing}
-use Rattle.interface.specs.declared.page.Backing.the-variants.{Anonymous, Image}
 use Rattle.interface.specs.Slots.{isCommitted, backingAt}
 use Rattle.interface.specs.Compare.{lowestDifference}
 use Rattle.pages.specs.Parts.{sameBytes}
-use Rattle.table.specs.declared.source.Source.{Source}
-use Rattle.table.specs.declared.source.Source.the-variants.{Zero, Image as ImagePage}
 use Rattle.table.specs.Store.{Store, frontOf, backOf, contents, pageFrom, underFront}
-use Rattle.table.specs.Source.{sourceBytes}
+use Rattle.table.specs.Backing.{backingPage}
 use Rattle.areas.specs.Areas.{slots}
 use Rattle.state.specs.declared.sandbox.Sandbox.{Sandbox}
-
--- "zero bytes or its image page"
-abbrev pub sourceOf : Backing → Source
-sourceOf Anonymous = Zero
-sourceOf (Image page) = ImagePage page
-
--- a page with this backing that was never written
-abbrev pub backingPage : List ℕ → Backing → List ℕ
-backingPage image b = sourceBytes image (sourceOf b)
 
 -- "else, if committed, its back frame; else zero bytes or its image page": what page i of sandbox s reads but for its front
 unfoldable pub pageUnder : List ℕ → Store → Sandbox → ℕ → ℕ → List ℕ

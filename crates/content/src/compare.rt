@@ -8,11 +8,11 @@ ghost use Rattle.interface.specs.Compare.{agree};
 ghost use Rattle.frames.specs.declared.Held.{Held as Words};
 ghost use Rattle.pages.specs.Parts.{sameBytes};
 ghost use Rattle.table.specs.Store.{kept, pageIn, pageFrom, underFront, Ranged};
-ghost use Rattle.table.specs.Source.{sourceEnd};
+ghost use Rattle.table.specs.Backing.{backingPage, backingEnd};
+ghost use Rattle.state.specs.World.{pagesIn};
 ghost use Rattle.rules.specs.Ready.{Ready};
-ghost use Rattle.content.specs.Content.{sourceOf, backingPage, differing};
+ghost use Rattle.content.specs.Content.{differing};
 ghost use Rattle.content.specs.Unchanged.{stays, unchanged};
-use crate::read::source_of;
 use areas::area::Area;
 use areas::area::Areas;
 use slots::backing_at;
@@ -28,28 +28,21 @@ pub struct Difference;
 
 impl Difference {
     // "and 64 if they nowhere differ"
-    pub const NOWHERE: u8 = 64;
+    pub const NOWHERE: u8 = Areas::PAGES;
 }
 
 // Page by page, up to the first page that differs. Where every area stands in the snapshot as it is, a page without a front is not even looked up.
-pub fn lowest_difference(
-    pool: &[u8],
-    table: &[u16],
-    image: &[u8],
-    b: Sandbox,
-    s: u8,
-    images: u8,
-) -> u8
+pub fn lowest_difference(pool: &[u8], table: &[u16], image: &[u8], b: Sandbox, s: u8) -> u8
     requires { ⌜ s < 4 ⌝ }
-    requires { ⌜ Ready images b ⌝ }
-    requires { ⌜ length (now image) ≡ images * 256 ⌝ }
+    requires { ⌜ Ready (pagesIn (length (now image))) b ⌝ }
     requires { ⌜ Ranged 256 (now pool) (now table) ⌝ }
-    ensures { λ r. ⌜ ((h : Words) → r ≡ differing (now (image .entry)) (kept h (now (pool .entry)) (now (table .entry))) b s) ⌝ }
+    ensures { λ r. ⌜ ((h : Words) → let before = kept h (now (pool .entry)) (now (table .entry)) in
+        r ≡ differing (now (image .entry)) before b s) ⌝ }
 {
     let present = b.present;
     let snapshot = b.snapshot;
     let same = are_unchanged(present, snapshot);
-    for i in 0..64u8 {
+    for i in 0..Areas::PAGES {
         let page = PageNo(i);
         let front = table::entry::front(table, s, page);
         if !(same & (front == 0)) {
@@ -98,8 +91,8 @@ fn agrees(pool: &[u8], image: &[u8], present: Slot, snapshot: Slot, front: u16, 
     requires { ⌜ front * 256 ≤ length (now pool) ⌝ }
     requires { ⌜ back ≤ 128 ⌝ }
     requires { ⌜ back * 256 ≤ length (now pool) ⌝ }
-    requires { ⌜ sourceEnd (sourceOf (backingAt present)) * 256 ≤ length (now image) ⌝ }
-    requires { ⌜ sourceEnd (sourceOf (backingAt snapshot)) * 256 ≤ length (now image) ⌝ }
+    requires { ⌜ backingEnd (backingAt present) * 256 ≤ length (now image) ⌝ }
+    requires { ⌜ backingEnd (backingAt snapshot) * 256 ≤ length (now image) ⌝ }
     requires { ⌜ (isCommitted present ≡ true → backingAt present ≡ backingAt snapshot) ⌝ }
     ensures { λ r. ⌜ r ≡ agree present snapshot
         (sameBytes 256
@@ -124,8 +117,8 @@ fn agrees(pool: &[u8], image: &[u8], present: Slot, snapshot: Slot, front: u16, 
         pool,
         image,
         front,
-        source_of(backing_at(present)),
+        backing_at(present),
         back,
-        source_of(backing_at(snapshot)),
+        backing_at(snapshot),
     )
 }

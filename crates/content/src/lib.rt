@@ -4,3 +4,5 @@
 // It stands on `table` for the frames, on `state` and `areas` for what stands at a page, and on `rules` for what a request within its limits is.
 pub mod compare;
 pub mod read;
+
+pub use compare::lowest_difference;

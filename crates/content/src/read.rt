@@ -1,53 +1,41 @@
 // What a page reads.
 ghost use mathlib.Core.Path.{_≡_};
-ghost use Prim.Native.Nat.{_*_, _<_};
+ghost use Prim.Native.Nat.{_<_};
 ghost use lib.ListN.{length, getD};
 ghost use Rattle.frames.specs.declared.Held.{Held as Words};
 ghost use Rattle.interface.specs.Requests.{Read, pageOf, offsetOf};
 ghost use Rattle.table.specs.Store.{kept, Ranged};
+ghost use Rattle.state.specs.World.{pagesIn};
 ghost use Rattle.rules.specs.Ready.{Fit, Ready};
-ghost use Rattle.content.specs.Content.{sourceOf, pageRead};
-use slots::backing_at;
-use slots::is_committed;
-use interface::page::Backing;
+ghost use Rattle.content.specs.Content.{pageRead};
 use interface::page::PageNo;
 use interface::request::Request;
 use state::sandbox::Sandbox;
-use table::source::Source;
+use table::page::VirtualPage;
 
 // The byte that a page reads.
-pub fn read(pool: &[u8], table: &[u16], image: &[u8], b: Sandbox, q: Request, images: u8) -> u8
+pub fn read(pool: &[u8], table: &[u16], image: &[u8], b: Sandbox, q: Request) -> u8
     requires { ⌜ q .code ≡ Read ⌝ }
     requires { ⌜ q .sandbox < 4 ⌝ }
     requires { ⌜ Fit q ⌝ }
-    requires { ⌜ Ready images b ⌝ }
-    requires { ⌜ length (now image) ≡ images * 256 ⌝ }
+    requires { ⌜ Ready (pagesIn (length (now image))) b ⌝ }
     requires { ⌜ Ranged 256 (now pool) (now table) ⌝ }
-    ensures { λ r. ⌜
-        ((h : Words) → r ≡ getD (pageRead (now (image .entry)) (kept h (now (pool .entry)) (now (table .entry))) b (q .sandbox) (pageOf q)) (offsetOf q) 0) ⌝ }
+    ensures { λ r. ⌜ ((h : Words) → let before = kept h (now (pool .entry)) (now (table .entry)) in
+        r ≡ getD (pageRead (now (image .entry)) before b (q .sandbox) (pageOf q)) (offsetOf q) 0) ⌝ }
 {
     let present = b.present;
-    let page = PageNo((q.p1 / 256) as u8);
-    let slot = present.slot(page);
-    let source = source_of(backing_at(slot));
+    let number = PageNo((q.p1 / PageNo::BYTES as u16) as u8);
+    let slot = present.slot(number);
+    let page = VirtualPage {
+        sandbox: q.sandbox as u8,
+        number: number,
+        slot: slot,
+    };
     reading::store::read_byte(
         pool,
         table,
         image,
-        q.sandbox as u8,
         page,
-        is_committed(slot),
-        source,
-        (q.p1 % 256) as u8,
+        (q.p1 % PageNo::BYTES as u16) as u8,
     )
-}
-
-// "zero bytes or its image page"
-pub fn source_of(backing: Backing) -> Source
-    ensures { λ r. ⌜ r ≡ sourceOf backing ⌝ }
-{
-    match backing {
-        Backing::Anonymous => Source::Zero,
-        Backing::Image(page) => Source::Image(page),
-    }
 }

@@ -5,3 +5,6 @@
 // runs, on `content` for what is read and compared, and on `rules` for what a request within its limits is.
 pub mod store;
 pub mod value;
+
+pub use store::store_after;
+pub use value::value_of;

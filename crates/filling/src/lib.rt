@@ -2,6 +2,6 @@
 // rewind gives a front the snapshot's bytes.
 // It promises: what is left is the store that table/specs/Store defines of it (`storeByte`, `take`, `rewindPage`); the laws of these stand in `table`.
 // It stands on `freeing`, for a front that a rewind gives up, on `table` for entries and the store, on `pool` and `pages` for the bytes of a frame,
-// on `frames` for the held marks, and on `interface` for the number of a page.
-mod source;
+// on `frames` for the held marks, and on `areas` and `interface` for what stands at a page.
+mod backing;
 pub mod store;

@@ -2,21 +2,25 @@
 ghost use mathlib.Core.Path.{_≡_};
 ghost use Prim.Native.Nat.{_+_, _*_, _≤_, _<_};
 ghost use lib.ListN.{length};
+ghost use Rattle.interface.specs.Slots.{isCommitted, backingAt};
 ghost use Rattle.frames.specs.declared.Held.{Held as Words};
 ghost use Rattle.pages.specs.Parts.{setFrame};
-ghost use Rattle.table.specs.Store.{kept, frontOf, backOf, pageIn, contents, pageFrom, underFront, Ranged};
-ghost use Rattle.table.specs.Store.{take, storeByte, rewindPage};
-ghost use Rattle.table.specs.Source.{sourceBytes, sourceEnd};
+ghost use Rattle.table.specs.Store.{kept, frontOf, pageIn, pageFrom, Ranged, take, storeByte, rewindPage};
+ghost use Rattle.table.specs.Backing.{backingPage, backingEnd};
+ghost use Rattle.table.specs.Virtual.{frontAt, backAt, bytesUnder, Placed};
+use slots::backing_at;
+use slots::is_committed;
 use frames::FrameNo;
 use frames::Held;
 use freeing::store::free_front;
+use interface::page::Backing;
 use interface::page::PageNo;
 use table::entry::back;
 use table::entry::back_if;
 use table::entry::frame_of;
 use table::entry::front;
 use table::entry::front_index;
-use table::source::Source;
+use table::page::VirtualPage;
 
 // One byte of a page's front frame, if it has one, is stored.
 pub fn store_byte(pool: &mut [u8], table: &[u16], sandbox: u8, page: PageNo, offset: u8, byte: u8)
@@ -40,71 +44,68 @@ pub fn take(
     pool: &mut [u8],
     table: &mut [u16],
     image: &[u8],
-    sandbox: u8,
-    page: PageNo,
-    committed: bool,
-    source: Source,
+    page: VirtualPage,
     f: FrameNo,
 ) -> Held
-    requires { ⌜ sandbox < 4 ⌝ }
-    requires { ⌜ page .0 < 64 ⌝ }
+    requires { ⌜ Placed (now image) page ⌝ }
     requires { ⌜ Ranged 256 (now pool) (now table) ⌝ }
-    requires { ⌜ sourceEnd source * 256 ≤ length (now image) ⌝ }
     requires { ⌜ f .0 < 128 ⌝ }
     requires { ⌜ f .0 * 256 + 256 ≤ length (now pool) ⌝ }
-    ensures { λ r. ⌜ kept r (now (pool .exit)) (now (table .exit)) ≡ take 256 (frontOf sandbox (page .0)) (f .0)
-        (underFront committed (sourceBytes (now (image .entry)) source)
-        (contents 256 (kept held (now (pool .entry)) (now (table .entry))) (backOf sandbox (page .0))))
-        (kept held (now (pool .entry)) (now (table .entry))) ⌝ }
+    ensures { λ r. ⌜ (let before = kept held (now (pool .entry)) (now (table .entry)) in
+        kept r (now (pool .exit)) (now (table .exit))
+        ≡ take 256 (frontAt page) (f .0) (bytesUnder (now (image .entry)) before page) before) ⌝ }
 {
-    let under = back_if(table, sandbox, page, committed);
-    fill_frame(pool, f, under, image, source);
-    let at = front_index(sandbox, page);
+    let number = page.number;
+    let slot = page.slot;
+    let backing = backing_at(slot);
+    let under = back_if(table, page.sandbox, number, is_committed(slot));
+    fill_frame(pool, f, under, image, backing);
+    let at = front_index(page.sandbox, number);
     table[at] = f.0 as u16 + 1;
     held.with(f)
 }
 
-// One page of a rewind: it "keeps its front, whose bytes become the snapshot's", or gives it up. Without a front there is nothing to do.
+// One page of a rewind: a committed page "keeps its front, whose bytes become the snapshot's", any other gives it up. Without a front there is
+// nothing to do.
 pub fn restore_page(
     held: Held,
     pool: &mut [u8],
     table: &mut [u16],
     image: &[u8],
-    sandbox: u8,
-    page: PageNo,
-    keep: bool,
-    source: Source,
+    page: VirtualPage,
 ) -> Held
-    requires { ⌜ sandbox < 4 ⌝ }
-    requires { ⌜ page .0 < 64 ⌝ }
     requires { ⌜ Ranged 256 (now pool) (now table) ⌝ }
-    requires { ⌜ sourceEnd source * 256 ≤ length (now image) ⌝ }
-    ensures { λ r. ⌜ kept r (now (pool .exit)) (now (table .exit)) ≡ rewindPage 256 (frontOf sandbox (page .0)) (backOf sandbox (page .0)) keep
-        (sourceBytes (now (image .entry)) source) (kept held (now (pool .entry)) (now (table .entry))) ⌝ }
+    requires { ⌜ Placed (now image) page ⌝ }
+    ensures { λ r. ⌜ (let before = kept held (now (pool .entry)) (now (table .entry)) in
+        kept r (now (pool .exit)) (now (table .exit))
+        ≡ rewindPage 256 (frontAt page) (backAt page) (isCommitted (page .slot))
+        (backingPage (now (image .entry)) (backingAt (page .slot))) before) ⌝ }
 {
-    let front = front(table, sandbox, page);
+    let number = page.number;
+    let front = front(table, page.sandbox, number);
     if front == 0 {
         return held;
     }
-    if !keep {
-        return free_front(held, pool, table, sandbox, page);
+    let slot = page.slot;
+    if !is_committed(slot) {
+        return free_front(held, pool, table, page.sandbox, number);
     }
-    let back = back(table, sandbox, page);
-    fill_frame(pool, frame_of(front), back, image, source);
+    let back = back(table, page.sandbox, number);
+    fill_frame(pool, frame_of(front), back, image, backing_at(slot));
     held
 }
 
-// Frame `f` gets the bytes of the frame that an entry names, or the source's where it names none.
-fn fill_frame(pool: &mut [u8], f: FrameNo, entry: u16, image: &[u8], source: Source)
+// Frame `f` gets the bytes of the frame that an entry names, or the backing's where it names none.
+fn fill_frame(pool: &mut [u8], f: FrameNo, entry: u16, image: &[u8], backing: Backing)
     requires { ⌜ f .0 * 256 + 256 ≤ length (now pool) ⌝ }
     requires { ⌜ entry ≤ 128 ⌝ }
     requires { ⌜ entry * 256 ≤ length (now pool) ⌝ }
-    requires { ⌜ sourceEnd source * 256 ≤ length (now image) ⌝ }
+    requires { ⌜ backingEnd backing * 256 ≤ length (now image) ⌝ }
     ensures { λ r. ⌜ now (pool .exit) ≡ setFrame 256 (now (pool .entry)) (f .0)
-        (pageFrom (sourceBytes (now (image .entry)) source) (pageIn 256 (now (pool .entry)) entry)) ⌝ }
+        (pageFrom (backingPage (now (image .entry)) backing) (pageIn 256 (now (pool .entry)) entry)) ⌝ }
 {
     if entry == 0 {
-        crate::source::fill_frame(pool, f, image, source);
+        crate::backing::fill_frame(pool, f, image, backing);
         return;
     }
     pool::copy_frame(pool, frame_of(entry), f);

@@ -31,6 +31,8 @@ use Rattle.rules.proofs.FitLaws.{fit, page-small}
 use Rattle.memory.specs.Memory.{valueAt}
 use Rattle.machine.specs.Step.{viewAt, Outcome, Stepped, numberAt, takes, gives, step}
 use Rattle.memory.specs.Parts.{Asked, StoreStepped}
+use Rattle.memory.proofs.MemoryLaws.{with-frames}
+use Rattle.machine.specs.Step.{Outcome, Stepped, numberAt, takes, gives, step}
 use Rattle.machine.specs.Parts.{Performed}
 
 module _ (image : List ℕ) (w : World) (q : Request) where
@@ -77,20 +79,14 @@ module _ (image : List ℕ) (w : World) (q : Request) where
           gave = λ t. p .gave (and-right (eqb (numberAt image w q) 0) _ t);
           free = λ t. ⊎-elim (λ u. inl u) (λ g. inr (and-of accepted (g .0), g .1)) (p .takes (and-right (eqb (numberAt image w q) 0) _ t));
         };
-        equals = p .equals ∙ rw n;
+        equals = p .so ∙ rw n;
       }
 
-  pub performed : (frames value : ℕ) (sandboxes : List Sandbox) (st : Store) (runs : Runs) → framesOf w ≡ frames
-      → StoreStepped image frames q w st runs → value ≡ valueAt image q (sandboxAt w (q .sandbox)) (w .store)
+  pub performed : (value : ℕ) (sandboxes : List Sandbox) (st : Store) (runs : Runs) → StoreStepped image q w st runs
+      → value ≡ valueAt image q (sandboxAt w (q .sandbox)) (w .store)
       → sandboxes ≡ set (w .sandboxes) (q .sandbox) (withRuns runs (sandboxAfter q (sandboxAt w (q .sandbox))))
       → Performed image w q (record { answer = record { number = 0; value = value }; world = record { sandboxes = sandboxes; store = st } })
-  performed frames value sandboxes st runs f t v e = record {
-    frame = t .frame;
-    given = t .given;
-    gave = t .gave;
-    takes = λ h. rw f (t .takes h);
-    equals = rw (v, e, t .equals, t .runs);
-  }
+  performed value sandboxes st runs t v e = with-frames q w _ _ (λ f g after. rw (v, e, after .0, after .1)) t
 
   module _ (S : Tested image w) (row : q .sandbox < 4) where
     -- the sandbox of a sound state
@@ -106,7 +102,7 @@ module _ (image : List ℕ) (w : World) (q : Request) where
 
   module _ (S : Tested image w) where
     -- what an accepted call's parts ask
-    pub asked : numberAt image w q ≡ 0 → Asked image (framesOf w) (pagesIn (length image)) q w
+    pub asked : numberAt image w q ≡ 0 → Asked image q w
     unfolding allMapped numberAt
     asked n =
         let a = accepted (viewAt image w (q .sandbox)) q n in
@@ -118,7 +114,6 @@ module _ (image : List ℕ) (w : World) (q : Request) where
           row = row;
           fit = within-limits;
           ready = ready S row;
-          whole = S .whole;
           filed = S .filed;
           spare = S .spare;
           found = S .found;

@@ -63,7 +63,7 @@ gives image w q = eqb (numberAt image w q) 0 && givesAt q (sandboxAt w (q .sandb
 
 -- a frame of the pool that is not held
 abbrev pub Free : World → ℕ → Type 0
-Free w f = Unheld (framesOf w) w f
+Free w f = Unheld w f
 
 -- a frame of the longest run of sandbox s
 abbrev pub OfLongest : World → ℕ → ℕ → Type 0

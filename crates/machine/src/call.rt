@@ -1,8 +1,6 @@
 // The call: one request, from a state, pool and table to the next.
 ghost use mathlib.Core.Path.{_≡_};
-ghost use Prim.Native.Nat.{_<_};
-ghost use lib.ListN.{length};
-ghost use Rattle.state.specs.World.{worldOf, sandboxAt, pagesIn};
+ghost use Rattle.state.specs.World.{worldOf, sandboxAt};
 ghost use Rattle.rules.specs.After.{presentAfter};
 ghost use Rattle.machine.specs.Step.{Stepped};
 ghost use Rattle.memory.specs.Parts.{Asked};
@@ -28,8 +26,8 @@ pub struct Reply {
 
 // One request. Whatever is handed in, it ends with the outcome of `step`.
 pub fn call(machine: Machine, pool: &mut [u8], table: &mut [u16], image: &[u8], q: Request) -> Reply
-    ensures { λ r. ⌜ Stepped (now (image .entry)) (worldOf machine (now (pool .entry)) (now (table .entry))) q
-        (outcomeOf r (now (pool .exit)) (now (table .exit))) ⌝ }
+    ensures { λ r. ⌜ (let before = worldOf machine (now (pool .entry)) (now (table .entry)) in
+        Stepped (now (image .entry)) before q (outcomeOf r (now (pool .exit)) (now (table .exit)))) ⌝ }
 {
     if !codes::is_call(q) {
         return refuse(machine, Refusal::NoSuchCall);
@@ -45,7 +43,7 @@ pub fn call(machine: Machine, pool: &mut [u8], table: &mut [u16], image: &[u8], 
     let areas = decision.areas;
     match verdict {
         Verdict::Refused(why) => refuse(machine, why),
-        Verdict::Accepted => perform(machine, pool, table, image, q, areas, frames, images),
+        Verdict::Accepted => perform(machine, pool, table, image, q, areas),
     }
 }
 
@@ -67,20 +65,17 @@ fn perform(
     image: &[u8],
     q: Request,
     present: Areas,
-    frames: u8,
-    images: u8,
 ) -> Reply
-    requires { ⌜ Asked (now image) frames images q (worldOf machine (now pool) (now table)) ⌝ }
-    requires { ⌜ pagesIn (length (now pool)) ≡ frames ⌝ }
+    requires { ⌜ Asked (now image) q (worldOf machine (now pool) (now table)) ⌝ }
     requires { ⌜ present ≡ presentAfter q (sandboxAt (worldOf machine (now pool) (now table)) (q .sandbox)) ⌝ }
-    ensures { λ r. ⌜ Performed (now (image .entry)) (worldOf machine (now (pool .entry)) (now (table .entry))) q
-        (outcomeOf r (now (pool .exit)) (now (table .exit))) ⌝ }
+    ensures { λ r. ⌜ (let before = worldOf machine (now (pool .entry)) (now (table .entry)) in
+        Performed (now (image .entry)) before q (outcomeOf r (now (pool .exit)) (now (table .exit)))) ⌝ }
 {
     let k = q.sandbox as usize;
     let mut m = machine;
     let b = m.sandboxes[k];
-    let value = value_of(pool, table, image, b, q, frames, images);
-    let left = store_after(machine, pool, table, image, q, frames, images);
+    let value = value_of(pool, table, image, b, q);
+    let left = store_after(machine, pool, table, image, q);
     let held = left.held;
     let runs = left.runs;
     let after = sandbox_after(b, q, present);

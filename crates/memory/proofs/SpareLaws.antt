@@ -26,15 +26,18 @@ use Rattle.kept.proofs.SpareLaws.{run-kept}
 use Rattle.kept.proofs.AdoptLaws.{adopted}
 use Rattle.areas.specs.Areas.{slots}
 use Rattle.state.specs.declared.sandbox.Sandbox.{Sandbox}
-use Rattle.state.specs.World.{World, sandboxAt, rowsOf}
+use Rattle.state.specs.World.{World, framesOf, rowsOf}
 use Rattle.reuse.specs.declared.Given.{Given}
 use Rattle.reuse.specs.Reuse.{GaveUp}
 use Rattle.memory.specs.Memory.{Unheld, givesAt, placeFor, framesFor, longestOf}
-use Rattle.memory.specs.Parts.{ownFront, Asked, Takes}
+use Rattle.memory.specs.Parts.{ownSandbox, ownFront, Asked, Takes}
 
-module _ (image : List ℕ) (frames images : ℕ) (q : Request) (w : World) (A : Asked image frames images q w) where
+module _ (image : List ℕ) (q : Request) (w : World) (A : Asked image q w) where
   abbrev own : Sandbox
-  own = sandboxAt w (q .sandbox)
+  own = ownSandbox q w
+
+  abbrev frames : ℕ
+  frames = framesOf w
 
   -- a frame of a run is one of the pool and of no entry
   pub longest-frame : (given : ℕ) → InLongest (own .runs) given → (given < frames) × (held (w .store .marks) given ≡ 0)
@@ -47,7 +50,7 @@ module _ (image : List ℕ) (frames images : ℕ) (q : Request) (w : World) (A :
       )
 
   -- the frame that a write takes is one of the pool, and no entry names it
-  pub takes-free : (f given : ℕ) → Takes frames q w f given → (givesAt q own (w .store) ≡ true → InLongest (own .runs) given)
+  pub takes-free : (f given : ℕ) → Takes q w f given → (givesAt q own (w .store) ≡ true → InLongest (own .runs) given)
       → (f < frames) × (held (w .store .marks) f ≡ 0)
   takes-free f given t gave =
       ⊎-elim (λ u. (u .ofPool, u .unnamed)) (λ g. rw (g .1) (longest-frame given (gave (g .0)))) t
@@ -76,10 +79,10 @@ module _ (image : List ℕ) (frames images : ℕ) (q : Request) (w : World) (A :
           (there .0, (there .1 .ofPool, (there .1 .unnamed, rw same (A .found (there .0) low ∙ there .1 .unkept)))))
 
       -- "it was unheld, or was given up by this very call"
-      pub takes-of : (f : ℕ) → f < frames → held (w .store .marks) f ≡ 0 → held (r .kept) f ≡ 0 → Takes frames q w f (g .given)
+      pub takes-of : (f : ℕ) → f < frames → held (w .store .marks) f ≡ 0 → held (r .kept) f ≡ 0 → Takes q w f (g .given)
       takes-of f l u k =
           let low : f < 128 = omega (arith, l, A .filed .few) in
-          let unheld : held (keptTo (rowsOf w) 4 .held) f ≡ 0 → Unheld frames w f =
+          let unheld : held (keptTo (rowsOf w) 4 .held) f ≡ 0 → Unheld w f =
           λ h. record { ofPool = l; unnamed = u; unkept = sym (A .found f low) ∙ h } in
           by-cases gives
           (λ t. let gone : r .kept ≡ mark (keptTo (rowsOf w) 4 .held) (g .given) 0 = g .marks ∙ rw t in

@@ -32,11 +32,11 @@ module _ (image : List ℕ) (q : Request) (b : Sandbox) (st : Store) where
   unfolding valueAt
   snapshot-value value e v = v ∙ rw e
 
-  pub report-value : (value named kept frames : ℕ) → q .code ≡ Report → length (st .pool) / 256 ≡ frames
-      → named ≡ countHeld (marksTo frames (from (q .sandbox * 128) (st .table)) 128 .held) → kept ≡ sum (lengthsOf (b .runs)) 8 → value ≡ named + kept
-      → value ≡ valueAt image q b st
+  pub report-value : (value named kept : ℕ) → q .code ≡ Report
+      → named ≡ countHeld (marksTo (length (st .pool) / 256) (from (q .sandbox * 128) (st .table)) 128 .held)
+      → kept ≡ sum (lengthsOf (b .runs)) 8 → value ≡ named + kept → value ≡ valueAt image q b st
   unfolding valueAt heldBy keptBy
-  report-value value named kept frames e f n k v = v ∙ rw (n, k, ← f, e)
+  report-value value named kept e n k v = v ∙ rw (n, k, e)
 
   pub compare-value : (value : ℕ) → q .code ≡ Compare → value ≡ differing image st b (q .sandbox) → value ≡ valueAt image q b st
   unfolding valueAt

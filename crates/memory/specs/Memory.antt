@@ -20,14 +20,14 @@ use Rattle.runs.specs.Row.{row, lengthsOf, withRunAt, tabled}
 use Rattle.kept.specs.Spare.{keptAt, keptBy, rowRewound, leftOf, grantTo}
 use Rattle.areas.specs.Areas.{slots}
 use Rattle.state.specs.declared.sandbox.Sandbox.{Sandbox}
-use Rattle.state.specs.World.{World, rowsOf}
+use Rattle.state.specs.World.{World, framesOf, rowsOf}
 use Rattle.content.specs.Content.{pageUnder, pageRead, copyPage, differing}
 
 -- ---- frames
 
--- a frame of a pool of so many that is not held: no entry names it, and no run keeps it
-pub record Unheld (frames : ℕ) (w : World) (f : ℕ) : Type 0 where
-  pub ofPool : f < frames
+-- a frame of the pool that is not held: no entry names it, and no run keeps it
+pub record Unheld (w : World) (f : ℕ) : Type 0 where
+  pub ofPool : f < framesOf w
   pub unnamed : held (w .store .marks) f ≡ 0
   pub unkept : keptAt (rowsOf w) f ≡ 0
 

@@ -14,57 +14,63 @@ use Rattle.marks.specs.Named.{usedBelow}
 use Rattle.marks.specs.Marks.{from}
 use Rattle.table.specs.Store.{Store, entry, frontOf, Filed}
 use Rattle.runs.specs.declared.Runs.{Runs}
+use Rattle.runs.specs.Row.{InLongest}
 use Rattle.kept.specs.Spare.{keptAt, Spare}
 use Rattle.kept.specs.Test.{keptTo}
 use Rattle.areas.specs.Areas.{slots}
-use Rattle.state.specs.World.{World, sandboxAt, rowsOf}
+use Rattle.state.specs.declared.sandbox.Sandbox.{Sandbox}
+use Rattle.state.specs.World.{World, sandboxAt, framesOf, pagesIn, rowsOf}
 use Rattle.rules.specs.Ready.{Fit, Ready}
-use Rattle.runs.specs.Row.{InLongest}
 use Rattle.memory.specs.Memory.{Unheld, holdsIn, givesAt, runsAfter, touched, storeAfter}
+
+-- the sandbox that a request names
+abbrev pub ownSandbox : Request → World → Sandbox
+ownSandbox q w = sandboxAt w (q .sandbox)
 
 -- the front entry of the page that a write names
 abbrev pub ownFront : Request → Store → ℕ
 ownFront q st = entry st (frontOf (q .sandbox) (pageOf q))
 
--- what a part of an accepted call asks: a request within its limits for one of the four sandboxes, well formed areas, whole image pages,
--- a store of so many frames whose marks are those of its entries, and kept frames that are zero, each of one run and of no entry
-pub record Asked (image : List ℕ) (frames images : ℕ) (q : Request) (w : World) : Type 0 where
+-- what a part of an accepted call asks: a request within its limits for one of the four sandboxes, well formed areas, a store whose marks are those of its
+-- entries, and kept frames that are zero, each of one run and of no entry
+pub record Asked (image : List ℕ) (q : Request) (w : World) : Type 0 where
   pub row : q .sandbox < 4
   pub fit : Fit q
-  pub ready : Ready images (sandboxAt w (q .sandbox))
-  pub whole : length image ≡ images * 256
-  pub filed : Filed 256 frames (w .store)
-  pub spare : Spare 256 frames (w .store) (rowsOf w)
+  pub ready : Ready (pagesIn (length image)) (ownSandbox q w)
+  pub filed : Filed 256 (framesOf w) (w .store)
+  pub spare : Spare 256 (framesOf w) (w .store) (rowsOf w)
   -- the marks of all runs together, as a pass over them finds them
   pub found : (f : ℕ) → f < 128 → held (keptTo (rowsOf w) 4 .held) f ≡ keptAt (rowsOf w) f
   -- a map lies within the 64 pages
-  pub mapped : q .code ≡ Map → firstOf (slots (sandboxAt w (q .sandbox) .present)) q + q .p2 ≤ 64
+  pub mapped : q .code ≡ Map → firstOf (slots (ownSandbox q w .present)) q + q .p2 ≤ 64
   -- a written page is mapped: without a front of its own, fronts and backs leave room for one more within the share,
-  pub fits : q .code ≡ Write → ownFront q (w .store) ≡ 0 → usedBelow (from (q .sandbox * 128) (w .store .table)) 128 < sandboxAt w (q .sandbox) .share
+  pub fits : q .code ≡ Write → ownFront q (w .store) ≡ 0 → usedBelow (from (q .sandbox * 128) (w .store .table)) 128 < ownSandbox q w .share
   -- and where kept frames leave room too, a frame is not held
-  pub room : q .code ≡ Write → ownFront q (w .store) ≡ 0 → holdsIn (w .store) (q .sandbox) (sandboxAt w (q .sandbox)) < sandboxAt w (q .sandbox) .share
-      → (f : ℕ) × Unheld frames w f
+  pub room : q .code ≡ Write → ownFront q (w .store) ≡ 0 → holdsIn (w .store) (q .sandbox) (ownSandbox q w) < ownSandbox q w .share
+      → (f : ℕ) × Unheld w f
 
 -- the frame that a write takes "was unheld, or was given up by this very call"
-abbrev pub Takes : ℕ → Request → World → ℕ → ℕ → Type 0
-Takes frames q w frame given =
-    Unheld frames w frame ⊎ ((givesAt q (sandboxAt w (q .sandbox)) (w .store) ≡ true) × (frame ≡ given))
+abbrev pub Takes : Request → World → ℕ → ℕ → Type 0
+Takes q w frame given = Unheld w frame ⊎ ((givesAt q (ownSandbox q w) (w .store) ≡ true) × (frame ≡ given))
 
--- "Which unheld frame is taken is open"; "which one is open": the store and the runs after an accepted request, with the frame that a write took and the
--- one that it gave up
-pub record StoreStepped (image : List ℕ) (frames : ℕ) (q : Request) (w : World) (after : Store) (left : Runs) : Type 0 where
+-- "Which unheld frame is taken is open"; "which one is open": this is so, with the frame that a write took and the one that it gave up, where it did
+pub record WithFrames (q : Request) (w : World) (So : ℕ → ℕ → Type 0) : Type 0 where
   pub frame : ℕ
   pub given : ℕ
-  pub gave : givesAt q (sandboxAt w (q .sandbox)) (w .store) ≡ true → InLongest (sandboxAt w (q .sandbox) .runs) given
-  pub takes : (q is Write && eqb (ownFront q (w .store)) 0) ≡ true → Takes frames q w frame given
-  pub equals : after ≡ storeAfter image frame q (sandboxAt w (q .sandbox)) (w .store)
-  pub runs : left ≡ runsAfter given q (sandboxAt w (q .sandbox)) (w .store)
+  pub gave : givesAt q (ownSandbox q w) (w .store) ≡ true → InLongest (ownSandbox q w .runs) given
+  pub takes : (q is Write && eqb (ownFront q (w .store)) 0) ≡ true → Takes q w frame given
+  pub so : So frame given
+
+-- the store and the runs after a request that takes no frame and gives none up
+abbrev pub LeftBy : List ℕ → Request → Sandbox → Store → Store → Runs → Type 0
+LeftBy image q b st after left = (after ≡ storeAfter image 0 q b st) × (left ≡ runsAfter 0 q b st)
+
+-- the store and the runs after an accepted request
+abbrev pub StoreStepped : List ℕ → Request → World → Store → Runs → Type 0
+StoreStepped image q w after left = WithFrames q w (λ frame given.
+    (after ≡ storeAfter image frame q (ownSandbox q w) (w .store)) × (left ≡ runsAfter given q (ownSandbox q w) (w .store)))
 
 -- a write before its byte is stored: a page without a front took a frame, filled with what the page reads; one with a front is as it was
-pub record TouchStepped (image : List ℕ) (frames : ℕ) (q : Request) (w : World) (after : Store) (left : Runs) : Type 0 where
-  pub frame : ℕ
-  pub given : ℕ
-  pub gave : givesAt q (sandboxAt w (q .sandbox)) (w .store) ≡ true → InLongest (sandboxAt w (q .sandbox) .runs) given
-  pub takes : eqb (ownFront q (w .store)) 0 ≡ true → Takes frames q w frame given
-  pub equals : after ≡ touched image frame (sandboxAt w (q .sandbox)) (q .sandbox) (pageOf q) (w .store)
-  pub runs : left ≡ runsAfter given q (sandboxAt w (q .sandbox)) (w .store)
+abbrev pub TouchStepped : List ℕ → Request → World → Store → Runs → Type 0
+TouchStepped image q w after left = WithFrames q w (λ frame given.
+    (after ≡ touched image frame (ownSandbox q w) (q .sandbox) (pageOf q) (w .store)) × (left ≡ runsAfter given q (ownSandbox q w) (w .store)))

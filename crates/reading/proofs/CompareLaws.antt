@@ -7,30 +7,30 @@ use lib.ListN.{length, take, drop}
 use Rattle.interface.specs.declared.page.ImagePageNo.{ImagePageNo}
 use Rattle.pages.specs.Parts.{zeros, frame, sameBytes}
 use Rattle.pages.proofs.PartLaws.{part-is-frame}
-use Rattle.table.specs.declared.source.Source.{Source}
-use Rattle.table.specs.declared.source.Source.the-variants.{Zero, Image}
+use Rattle.interface.specs.declared.page.Backing.{Backing}
+use Rattle.interface.specs.declared.page.Backing.the-variants.{Anonymous, Image}
 use Rattle.table.specs.Store.{pageIn, pageFrom}
-use Rattle.table.specs.Source.{sourceBytes}
+use Rattle.table.specs.Backing.{backingPage}
 use Rattle.table.proofs.PageLaws.{page-there}
 
 -- the part that is lent of the frame, or of the image page, with this number
 abbrev pub lent : List ℕ → ℕ → List ℕ
 lent xs f = take ((f * 256 + 256) - f * 256) (drop (f * 256) xs)
 
--- the bytes of a page: of the frame that its entry names, or of its source
-abbrev pub pageOf : List ℕ → List ℕ → ℕ → Source → List ℕ
-pageOf pool image e source = pageFrom (sourceBytes image source) (pageIn 256 pool e)
+-- the bytes of a page: of the frame that its entry names, or of its backing
+abbrev pub pageOf : List ℕ → List ℕ → ℕ → Backing → List ℕ
+pageOf pool image e backing = pageFrom (backingPage image backing) (pageIn 256 pool e)
 
-module _ (pool image : List ℕ) (e : ℕ) (source : Source) where
+module _ (pool image : List ℕ) (e : ℕ) (backing : Backing) where
   -- an entry that names a frame
-  pub at-frame : (f : ℕ) → f ≡ e - 1 → (e ≡ 0 → ⊥) → lent pool f ≡ pageOf pool image e source
-  at-frame f is d = part-is-frame 256 pool f ∙ ap (λ (n : ℕ). frame 256 pool n) is ∙ page-there 256 pool (sourceBytes image source) e d
+  pub at-frame : (f : ℕ) → f ≡ e - 1 → (e ≡ 0 → ⊥) → lent pool f ≡ pageOf pool image e backing
+  at-frame f is d = part-is-frame 256 pool f ∙ ap (λ (n : ℕ). frame 256 pool n) is ∙ page-there 256 pool (backingPage image backing) e d
 
   -- one that names none
-  pub at-zero : e ≡ 0 → source ≡ Zero → zeros 256 ≡ pageOf pool image e source
+  pub at-zero : e ≡ 0 → backing ≡ Anonymous → zeros 256 ≡ pageOf pool image e backing
   at-zero z is = rw (z, is)
 
-  pub at-image : (page : ImagePageNo) → e ≡ 0 → source ≡ Image page → lent image (page .0) ≡ pageOf pool image e source
+  pub at-image : (page : ImagePageNo) → e ≡ 0 → backing ≡ Image page → lent image (page .0) ≡ pageOf pool image e backing
   at-image page z is = rw (z, is) (part-is-frame 256 image (page .0))
 
 -- a part compared with a page

@@ -4,40 +4,41 @@ ghost use Prim.Native.Nat.{_*_, _≤_};
 ghost use lib.ListN.{length};
 ghost use Rattle.pages.specs.Parts.{sameBytes};
 ghost use Rattle.table.specs.Store.{pageIn, pageFrom};
-ghost use Rattle.table.specs.Source.{sourceBytes, sourceEnd};
+ghost use Rattle.table.specs.Backing.{backingPage, backingEnd};
+use interface::page::Backing;
 use pages::Page;
 use table::entry::frame_of;
-use table::source::Source;
 
-// Whether two pages have the same bytes. Each is the frame that its entry names; where that names none, it has its source's bytes.
+// Whether two pages have the same bytes. Each is the frame that its entry names; where that names none, it has its backing's bytes.
 pub fn same_pages(
     pool: &[u8],
     image: &[u8],
     entry: u16,
-    source: Source,
+    backing: Backing,
     other: u16,
-    twin: Source,
+    twin: Backing,
 ) -> bool
     requires { ⌜ entry ≤ 128 ⌝ }
     requires { ⌜ entry * 256 ≤ length (now pool) ⌝ }
-    requires { ⌜ sourceEnd source * 256 ≤ length (now image) ⌝ }
+    requires { ⌜ backingEnd backing * 256 ≤ length (now image) ⌝ }
     requires { ⌜ other ≤ 128 ⌝ }
     requires { ⌜ other * 256 ≤ length (now pool) ⌝ }
-    requires { ⌜ sourceEnd twin * 256 ≤ length (now image) ⌝ }
-    ensures { λ r. ⌜ r ≡ sameBytes 256 (pageFrom (sourceBytes (now (image .entry)) source) (pageIn 256 (now (pool .entry)) entry))
-        (pageFrom (sourceBytes (now (image .entry)) twin) (pageIn 256 (now (pool .entry)) other)) ⌝ }
+    requires { ⌜ backingEnd twin * 256 ≤ length (now image) ⌝ }
+    ensures { λ r. ⌜ r ≡ sameBytes 256
+        (pageFrom (backingPage (now (image .entry)) backing) (pageIn 256 (now (pool .entry)) entry))
+        (pageFrom (backingPage (now (image .entry)) twin) (pageIn 256 (now (pool .entry)) other)) ⌝ }
 {
     if entry != 0 {
         let start = frame_of(entry).0 as usize * Page::SIZE;
         let end = start + Page::SIZE;
         return has_page(&pool[start..end], pool, image, other, twin);
     }
-    match source {
-        Source::Zero => {
+    match backing {
+        Backing::Anonymous => {
             let zero = [0u8; Page::SIZE];
             has_page(&zero, pool, image, other, twin)
         }
-        Source::Image(page) => {
+        Backing::Image(page) => {
             let start = page.0 as usize * Page::SIZE;
             let end = start + Page::SIZE;
             has_page(&image[start..end], pool, image, other, twin)
@@ -45,25 +46,26 @@ pub fn same_pages(
     }
 }
 
-// Whether a part, one page long, has the bytes of a page: those of the frame that the entry names, or else its source's.
-fn has_page(part: &[u8], pool: &[u8], image: &[u8], entry: u16, source: Source) -> bool
+// Whether a part, one page long, has the bytes of a page: those of the frame that the entry names, or else its backing's.
+fn has_page(part: &[u8], pool: &[u8], image: &[u8], entry: u16, backing: Backing) -> bool
     requires { ⌜ length (now part) ≡ 256 ⌝ }
     requires { ⌜ entry ≤ 128 ⌝ }
     requires { ⌜ entry * 256 ≤ length (now pool) ⌝ }
-    requires { ⌜ sourceEnd source * 256 ≤ length (now image) ⌝ }
-    ensures { λ r. ⌜ r ≡ sameBytes 256 (now (part .entry)) (pageFrom (sourceBytes (now (image .entry)) source) (pageIn 256 (now (pool .entry)) entry)) ⌝ }
+    requires { ⌜ backingEnd backing * 256 ≤ length (now image) ⌝ }
+    ensures { λ r. ⌜ r ≡ sameBytes 256 (now (part .entry))
+        (pageFrom (backingPage (now (image .entry)) backing) (pageIn 256 (now (pool .entry)) entry)) ⌝ }
 {
     if entry != 0 {
         let start = frame_of(entry).0 as usize * Page::SIZE;
         let end = start + Page::SIZE;
         return pages::is_same(part, &pool[start..end]);
     }
-    match source {
-        Source::Zero => {
+    match backing {
+        Backing::Anonymous => {
             let zero = [0u8; Page::SIZE];
             pages::is_same(part, &zero)
         }
-        Source::Image(page) => {
+        Backing::Image(page) => {
             let start = page.0 as usize * Page::SIZE;
             let end = start + Page::SIZE;
             pages::is_same(part, &image[start..end])

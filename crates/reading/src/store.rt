@@ -1,43 +1,32 @@
 // A byte of a page, read where it stands.
 ghost use mathlib.Core.Path.{_≡_};
-ghost use Prim.Native.Nat.{_*_, _≤_, _<_};
-ghost use lib.ListN.{length, getD};
+ghost use lib.ListN.{getD};
 ghost use Rattle.frames.specs.declared.Held.{Held as Words};
-ghost use Rattle.table.specs.Store.{kept, frontOf, backOf, contents, pageFrom, underFront, Ranged};
-ghost use Rattle.table.specs.Source.{sourceBytes, sourceEnd};
-use interface::page::PageNo;
+ghost use Rattle.table.specs.Store.{kept, Ranged};
+ghost use Rattle.table.specs.Virtual.{bytesRead, Placed};
+use slots::backing_at;
+use slots::is_committed;
 use table::entry::back_if;
 use table::entry::frame_of;
 use table::entry::front;
-use table::source::Source;
+use table::page::VirtualPage;
 
 // One byte of a page: "A page reads its front frame; else, if committed, its back frame; else zero bytes or its image page."
-pub fn read_byte(
-    pool: &[u8],
-    table: &[u16],
-    image: &[u8],
-    sandbox: u8,
-    page: PageNo,
-    committed: bool,
-    source: Source,
-    offset: u8,
-) -> u8
-    requires { ⌜ sandbox < 4 ⌝ }
-    requires { ⌜ page .0 < 64 ⌝ }
+pub fn read_byte(pool: &[u8], table: &[u16], image: &[u8], page: VirtualPage, offset: u8) -> u8
+    requires { ⌜ Placed (now image) page ⌝ }
     requires { ⌜ Ranged 256 (now pool) (now table) ⌝ }
-    requires { ⌜ sourceEnd source * 256 ≤ length (now image) ⌝ }
-    ensures { λ r. ⌜
-        ((h : Words) → r ≡ getD (pageFrom (underFront committed (sourceBytes (now (image .entry)) source)
-        (contents 256 (kept h (now (pool .entry)) (now (table .entry))) (backOf sandbox (page .0))))
-        (contents 256 (kept h (now (pool .entry)) (now (table .entry))) (frontOf sandbox (page .0)))) offset 0) ⌝ }
+    ensures { λ r. ⌜ ((h : Words) → let before = kept h (now (pool .entry)) (now (table .entry)) in
+        r ≡ getD (bytesRead (now (image .entry)) before page) offset 0) ⌝ }
 {
-    let front = front(table, sandbox, page);
+    let number = page.number;
+    let slot = page.slot;
+    let front = front(table, page.sandbox, number);
     if front != 0 {
         return pool::read_byte(pool, frame_of(front), offset);
     }
-    let under = back_if(table, sandbox, page, committed);
+    let under = back_if(table, page.sandbox, number, is_committed(slot));
     if under != 0 {
         return pool::read_byte(pool, frame_of(under), offset);
     }
-    crate::source::read_byte(image, source, offset)
+    crate::backing::read_byte(image, backing_at(slot), offset)
 }

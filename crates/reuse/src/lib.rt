@@ -37,18 +37,19 @@ pub struct Left {
 
 // "An anonymous map at 64 takes the shortest run at least as long as its pages; if none is that long, the longest. The first new pages get these frames as
 // fronts, smallest frame number first; a surplus stays kept with its age." Kept frames are zero: no byte of the pool is touched, and no pool is lent.
-pub fn map(held: Held, table: &mut [u16], b: Sandbox, q: Request, images: u8) -> Left
+pub fn map(held: Held, table: &mut [u16], b: Sandbox, q: Request) -> Left
     requires { ⌜ q .code ≡ Map ⌝ }
     requires { ⌜ q .sandbox < 4 ⌝ }
     requires { ⌜ Fit q ⌝ }
-    requires { ⌜ Ready images b ⌝ }
+    requires { ⌜ ((images : ℕ) × Ready images b) ⌝ }
     requires { ⌜ firstOf (slots (b .present)) q + q .p2 ≤ 64 ⌝ }
     requires { ⌜ length (now table) ≡ 512 ⌝ }
-    ensures { λ r. ⌜ ((pool : List ℕ) → storeOf (r .held) pool (now (table .exit)) ≡ mapAdopts q b (storeOf held pool (now (table .entry)))) ⌝ }
+    ensures { λ r. ⌜ ((pool : List ℕ) → let before = storeOf held pool (now (table .entry)) in
+        storeOf (r .held) pool (now (table .exit)) ≡ mapAdopts q b before) ⌝ }
     ensures runs { λ r. ⌜ r .runs ≡ mapRuns q b ⌝ }
 {
     let runs = b.runs;
-    if q.p1 != 64 {
+    if q.p1 != Request::ANY_PAGE {
         return Left {
             held: held,
             runs: runs,
@@ -94,7 +95,8 @@ pub fn give_up(table: &[u16], runs: Runs, kept: Held, share: u8, sandbox: u8) ->
     requires { ⌜ sandbox < 4 ⌝ }
     requires { ⌜ length (now table) ≡ 512 ⌝ }
     requires { ⌜ usedBelow (from (sandbox * 128) (now table)) 128 < share ⌝ }
-    ensures { λ r. ⌜ GaveUp (ltb share (usedBelow (from (sandbox * 128) (now (table .entry))) 128 + keptBy (row runs) + 1)) runs kept r ⌝ }
+    ensures { λ r. ⌜ (let named = usedBelow (from (sandbox * 128) (now (table .entry))) 128 in
+        GaveUp (ltb share (named + keptBy (row runs) + 1)) runs kept r) ⌝ }
 {
     let most = runs.kept();
     if most == 0 {

@@ -1,21 +1,22 @@
 // "Rewind", page by page.
 ghost use mathlib.Core.Path.{_≡_};
-ghost use Prim.Native.Nat.{_*_, _≤_, _<_};
-ghost use lib.ListN.{length};
-ghost use Rattle.interface.specs.Slots.{isCommitted, backingAt};
-ghost use Rattle.table.specs.Store.{kept, frontOf, backOf, Ranged, rewindPage, rewindTo};
-ghost use Rattle.table.specs.Source.{sourceBytes, sourceEnd};
+ghost use Prim.Native.Nat.{_*_, _<_};
+ghost use lib.Dec.{eqb};
+ghost use lib.ListN.{length, getD};
+ghost use Rattle.basics.specs.Choice.{_when_else_};
+ghost use Rattle.table.specs.Store.{kept, frontOf, Ranged, rewindTo};
 ghost use Rattle.areas.specs.Areas.{slots, Near};
+ghost use Rattle.state.specs.World.{pagesIn};
 ghost use Rattle.rules.specs.Ready.{Ready};
-ghost use Rattle.content.specs.Content.{sourceOf, copyPage};
+ghost use Rattle.content.specs.Content.{copyPage};
 ghost use Rattle.memory.specs.Memory.{keepsFront};
 use areas::area::Areas;
-use slots::backing_at;
-use slots::is_committed;
-use content::read::source_of;
+use filling::store::restore_page;
 use frames::Held;
 use interface::page::PageNo;
+use interface::page::Slot;
 use state::sandbox::Sandbox;
+use table::page::VirtualPage;
 
 // "Rewind": each front keeps its frame with the snapshot's bytes, or is freed and cleared. A committed page agrees with the snapshot's in backing, so
 // the present areas alone are looked up.
@@ -26,48 +27,45 @@ pub fn rewind(
     image: &[u8],
     b: Sandbox,
     s: u8,
-    images: u8,
 ) -> Held
     requires { ⌜ s < 4 ⌝ }
-    requires { ⌜ Ready images b ⌝ }
-    requires { ⌜ length (now image) ≡ images * 256 ⌝ }
+    requires { ⌜ Ready (pagesIn (length (now image))) b ⌝ }
     requires { ⌜ Ranged 256 (now pool) (now table) ⌝ }
-    ensures { λ r. ⌜ kept r (now (pool .exit)) (now (table .exit)) ≡ rewindTo 256 (s * 128) (keepsFront b) (copyPage (now (image .entry)) b)
-        (kept held (now (pool .entry)) (now (table .entry))) 64 ⌝ }
+    ensures { λ r. ⌜ (let before = kept held (now (pool .entry)) (now (table .entry)) in
+        kept r (now (pool .exit)) (now (table .exit))
+        ≡ rewindTo 256 (s * 128) (keepsFront b) (copyPage (now (image .entry)) b) before 64) ⌝ }
 {
     let present = b.present;
     let mut h = held;
-    for i in 0..64u8 {
-        h = rewind_page(h, pool, table, image, present, s, PageNo(i));
+    for i in 0..Areas::PAGES {
+        let page = page_of(table, present, s, PageNo(i));
+        h = restore_page(h, pool, table, image, page);
     }
     h
 }
 
-// One page of a rewind. Without a front there is nothing to do, and nothing is looked up.
-fn rewind_page(
-    held: Held,
-    pool: &mut [u8],
-    table: &mut [u16],
-    image: &[u8],
-    present: Areas,
-    s: u8,
-    page: PageNo,
-) -> Held
+// A page with what stands there. Without a front there is nothing to restore, and nothing is looked up.
+fn page_of(table: &[u16], present: Areas, s: u8, number: PageNo) -> VirtualPage
     requires { ⌜ s < 4 ⌝ }
-    requires { ⌜ page .0 < 64 ⌝ }
+    requires { ⌜ number .0 < 64 ⌝ }
+    requires { ⌜ length (now table) ≡ 512 ⌝ }
     requires { ⌜ Near (present .list) ⌝ }
-    requires { ⌜ Ranged 256 (now pool) (now table) ⌝ }
-    requires { ⌜ sourceEnd (sourceOf (backingAt (slots present (page .0)))) * 256 ≤ length (now image) ⌝ }
-    ensures { λ r. ⌜ kept r (now (pool .exit)) (now (table .exit)) ≡ rewindPage 256 (frontOf s (page .0)) (backOf s (page .0))
-        (isCommitted (slots present (page .0))) (sourceBytes (now (image .entry)) (sourceOf (backingAt (slots present (page .0)))))
-        (kept held (now (pool .entry)) (now (table .entry))) ⌝ }
+    ensures { λ r. ⌜ (let front = getD (now (table .entry)) (frontOf s (number .0)) 0 in
+        let slot = Slot.Unmapped when eqb front 0 else slots present (number .0) in
+        r ≡ record { sandbox = s; number = number; slot = slot }) ⌝ }
 {
-    let front = table::entry::front(table, s, page);
+    let front = table::entry::front(table, s, number);
     if front == 0 {
-        return held;
+        return VirtualPage {
+            sandbox: s,
+            number: number,
+            slot: Slot::Unmapped,
+        };
     }
-    let slot = present.slot(page);
-    let keep = is_committed(slot);
-    let source = source_of(backing_at(slot));
-    filling::store::restore_page(held, pool, table, image, s, page, keep, source)
+    let slot = present.slot(number);
+    VirtualPage {
+        sandbox: s,
+        number: number,
+        slot: slot,
+    }
 }

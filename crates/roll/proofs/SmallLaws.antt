@@ -40,7 +40,8 @@ use Rattle.kept.specs.Spare.{keptBy}
 use Rattle.areas.specs.Areas.{slots}
 use Rattle.state.specs.declared.sandbox.Sandbox.{Sandbox}
 use Rattle.state.specs.World.{World, sandboxAt}
-use Rattle.content.specs.Content.{backingPage, pageUnder, pageRead, differing}
+use Rattle.table.specs.Backing.{backingPage}
+use Rattle.content.specs.Content.{pageUnder, pageRead, differing}
 use Rattle.memory.specs.Memory.{heldBy, valueAt}
 use Rattle.machine.specs.Step.{viewAt, Outcome, Stepped, step, numberAt}
 use Rattle.roll.specs.Play.{FitsLine}

@@ -18,7 +18,7 @@ use Rattle.pages.specs.Parts.{frame}
 use Rattle.pages.proofs.PartLaws.{frame-at, getD-zeros}
 use Rattle.table.specs.Store.{backOf}
 use Rattle.areas.specs.Areas.{slots}
-use Rattle.content.specs.Content.{backingPage}
+use Rattle.table.specs.Backing.{backingPage}
 use Rattle.plain.specs.Machine.{backingByte}
 use Rattle.archive.specs.Archive.{joined, only}
 use Rattle.archive.proofs.TextLaws.{only-length, joined-length}

@@ -10,9 +10,8 @@ use Rattle.interface.specs.declared.request.Request.{Request}
 use Rattle.interface.specs.Requests.{requestOf, Write}
 use Rattle.interface.specs.Slots.{isMapped, backingAt}
 use Rattle.table.specs.Store.{backOf, pageIn, pageFrom, Ranged}
-use Rattle.table.specs.Source.{sourceEnd}
+use Rattle.table.specs.Backing.{backingPage, backingEnd}
 use Rattle.areas.specs.Areas.{slots, Near}
-use Rattle.content.specs.Content.{sourceOf, backingPage}
 use Rattle.plain.specs.Machine.{backingByte}
 use Rattle.archive.specs.Archive.{joined, only}
 use Rattle.segments.specs.declared.Snapshot.{Snapshot}
@@ -45,4 +44,4 @@ pub record Readable (image pool table : List ℕ) (b : Snapshot) : Type 0 where
   pub row : b .sandbox < 4
   pub near : Near (b .areas .list)
   pub ranged : Ranged 256 pool table
-  pub backed : (i : ℕ) → sourceEnd (sourceOf (backingAt (slots (b .areas) i))) * 256 ≤ length image
+  pub backed : (i : ℕ) → backingEnd (backingAt (slots (b .areas) i)) * 256 ≤ length image

@@ -6,8 +6,7 @@ ghost use Rattle.interface.specs.Requests.{requestOf, Write};
 ghost use Rattle.interface.specs.Slots.{backingAt};
 ghost use Rattle.pages.specs.Parts.{frame};
 ghost use Rattle.table.specs.Store.{Ranged};
-ghost use Rattle.table.specs.Source.{sourceEnd};
-ghost use Rattle.content.specs.Content.{sourceOf};
+ghost use Rattle.table.specs.Backing.{backingEnd};
 ghost use Rattle.plain.specs.Machine.{backingByte};
 ghost use Rattle.printing.specs.Put.{placed, put, Room};
 ghost use Rattle.segments.specs.ByPages.{bytesOf, pageLines, writesOf, Readable};
@@ -18,11 +17,11 @@ use slots::is_mapped;
 use frames::FrameNo;
 use interface::page::Backing;
 use interface::page::PageNo;
-use interface::page::Slot;
 use interface::request::Request;
 use printing::Cursor;
 use printing::put_if;
 use table::entry::frame_of;
+use table::page::VirtualPage;
 
 // The writes of a snapshot, page by page.
 pub fn put_writes(
@@ -43,7 +42,7 @@ pub fn put_writes(
     for i in 0..Areas::PAGES {
         let number = PageNo(i);
         let slot = areas.slot(number);
-        let page = Page {
+        let page = VirtualPage {
             sandbox: snapshot.sandbox,
             number: number,
             slot: slot,
@@ -53,26 +52,19 @@ pub fn put_writes(
     next
 }
 
-// A page of the snapshot: whose it is, its number, and what stands there.
-struct Page {
-    sandbox: u8,
-    number: PageNo,
-    slot: Slot,
-}
-
 // One page. Without a back it has its backing's bytes, and none is looked at.
 fn put_page(
     pool: &[u8],
     table: &[u16],
     image: &[u8],
-    page: Page,
+    page: VirtualPage,
     out: &mut [u8],
     to: Cursor,
 ) -> Cursor
     requires { ⌜ page .sandbox < 4 ⌝ }
     requires { ⌜ page .number .0 < 64 ⌝ }
     requires { ⌜ Ranged 256 (now pool) (now table) ⌝ }
-    requires { ⌜ sourceEnd (sourceOf (backingAt (page .slot))) * 256 ≤ length (now image) ⌝ }
+    requires { ⌜ backingEnd (backingAt (page .slot)) * 256 ≤ length (now image) ⌝ }
     requires { ⌜ Room to (now out) (pageLines (now image) (now pool) (now table) (page .sandbox) (page .number .0) (page .slot)) ⌝ }
     ensures { λ r. ⌜ placed r (now (out .exit)) ≡ put to (now (out .entry))
         (pageLines (now (image .entry)) (now (pool .entry)) (now (table .entry)) (page .sandbox) (page .number .0) (page .slot)) ⌝ }
@@ -93,13 +85,13 @@ fn put_page(
 fn put_bytes(
     pool: &[u8],
     image: &[u8],
-    page: Page,
+    page: VirtualPage,
     f: FrameNo,
     out: &mut [u8],
     to: Cursor,
 ) -> Cursor
     requires { ⌜ f .0 * 256 + 256 ≤ length (now pool) ⌝ }
-    requires { ⌜ sourceEnd (sourceOf (backingAt (page .slot))) * 256 ≤ length (now image) ⌝ }
+    requires { ⌜ backingEnd (backingAt (page .slot)) * 256 ≤ length (now image) ⌝ }
     requires { ⌜ Room to (now out) (bytesOf (now image) (page .sandbox) (page .number .0) (page .slot) (frame 256 (now pool) (f .0))) ⌝ }
     ensures { λ r. ⌜ placed r (now (out .exit)) ≡ put to (now (out .entry))
         (bytesOf (now (image .entry)) (page .sandbox) (page .number .0) (page .slot) (frame 256 (now (pool .entry)) (f .0))) ⌝ }
@@ -110,14 +102,14 @@ fn put_bytes(
     for j in 0..PageNo::BYTES {
         let offset = j as u8;
         let byte = pool::read_byte(pool, f, offset);
-        let old = source_byte(image, backing, offset);
+        let old = backing_byte(image, backing, offset);
         next = put_if(out, next, write_line(page, offset, byte), byte != old);
     }
     next
 }
 
 // The write of one byte of a page.
-fn write_line(page: Page, offset: u8, byte: u8) -> Request
+fn write_line(page: VirtualPage, offset: u8, byte: u8) -> Request
     ensures { λ r. ⌜ r ≡ requestOf Write (page .sandbox) (page .number .0 * 256 + offset) byte 0 0 0 ⌝ }
 {
     Request {
@@ -132,8 +124,8 @@ fn write_line(page: Page, offset: u8, byte: u8) -> Request
 }
 
 // "its page's zero or image byte"
-fn source_byte(image: &[u8], backing: Backing, offset: u8) -> u8
-    requires { ⌜ sourceEnd (sourceOf backing) * 256 ≤ length (now image) ⌝ }
+fn backing_byte(image: &[u8], backing: Backing, offset: u8) -> u8
+    requires { ⌜ backingEnd backing * 256 ≤ length (now image) ⌝ }
     ensures { λ r. ⌜ r ≡ backingByte (now (image .entry)) backing offset ⌝ }
 {
     match backing {

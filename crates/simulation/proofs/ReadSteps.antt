@@ -22,7 +22,8 @@ use Rattle.areas.specs.Areas.{slots}
 use Rattle.areas.specs.Formed.{ImagesExist}
 use Rattle.state.specs.declared.sandbox.Sandbox.{Sandbox}
 use Rattle.state.specs.World.{pagesIn}
-use Rattle.content.specs.Content.{backingPage, pageUnder, pageRead, copyPage, copyRead}
+use Rattle.table.specs.Backing.{backingPage}
+use Rattle.content.specs.Content.{pageUnder, pageRead, copyPage, copyRead}
 use Rattle.plain.specs.Machine.{Given, Kept, copySlots, copyBytes, backingByte}
 use Rattle.plain.specs.Claims.{Keeps, Reads}
 use Rattle.simulation.specs.Lent.{Lent}

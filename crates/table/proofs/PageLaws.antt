@@ -5,10 +5,13 @@ use mathlib.Core.List.{List}
 use Prim.Native.Nat.{ℕ, zero, suc, _-_, _*_, _≤_}
 use native.Mathlib.Omega.{arith}
 use borrow.Author.Tests.{ne-eqb}
-use lib.ListN.{length, getD}
+use lib.ListN.{length, getD, set}
 use Rattle.basics.specs.Choice.{_when_else_}
-use Rattle.pages.specs.Parts.{frame, setFrame}
-use Rattle.table.specs.Store.{Store, kept, entry, pageIn, contents, pageFrom, underFront, Ranged, fill, free, rewindPage}
+use Rattle.frames.specs.declared.Held.{Held}
+use Rattle.frames.specs.Frames.{mark}
+use Rattle.pages.specs.Parts.{frame, setFrame, zeros}
+use Rattle.table.specs.Store.{Store, kept, entry, pageIn, contents, pageFrom, underFront, Ranged}
+use Rattle.table.specs.Store.{put, free, fill, storeByte, rewindPage}
 use Rattle.table.proofs.FiledLaws.{zero-times}
 
 -- the bytes of the frame that an entry names, which names one
@@ -37,19 +40,37 @@ under-if size s k bytes false = refl
 
 module _ (size : ℕ) (s : Store) (k j : ℕ) (bytes : List ℕ) (committed : Bool) (front under : ℕ)
     (is-front : front ≡ entry s k) (is-under : under ≡ (entry s j when committed else 0)) where
-  pub reads-front : (front ≡ 0 → ⊥) → frame size (s .pool) (front - 1) ≡ pageFrom (underFront committed bytes (contents size s j)) (contents size s k)
+  -- what it reads, by its entries
+  abbrev pub readBytes : List ℕ
+  readBytes = pageFrom (underFront committed bytes (contents size s j)) (contents size s k)
+
+  pub reads-front : (front ≡ 0 → ⊥) → frame size (s .pool) (front - 1) ≡ readBytes
   unfolding contents
   reads-front d = rw (← is-front) (page-there size (s .pool) (underFront committed bytes (contents size s j)) front d)
 
-  reads-beneath : front ≡ 0 → pageFrom bytes (pageIn size (s .pool) under) ≡ pageFrom (underFront committed bytes (contents size s j)) (contents size s k)
+  reads-beneath : front ≡ 0 → pageFrom bytes (pageIn size (s .pool) under) ≡ readBytes
   unfolding contents
   reads-beneath e = rw (← is-front, e, is-under) (under-if size s j bytes committed)
 
-  pub reads-back : front ≡ 0 → (under ≡ 0 → ⊥) → frame size (s .pool) (under - 1) ≡ pageFrom (underFront committed bytes (contents size s j)) (contents size s k)
+  pub reads-back : front ≡ 0 → (under ≡ 0 → ⊥) → frame size (s .pool) (under - 1) ≡ readBytes
   reads-back e d = page-there size (s .pool) bytes under d ∙ reads-beneath e
 
-  pub reads-source : front ≡ 0 → under ≡ 0 → bytes ≡ pageFrom (underFront committed bytes (contents size s j)) (contents size s k)
-  reads-source e z = ap (λ (x : ℕ). pageFrom bytes (pageIn size (s .pool) x)) (sym z) ∙ reads-beneath e
+  pub reads-backing : front ≡ 0 → under ≡ 0 → bytes ≡ readBytes
+  reads-backing e z = ap (λ (x : ℕ). pageFrom bytes (pageIn size (s .pool) x)) (sym z) ∙ reads-beneath e
+
+-- ---- an entry that names a frame gives it up
+
+pub free-some : (size k : ℕ) (s : Store) (f : ℕ) (marks : Held) (pool : List ℕ) → (entry s k ≡ 0 → ⊥) → f ≡ entry s k - 1
+    → marks ≡ mark (s .marks) f 0 → pool ≡ setFrame size (s .pool) f (zeros size) → kept marks pool (set (s .table) k 0) ≡ free size k s
+unfolding free put
+free-some size k s f marks pool d named m p = rw (ne-eqb (entry s k) 0 d, ← named, m, p)
+
+-- ---- a byte of its frame is stored
+
+pub store-some : (size k offset byte : ℕ) (s : Store) (front f : ℕ) (pool : List ℕ) → front ≡ entry s k → (front ≡ 0 → ⊥) → f ≡ front - 1
+    → pool ≡ setFrame size (s .pool) f (set (frame size (s .pool) f) offset byte) → kept (s .marks) pool (s .table) ≡ storeByte size k offset byte s
+unfolding storeByte fill
+store-some size k offset byte s front f pool is-front d named p = rw (← is-front, ne-eqb front 0 d, ← named, p)
 
 -- ---- a page that is rewound
 
@@ -59,6 +80,7 @@ module _ (size k j : ℕ) (keep : Bool) (bytes : List ℕ) (s : Store) where
   restore-free e = rw e
 
   pub restore-fill : (front back : ℕ) (pool : List ℕ) → keep ≡ true → front ≡ entry s k → (front ≡ 0 → ⊥) → back ≡ entry s j
-      → pool ≡ setFrame size (s .pool) (front - 1) (pageFrom bytes (pageIn size (s .pool) back)) → kept (s .marks) pool (s .table) ≡ rewindPage size k j keep bytes s
+      → pool ≡ setFrame size (s .pool) (front - 1) (pageFrom bytes (pageIn size (s .pool) back))
+      → kept (s .marks) pool (s .table) ≡ rewindPage size k j keep bytes s
   unfolding rewindPage fill contents
   restore-fill front back pool e is-front d is-back p = rw (e, ← is-front, ne-eqb front 0 d, ← is-back, p)

@@ -89,8 +89,8 @@ rewind-kept size k j true ys s g w =
     (λ f e. rw (contents-some size s j f e) (length-frame size (s .pool) f (room-of size s g j f e))))
 rewind-kept size k j false ys s g w = free-kept size k s g
 
-pub rewind-kept-as : (size k j : ℕ) (keep : Bool) (ys : List ℕ) (s r : Store) → r ≡ rewindPage size k j keep ys s → Ranged size (s .pool) (s .table) → length ys ≡ size
-    → Kept size s r
+pub rewind-kept-as : (size k j : ℕ) (keep : Bool) (ys : List ℕ) (s r : Store) → r ≡ rewindPage size k j keep ys s
+    → Ranged size (s .pool) (s .table) → length ys ≡ size → Kept size s r
 rewind-kept-as size k j keep ys s r e g w = rw e (rewind-kept size k j keep ys s g w)
 
 -- a turn of the loop

@@ -6,15 +6,15 @@ use Prim.Native.Nat.{ℕ, _*_, _≤_}
 use native.Mathlib.Omega.{arith}
 use lib.ListN.{length}
 use Rattle.pages.proofs.PartLaws.{length-zeros, length-frame}
-use Rattle.table.specs.declared.source.Source.{Source}
-use Rattle.table.specs.declared.source.Source.the-variants.{Zero, Image}
+use Rattle.interface.specs.declared.page.Backing.{Backing}
+use Rattle.interface.specs.declared.page.Backing.the-variants.{Anonymous, Image}
 use Rattle.table.specs.Store.{Store, contents, underFront, Tidy}
-use Rattle.table.specs.Source.{sourceBytes, sourceEnd}
+use Rattle.table.specs.Backing.{backingPage, backingEnd}
 use Rattle.table.proofs.StoreLaws.{page-whole}
 
-pub source-whole : (image : List ℕ) (source : Source) → sourceEnd source * 256 ≤ length image → length (sourceBytes image source) ≡ 256
-source-whole image Zero fits = length-zeros 256
-source-whole image (Image page) fits = length-frame 256 image (page .0) (omega arith)
+pub backing-whole : (image : List ℕ) (backing : Backing) → backingEnd backing * 256 ≤ length image → length (backingPage image backing) ≡ 256
+backing-whole image Anonymous fits = length-zeros 256
+backing-whole image (Image page) fits = length-frame 256 image (page .0) (omega arith)
 
 pub under-whole : {C : ℕ → Type 0} (size n : ℕ) (s : Store) → Tidy C size n s → (k : ℕ) (bytes : List ℕ) → length bytes ≡ size
     → (committed : Bool) → length (underFront committed bytes (contents size s k)) ≡ size

@@ -1,3 +1,4 @@
 -- In reading order.
 pub mod Store
-pub mod Source
+pub mod Backing
+pub mod Virtual

@@ -55,7 +55,7 @@ abbrev pub pageFrom : List ℕ → Option (List ℕ) → List ℕ
 pageFrom bytes none = bytes
 pageFrom bytes (some page) = page
 
--- 'else, if committed, its back frame; else zero bytes or its image page': what a page without a front reads, its source's bytes given
+-- 'else, if committed, its back frame; else zero bytes or its image page': what a page without a front reads, its backing's bytes given
 abbrev pub underFront : Bool → List ℕ → Option (List ℕ) → List ℕ
 underFront committed bytes back = pageFrom bytes back when committed else bytes
 

@@ -49,9 +49,10 @@ pub fn back_if(table: &[u16], sandbox: u8, page: PageNo, committed: bool) -> u16
 pub fn move_fronts(table: &mut [u16], sandbox: u8)
     requires { ⌜ sandbox < 4 ⌝ }
     requires { ⌜ length (now table) ≡ 512 ⌝ }
-    ensures { λ r. ⌜ ((h : Words) (pool : List ℕ) → kept h pool (now (table .exit)) ≡ moveTo (sandbox * 128) (kept h pool (now (table .entry))) 64) ⌝ }
+    ensures { λ r. ⌜ ((h : Words) (pool : List ℕ) → let before = kept h pool (now (table .entry)) in
+        kept h pool (now (table .exit)) ≡ moveTo (sandbox * 128) before 64) ⌝ }
 {
-    for i in 0..64u8 {
+    for i in 0..PageNo::COUNT as u8 {
         move_front(table, sandbox, PageNo(i));
     }
 }
@@ -61,9 +62,8 @@ fn move_front(table: &mut [u16], sandbox: u8, page: PageNo)
     requires { ⌜ sandbox < 4 ⌝ }
     requires { ⌜ page .0 < 64 ⌝ }
     requires { ⌜ length (now table) ≡ 512 ⌝ }
-    ensures { λ r. ⌜
-        ((h : Words) (pool : List ℕ) → kept h pool (now (table .exit))
-        ≡ move (frontOf sandbox (page .0)) (backOf sandbox (page .0)) (kept h pool (now (table .entry)))) ⌝ }
+    ensures { λ r. ⌜ ((h : Words) (pool : List ℕ) → let before = kept h pool (now (table .entry)) in
+        kept h pool (now (table .exit)) ≡ move (frontOf sandbox (page .0)) (backOf sandbox (page .0)) before) ⌝ }
 {
     let from = front_index(sandbox, page);
     let to = from + PageNo::COUNT;

@@ -3,7 +3,15 @@
 // laws (proofs/), each act on the store changes what its own entry holds and no other's, the marks stay those of the frames named, and a frame
 // that is given up is zero. So nothing above speaks of a frame but for the one that a write takes. Fronts are freed in `freeing` and filled in
 // `filling`, and pages are read in `reading`.
-// It stands on `pool` and `pages` for the bytes of a frame, on `frames` for the held marks, on `marks` for the frames that entries name, and on
-// `interface` for the number of a page.
+// It stands on `pages` for the bytes of a frame, on `frames` for the held marks, on `marks` for the frames that entries name, and on
+// `interface` for what a page is.
 pub mod entry;
-pub mod source;
+pub mod page;
+
+pub use entry::back;
+pub use entry::back_if;
+pub use entry::frame_of;
+pub use entry::front;
+pub use entry::front_index;
+pub use entry::move_fronts;
+pub use page::VirtualPage;

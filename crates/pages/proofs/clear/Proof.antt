@@ -1,8 +1,9 @@
--- The bytes before i are zero, the others as they were: one more is cleared at each turn.
+-- The bytes before i are zero, the others as they were.
 use Prim.Native.Nat.{_-_}
-use lib.ListN.{length}
+use native.Mathlib.Omega.{arith}
 use borrow.Author.Needs.{needs}
-use Rattle.pages.proofs.ClearedLaws.{Cleared, cleared-start, cleared-next, cleared-all}
+use lib.ListN.{length}
+use Rattle.pages.proofs.ClearLaws.{Cleared, cleared-first, cleared-next, cleared-last}
 use Rattle.pages.proofs.clear.Statement.{statement}
 use Rattle.pages.proofs.clear.Tie as tie
 
@@ -13,7 +14,7 @@ abbrev μ-loop : tie.MeasureT-loop
 μ-loop part₀ i₀ i-end part i = length part₀ - i
 
 loop-holds : tie.Need-loop-holds Inv-loop μ-loop
-loop-holds c = cleared-start (c .args .part .now)
+loop-holds c = cleared-first _
 
 slice-write-part : tie.Need-slice-write-part Inv-loop μ-loop
 slice-write-part c = search needs
@@ -25,13 +26,13 @@ loop-less : tie.Need-loop-less Inv-loop μ-loop
 loop-less c = search needs
 
 loop-again : tie.Need-loop-again Inv-loop μ-loop
-loop-again c = let l = c .before .loop in cleared-next (c .before .before .args .part .now) _ (l .i) (l .inv) (c .loop-test .taken)
+loop-again c = cleared-next _ _ (c .before .loop .i) (c .before .loop .inv) (omega arith)
 
 same-length : tie.Need-same-length Inv-loop μ-loop
 same-length c = search needs
 
 returns : tie.Need-returns Inv-loop μ-loop
-returns c = let l = c .before .loop in cleared-all (c .before .before .args .part .now) _ (l .i) (l .inv) (c .loop-test .left)
+returns c = cleared-last _ _ (c .before .loop .i) (c .before .loop .inv) (omega arith)
 
 pub clear-spec : {M : Type 1} → statement M
 clear-spec =

@@ -8,13 +8,23 @@ use Rattle.reuse.proofs.ReuseLaws.{gave-none, gave-one, longest-has, no
 use Rattle.reuse.proofs.give_up.Statement.{statement}
 use Rattle.reuse.proofs.give_up.Tie as tie
 
+-- behind what is kept and used, and behind the longest run
+
+abbrev behind : tie.After-kept → tie.Start
+behind c = c .before .before
+
+abbrev counted : tie.After-used → tie.After-kept
+counted c = c .before .before
+
+abbrev found : tie.After-at → tie.After-used
+found c = c .before .before .before
+
 -- the longest run has a frame
 some : (c : tie.After-at) → 1 ≤ countHeld (c .at .result)
 some c =
-    let kept = c .before .before .before .before .before .kept in
-    let s = c .before .before .before .before .before .before .before in
-    longest-has (s .args .runs) (c .before .longest .result) (kept .result) (c .at .result) (kept .ensures .0) (c .before .before .before .before .if1 .left)
-    (c .before .longest .ensures .0) (c .at .ensures)
+    let kept = counted (found c) .kept in
+    longest-has (behind (counted (found c)) .args .runs) (c .before .longest .result) (kept .result) (c .at .result) (kept .ensures .0)
+    (found c .before .if1 .left) (c .before .longest .ensures .0) (c .at .ensures)
 
 kept-requires : tie.Need-kept-requires
 kept-requires c κs = search needs
@@ -32,10 +42,10 @@ add-if2 c = search needs
 
 returns-2 : tie.Need-returns-2
 returns-2 c =
-    let s = c .before .before .before .before .before in
-    let kept = c .before .before .before .kept in
-    gave-none _ (s .args .runs) (s .args .kept)
-    (within-share (s .args .share) _ (kept .result) (s .args .runs) (kept .ensures .0) (omega (arith, c .if2 .taken, c .before .used .ensures .0)))
+    let kept = counted (c .before) in
+    let a = behind kept .args in
+    gave-none _ (a .runs) (a .kept)
+    (within-share (a .share) _ (kept .kept .result) (a .runs) (kept .kept .ensures .0) (omega (arith, c .if2 .taken, c .before .used .ensures .0)))
 
 longest-requires : tie.Need-longest-requires
 longest-requires c κs = search needs
@@ -58,17 +68,16 @@ without-requires-2 c κs =
 
 returns-3 : tie.Need-returns-3
 returns-3 c =
-    let found = c .before .before .before in
-    let there = found .before in
-    let kept = there .before .before .before .before .before .kept in
-    let s = there .before .before .before .before .before .before .before in
-    let run = there .at .result in
-    let place = there .before .longest .result in
-    rw (c .before .with .ensures, c .before .before .without .ensures, c .without2 .ensures, found .least .ensures)
-    (gave-one _ (s .args .runs) (s .args .kept) place run
-    (above-share (s .args .share) _ (kept .result) (s .args .runs) (kept .ensures .0)
-    (omega (arith, there .before .before .if2 .left, there .before .before .before .used .ensures .0)))
-    (there .before .longest .ensures .0) (there .at .ensures) (some there))
+    let least = c .before .before .before in
+    let run = least .before in
+    let used = found run in
+    let kept = counted used in
+    let a = behind kept .args in
+    rw (c .before .with .ensures, c .before .before .without .ensures, c .without2 .ensures, least .least .ensures)
+    (gave-one _ (a .runs) (a .kept) (run .before .longest .result) (run .at .result)
+    (above-share (a .share) _ (kept .kept .result) (a .runs) (kept .kept .ensures .0)
+    (omega (arith, run .before .before .if2 .left, used .used .ensures .0)))
+    (run .before .longest .ensures .0) (run .at .ensures) (some run))
 
 pub give-up-spec : {M : Type 1} → statement M
 give-up-spec =

@@ -1,3 +1,4 @@
+-- Each way out is one side of the choice.
 use borrow.Author.Tests.{le-leb, lt-leb}
 use Rattle.reuse.proofs.lesser.Statement.{statement}
 use Rattle.reuse.proofs.lesser.Tie as tie

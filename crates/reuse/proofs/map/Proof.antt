@@ -15,6 +15,13 @@ use borrow.Author.Needs.{needs}
 use Rattle.reuse.proofs.map.Statement.{statement}
 use Rattle.reuse.proofs.map.Tie as tie
 
+-- behind the two tests
+abbrev unnamed : tie.Else1 → tie.Start
+unnamed c = c .before .before .before .before
+
+abbrev tested : tie.After-at → tie.Else2
+tested c = c .before .before .before
+
 -- ---- what is known once it is counted how many frames the pages get
 
 abbrev sought : tie.After-lesser → tie.After-first-of
@@ -24,7 +31,7 @@ abbrev chosen : tie.After-lesser → tie.After-at
 chosen c = sought c .before .before
 
 abbrev behind : tie.After-lesser → tie.Start
-behind c = chosen c .before .before .before .before .before .before .before .before .before
+behind c = unnamed (tested (chosen c) .before .before)
 
 abbrev place-is : (c : tie.After-lesser) → chosen c .before .fitting .result ≡ runFor (behind c .args .q .p2) (lengthsOf (behind c .args .b .runs))
 place-is c = chosen c .before .fitting .ensures .0
@@ -41,9 +48,13 @@ run-here c = chosen c .at .ensures ∙ ap (row (behind c .args .b .runs)) (place
 frames-here : (c : tie.After-lesser) → c .lesser .result ≡ granted (behind c .args .q .p2) (lengthsOf (behind c .args .b .runs))
 frames-here c =
     let s = behind c in
-    frames-there (s .args .q) (s .args .b) (s .pre .0) (chosen c .before .before .before .before .before .if1 .left)
-    (chosen c .before .before .before .if2 .left)
+    frames-there (s .args .q) (s .args .b) (s .pre .0) (tested (chosen c) .before .before .if1 .left)
+    (tested (chosen c) .if2 .left)
     _ (c .lesser .result) _ (place-is c) (chosen c .at .ensures) (counted c)
+
+-- behind the frames that are granted
+abbrev grantedBy : tie.After-with → tie.After-grant
+grantedBy c = c .before .before .before .before .before
 
 -- ---- the needs
 
@@ -55,7 +66,7 @@ returns c =
 
 returns-2 : tie.Need-returns-2
 returns-2 c =
-    let s = c .before .before .before .before .before .before in
+    let s = unnamed (c .before .before) in
     let none = image-none (s .args .q) (c .if2 .taken) in
     (λ pool. untaken-store (s .args .q) (s .args .b) _ none, untaken-runs (s .args .q) (s .args .b) none)
 
@@ -70,9 +81,9 @@ at-requires c κs = search needs
 
 first-of-requires : tie.Need-first-of-requires
 first-of-requires c κs =
-    let s = c .before .before .before .before .before .before .before .before .before .before in
+    let s = unnamed (tested (c .before) .before .before) in
     let ready = s .pre .1 .1 .1 .0 in
-    (near (s .args .images) (s .args .b .present) (ready .present) (ready .few), (s .pre .0, s .pre .1 .1 .0))
+    (near (ready .0) (s .args .b .present) (ready .1 .present) (ready .1 .few), (s .pre .0, s .pre .1 .1 .0))
 
 cast-at : tie.Need-cast-at
 cast-at c = search needs
@@ -109,11 +120,11 @@ same-length c = search needs
 
 returns-3 : tie.Need-returns-3
 returns-3 c =
-    let granting = c .before .before .before .before .before in
+    let granting = grantedBy c in
     let counting = granting .before in
     let s = behind counting in
-    let named = chosen counting .before .before .before .before .before .if1 .left in
-    let image = chosen counting .before .before .before .if2 .left in
+    let named = tested (chosen counting) .before .before .if1 .left in
+    let image = tested (chosen counting) .if2 .left in
     let place = chosen counting .before .fitting .result in (
       λ pool. granting .grant .ensures .0 pool
           ∙ taken-store (s .args .q) (s .args .b) (s .pre .0) named image place (counting .lesser .result) (chosen counting .at .result) (place-is counting)

@@ -9,6 +9,10 @@ use Rattle.reuse.proofs.ReuseLaws.{both-free, free-both}
 use Rattle.reuse.proofs.unheld_frame.Statement.{statement}
 use Rattle.reuse.proofs.unheld_frame.Tie as tie
 
+-- where the frame was sought
+abbrev sought : tie.After-found → tie.After-greatest-free
+sought c = c .before .before
+
 both-requires : tie.Need-both-requires
 both-requires c κs = search needs
 
@@ -23,11 +27,12 @@ enum-told c = search needs
 
 returns : tie.Need-returns
 returns c =
-    let s = c .before .before .before .before .before in
-    let free = c .before .before .before .greatest-free in
-    let both = c .before .before .before .before .both in
-    let g = greatest-found (held (both .result)) (s .args .frames) (c .before .found .given .0 .0) (sym (free .ensures) ∙ c .before .found .given .1) in
-    let f = c .before .found .given .0 .0 .0 in
+    let free = sought (c .before) in
+    let both = free .before .both in
+    let s = free .before .before in
+    let found = c .before .found .given in
+    let f = found .0 .0 .0 in
+    let g = greatest-found (held (both .result)) (s .args .frames) (found .0 .0) (sym (free .greatest-free .ensures) ∙ found .1) in
     let two =
     both-free (s .args .named) (s .args .kept) f (omega (arith, g .within, s .pre .0)) (ap (λ (h : Held). held h f) (sym (both .ensures)) ∙ g .free) in
     (g .within, (two .0, two .1))

@@ -1,10 +1,10 @@
+-- Each test settles the comparison, up to the last, which compares bytes.
 use mathlib.Core.Path.{_≡_, sym, ap, _∙_}
 use mathlib.Core.Bool.{Bool, true, not}
 use borrow.Author.Tests.{not-true, not-false}
 use Rattle.interface.specs.Slots.{isMapped}
 use Rattle.interface.specs.Compare.{agree}
 use Rattle.pages.specs.Parts.{sameBytes}
-use Rattle.content.specs.Content.{sourceOf}
 use Rattle.content.proofs.CompareLaws.{readsNow, readsCopied, absent, lost, other-rights, bytes-decide, passed-over, looked-at}
 use borrow.Author.Needs.{needs}
 use Rattle.content.proofs.compare.agrees.Statement.{statement}
@@ -31,18 +31,26 @@ behindCopied c = behindMapped (c .before .before)
 copied : (c : tie.Else2) → isMapped (behindCopied c .args .snapshot) ≡ true
 copied c = sym (c .before .is-mapped3 .ensures) ∙ not-false (c .before .is-mapped3 .result) (c .if2 .left)
 
+-- behind the rights of both
+abbrev untested : tie.Else3 → tie.Else2
+untested c = c .before .before .before
+
 abbrev behindRights : tie.Else3 → tie.Start
-behindRights c = behindCopied (c .before .before .before)
+behindRights c = behindCopied (untested c)
 
 -- with the same rights its bytes decide
-decided : (c : tie.Else3) → sameIn (behindRights c) ≡ agree (behindRights c .args .present) (behindRights c .args .snapshot) (sameIn (behindRights c))
+decided : (c : tie.Else3) → let s = behindRights c in sameIn s ≡ agree (s .args .present) (s .args .snapshot) (sameIn s)
 decided c =
     let a = behindRights c .args in
-    bytes-decide (a .present) (a .snapshot) (sameIn (behindRights c)) (mapped (c .before .before .before .before .before)) (copied (c .before .before .before))
+    bytes-decide (a .present) (a .snapshot) (sameIn (behindRights c)) (mapped (untested c .before .before)) (copied (untested c))
     (sym (c .before .before .rights-at .ensures) ∙ c .if3 .left ∙ c .before .rights-at2 .ensures)
 
 abbrev behindPassed : tie.Else4 → tie.Start
 behindPassed c = behindRights (c .before .before)
+
+-- where the backings are looked up
+abbrev backings : tie.After-backing-at2 → tie.Else4
+backings c = c .before .before
 
 -- ---- the needs
 
@@ -54,10 +62,10 @@ is-mapped-requires-2 c κs = search needs
 
 returns : tie.Need-returns
 returns c =
-    let s = c .before .before .before .before .before in
-    let here = c .before .before .is-mapped in
+    let here = c .before .before in
+    let s = here .before .before .before in
     ap not (c .is-mapped2 .ensures)
-    ∙ absent (s .args .present) (s .args .snapshot) (sameIn s) (sym (here .ensures) ∙ not-true (here .result) (c .before .if1 .taken))
+    ∙ absent (s .args .present) (s .args .snapshot) (sameIn s) (sym (here .is-mapped .ensures) ∙ not-true (here .is-mapped .result) (c .before .if1 .taken))
 
 is-mapped-requires-3 : tie.Need-is-mapped-requires-3
 is-mapped-requires-3 c κs = search needs
@@ -76,8 +84,9 @@ rights-at-requires-2 c κs = search needs
 
 returns-3 : tie.Need-returns-3
 returns-3 c =
-    let s = behindCopied (c .before .before .before) in
-    other-rights (s .args .present) (s .args .snapshot) (sameIn s) (mapped (c .before .before .before .before .before)) (copied (c .before .before .before))
+    let mappings = c .before .before .before in
+    let s = behindCopied mappings in
+    other-rights (s .args .present) (s .args .snapshot) (sameIn s) (mapped (mappings .before .before)) (copied mappings)
     (λ e. c .if3 .taken (c .before .before .rights-at .ensures ∙ e ∙ sym (c .before .rights-at2 .ensures)))
 
 is-committed-requires : tie.Need-is-committed-requires
@@ -94,31 +103,25 @@ returns-4 c =
 backing-at-requires : tie.Need-backing-at-requires
 backing-at-requires c κs = search needs
 
-source-of-requires : tie.Need-source-of-requires
-source-of-requires c κs = search needs
-
 backing-at-requires-2 : tie.Need-backing-at-requires-2
 backing-at-requires-2 c κs = search needs
 
-source-of-requires-2 : tie.Need-source-of-requires-2
-source-of-requires-2 c κs = search needs
-
 same-pages-requires : tie.Need-same-pages-requires
 same-pages-requires c κs =
-    let s = behindPassed (c .before .before .before .before) in
-    let mine = c .before .before .source-of .ensures ∙ ap sourceOf (c .before .before .before .backing-at .ensures) in
-    let theirs = c .source-of2 .ensures ∙ ap sourceOf (c .before .backing-at2 .ensures) in
+    let s = behindPassed (backings c) in
+    let mine = c .before .backing-at .ensures in
+    let theirs = c .backing-at2 .ensures in
     (s .pre .0, (s .pre .1 .0, (rw mine (s .pre .1 .1 .1 .1 .0), (s .pre .1 .1 .0, (s .pre .1 .1 .1 .0, rw theirs (s .pre .1 .1 .1 .1 .1 .0))))))
 
 returns-5 : tie.Need-returns-5
 returns-5 c =
-    let s = behindPassed (c .before .before .before .before .before) in
-    let a = s .args in
-    let mine = c .before .before .before .source-of .ensures ∙ ap sourceOf (c .before .before .before .before .backing-at .ensures) in
-    let theirs = c .before .source-of2 .ensures ∙ ap sourceOf (c .before .before .backing-at2 .ensures) in
+    let committed = backings (c .before) in
+    let a = behindPassed committed .args in
+    let mine = c .before .before .backing-at .ensures in
+    let theirs = c .before .backing-at2 .ensures in
     let compared = looked-at (a .image .now) (a .pool .now) (a .present) (a .snapshot) (a .front) (a .back)
-    (rw (c .before .before .before .before .before .before .is-committed .ensures) at (c .before .before .before .before .before .if4 .left)) in
-    (rw (mine, theirs) at (c .same-pages .ensures)) ∙ compared ∙ decided (c .before .before .before .before .before .before .before)
+    (rw (c .before .before .before .before .is-committed .ensures) at (c .before .before .before .if4 .left)) in
+    (rw (mine, theirs) at (c .same-pages .ensures)) ∙ compared ∙ decided (committed .before .before)
 
 pub agrees-spec : {M : Type 1} → statement M
 agrees-spec =
@@ -135,8 +138,6 @@ agrees-spec =
     is-committed-requires
     returns-4
     backing-at-requires
-    source-of-requires
     backing-at-requires-2
-    source-of-requires-2
     same-pages-requires
     returns-5)

@@ -49,8 +49,9 @@ loop-less c = omega arith
 
 loop-again : tie.Need-loop-again Inv-loop μ-loop
 loop-again c =
-    let a = c .before .before .before .before .before .args in
-    let l = c .before .before .before .before .loop in
+    let turn = c .before .before .before in
+    let l = turn .before .loop in
+    let a = turn .before .before .args in
     (omega arith, rw (c .stays .ensures, l .inv .1) (sym (every-last (of (a .t1) (a .t2)) (l .k))))
 
 returns : tie.Need-returns Inv-loop μ-loop

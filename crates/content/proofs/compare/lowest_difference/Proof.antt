@@ -17,10 +17,11 @@ use Rattle.areas.specs.declared.area.Areas.{Areas}
 use Rattle.areas.specs.Areas.{slots}
 use Rattle.areas.specs.Walk.{Formed}
 use Rattle.areas.proofs.WalkLaws.{settled, near-formed}
+use Rattle.state.specs.World.{pagesIn}
 use Rattle.content.specs.Content.{pageUnder, pageRead, copyRead, differing}
 use Rattle.content.specs.Unchanged.{unchanged}
-use Rattle.content.proofs.ReadingLaws.{source-there}
-use Rattle.content.proofs.CompareLaws.{readsNow, readsCopied, passed-over}
+use Rattle.content.proofs.ReadingLaws.{backing-there}
+use Rattle.content.proofs.CompareLaws.{readsNow, readsCopied, passed-over, agree-as}
 use Rattle.content.proofs.UnchangedLaws.{alike-slots, stays-alike}
 use Rattle.content.proofs.compare.lowest_difference.Statement.{statement}
 use Rattle.content.proofs.compare.lowest_difference.Tie as tie
@@ -36,11 +37,11 @@ abbrev of : List ℕ → List ℕ → List ℕ → ℕ → Areas → Areas → �
 of image pool table s present snapshot i = agree (slots present i) (slots snapshot i) (same image pool table s present snapshot i)
 
 abbrev Inv-loop : tie.InvT-loop
-Inv-loop pool table image s images present snapshot stay i₀ i =
+Inv-loop pool table image s present snapshot stay i₀ i =
     (i ≤ 64) × (lowest (λ k. not (of image pool table s present snapshot k)) 0 64 ≡ lowest (λ k. not (of image pool table s present snapshot k)) i (64 - i))
 
 abbrev μ-loop : tie.MeasureT-loop
-μ-loop pool table image s images present snapshot stay i₀ i = 64 - i
+μ-loop pool table image s present snapshot stay i₀ i = 64 - i
 
 -- ---- where the loop starts
 
@@ -48,10 +49,10 @@ abbrev Start : Type 0
 Start = tie.Start Inv-loop μ-loop
 
 formed : (s : Start) → Formed (s .args .b .present)
-formed s = settled (s .args .images) (s .args .b .present) (s .pre .1 .0 .present) (s .pre .1 .0 .few)
+formed s = settled (pagesIn (length (s .args .image .now))) (s .args .b .present) (s .pre .1 .0 .present) (s .pre .1 .0 .few)
 
 formed-copy : (s : Start) → Formed (s .args .b .snapshot)
-formed-copy s = settled (s .args .images) (s .args .b .snapshot) (s .pre .1 .0 .snapshot) (s .pre .1 .0 .few)
+formed-copy s = settled (pagesIn (length (s .args .image .now))) (s .args .b .snapshot) (s .pre .1 .0 .snapshot) (s .pre .1 .0 .few)
 
 -- what page i is tested by
 abbrev ofIn : Start → ℕ → Bool
@@ -59,6 +60,19 @@ ofIn s = of (s .args .image .now) (s .args .pool .now) (s .args .table .now) (s 
 
 abbrev behind : tie.In-loop Inv-loop μ-loop → Start
 behind c = c .before .before .before .before .before .before .before .before
+
+abbrev pageIn : tie.In-loop Inv-loop μ-loop → ℕ
+pageIn c = c .before .loop .i
+
+-- the turn in which a page was found, and where the page that is compared was
+abbrev turnOf : tie.After-slot Inv-loop μ-loop → tie.In-loop Inv-loop μ-loop
+turnOf c = c .before .before .before .before
+
+abbrev foundSame : tie.After-agrees Inv-loop μ-loop → tie.After-slot Inv-loop μ-loop
+foundSame c = c .before .before
+
+abbrev foundOther : tie.After-agrees2 Inv-loop μ-loop → tie.After-slot Inv-loop μ-loop
+foundOther c = c .before .before .before
 
 -- ---- a turn of the loop
 
@@ -68,15 +82,16 @@ entries : (s : Start) (i : ℕ) → let at : ℕ → ℕ = λ k. getD (s .args .
     (at (frontOf (s .args .s) i) ≤ 128) × (at (frontOf (s .args .s) i) * 256 ≤ room) × (at (backOf (s .args .s) i) ≤ 128)
     × (at (backOf (s .args .s) i) * 256 ≤ room)
 entries s i =
-    let ranged = s .pre .1 .1 .1 in
+    let ranged = s .pre .1 .1 in
     (ranged .few (frontOf (s .args .s) i), ranged .room (frontOf (s .args .s) i), ranged .few (backOf (s .args .s) i), ranged .room (backOf (s .args .s) i))
 
 -- a page without a front, where every area stays
-passed : (c : tie.Else1 Inv-loop μ-loop) → ofIn (behind (c .before .before)) (c .before .before .before .loop .i) ≡ true
+passed : (c : tie.Else1 Inv-loop μ-loop) → let turn = c .before .before in ofIn (behind turn) (pageIn turn) ≡ true
 passed c =
-    let s = behind (c .before .before) in
-    let i = c .before .before .before .loop .i in
-    let all = c .before .before .before .before .are-unchanged in
+    let turn = c .before .before in
+    let s = behind turn in
+    let i = pageIn turn in
+    let all = turn .before .before .are-unchanged in
     let both = not-false _ (c .if1 .left) in
     let still = sym (all .ensures) ∙ and-left (all .result) _ both in
     let none = rw (c .before .front .ensures) at (and-right (all .result) _ both) in
@@ -96,25 +111,28 @@ itself : (s : Start) (i : ℕ) → unchanged (s .args .b .present) (s .args .b .
     ≡ ofIn s i
 itself s i u = alike-slots (s .args .b .present) (s .args .b .snapshot) (formed s) (formed-copy s) u i _ _ (λ m. rw (s .pre .1 .0 .backing i m))
 
-compared-itself : (c : tie.After-agrees Inv-loop μ-loop)
-    → c .agrees .result ≡ ofIn (behind (c .before .before .before .before .before .before)) (c .before .before .before .before .before .before .before .loop .i)
+compared-itself : (c : tie.After-agrees Inv-loop μ-loop) → let turn = turnOf (foundSame c) in c .agrees .result ≡ ofIn (behind turn) (pageIn turn)
 compared-itself c =
-    let s = behind (c .before .before .before .before .before .before) in
-    let l = c .before .before .before .before .before .before .before .loop in
-    let all = c .before .before .before .before .before .before .before .before .are-unchanged in
-    let front = c .before .before .before .before .before .front .ensures in
+    let found = foundSame c in
+    let turn = turnOf found in
+    let a = behind turn .args in
+    let all = turn .before .before .are-unchanged in
+    let slot = found .slot .ensures in
     c .agrees .ensures
-    ∙ rw (c .before .before .slot .ensures, c .before .before .before .back .ensures, front) (itself s (l .i) (sym (all .ensures) ∙ c .before .if2 .taken))
+    ∙ agree-as (a .image .now) (a .pool .now) _ _ _ _ _ _ _ _ slot slot (found .before .before .before .front .ensures) (found .before .back .ensures)
+    ∙ itself (behind turn) (pageIn turn) (sym (all .ensures) ∙ c .before .if2 .taken)
 
 -- else with the snapshot's
-compared : (c : tie.After-agrees2 Inv-loop μ-loop) → c .agrees2 .result
-    ≡ ofIn (behind (c .before .before .before .before .before .before .before)) (c .before .before .before .before .before .before .before .before .loop .i)
+compared : (c : tie.After-agrees2 Inv-loop μ-loop) → let turn = turnOf (foundOther c) in c .agrees2 .result ≡ ofIn (behind turn) (pageIn turn)
 compared c =
-    let front = c .before .before .before .before .before .before .front .ensures in
-    c .agrees2 .ensures ∙ rw (c .before .slot2 .ensures, c .before .before .before .slot .ensures, c .before .before .before .before .back .ensures, front)
+    let found = foundOther c in
+    let a = behind (turnOf found) .args in
+    c .agrees2 .ensures
+    ∙ agree-as (a .image .now) (a .pool .now) _ _ _ _ _ _ _ _ (found .slot .ensures) (c .before .slot2 .ensures)
+    (found .before .before .before .front .ensures) (found .before .back .ensures)
 
 -- any way the page agrees
-agreed : (c : tie.Joined1 Inv-loop μ-loop) → ofIn (behind (c .before .before)) (c .before .before .before .loop .i) ≡ true
+agreed : (c : tie.Joined1 Inv-loop μ-loop) → let turn = c .before .before in ofIn (behind turn) (pageIn turn) ≡ true
 agreed c =
     ⊎-elim
     (λ w.
@@ -130,6 +148,11 @@ agreed c =
     v)
     (c .if1 .came)
 
+-- where it does not, the loop stops there
+stops : (turn : tie.In-loop Inv-loop μ-loop) → not (ofIn (behind turn) (pageIn turn)) ≡ true
+    → pageIn turn ≡ lowest (λ k. not (ofIn (behind turn) k)) 0 64
+stops turn h = sym (turn .before .loop .inv .1 ∙ lowest-stop (λ k. not (ofIn (behind turn) k)) 64 (pageIn turn) (turn .loop-test .taken) h)
+
 -- ---- the needs
 
 are-unchanged-requires : tie.Need-are-unchanged-requires Inv-loop μ-loop
@@ -139,58 +162,54 @@ loop-holds : tie.Need-loop-holds Inv-loop μ-loop
 loop-holds c = (omega arith, refl)
 
 front-requires : tie.Need-front-requires Inv-loop μ-loop
-front-requires c κs = let s = behind c in (s .pre .0, (c .loop-test .taken, s .pre .1 .1 .1 .entries))
+front-requires c κs = let s = behind c in (s .pre .0, (c .loop-test .taken, s .pre .1 .1 .entries))
 
 back-requires : tie.Need-back-requires Inv-loop μ-loop
-back-requires c κs = let s = behind (c .before .before) in (s .pre .0, (c .before .before .loop-test .taken, s .pre .1 .1 .1 .entries))
+back-requires c κs = let s = behind (c .before .before) in (s .pre .0, (c .before .before .loop-test .taken, s .pre .1 .1 .entries))
 
 slot-requires : tie.Need-slot-requires Inv-loop μ-loop
 slot-requires c κs =
-    let s = behind (c .before .before .before) in
-    (near-formed (s .args .b .present) (formed s), c .before .before .before .loop-test .taken)
+    let turn = c .before .before .before in
+    (near-formed (behind turn .args .b .present) (formed (behind turn)), turn .loop-test .taken)
 
 agrees-requires : tie.Need-agrees-requires Inv-loop μ-loop
 agrees-requires c κs =
-    let s = behind (c .before .before .before .before .before) in
-    let i = c .before .before .before .before .before .before .loop .i in
-    let front = c .before .before .before .before .front .ensures in
-    let source = source-there (s .args .image .now) (s .args .images) (s .args .b .present) (s .pre .1 .0 .present) (s .pre .1 .1 .0) i in
+    let found = c .before in
+    let turn = turnOf found in
+    let s = behind turn in
+    let i = pageIn turn in
+    let front = found .before .before .before .front in
+    let backing = backing-there (s .args .image .now) (s .args .b .present) (s .pre .1 .0 .present) i in
     let named = entries s i in
-    rw (c .before .slot .ensures, c .before .before .back .ensures, front)
-    (named .0, (named .1, (named .2, (named .3, (source, (source, λ m. refl))))))
+    rw (found .slot .ensures, found .before .back .ensures, front .ensures)
+    (named .0, (named .1, (named .2, (named .3, (backing, (backing, λ m. refl))))))
 
 returns : tie.Need-returns Inv-loop μ-loop
 unfolding differing lowestDifference pageRead pageUnder copyRead contents
-returns c = λ h.
-    let s = behind (c .before .before .before .before .before .before .before) in
-    let l = c .before .before .before .before .before .before .before .before .loop in
-    let test = c .before .before .before .before .before .before .before .loop-test .taken in
-    sym (l .inv .1 ∙ lowest-stop (λ k. not (ofIn s k)) 64 (l .i) test (ap not (sym (compared-itself (c .before))) ∙ c .if3 .taken))
+returns c = λ h. stops (turnOf (foundSame (c .before))) (ap not (sym (compared-itself (c .before))) ∙ c .if3 .taken)
 
 slot-requires-2 : tie.Need-slot-requires-2 Inv-loop μ-loop
 slot-requires-2 c κs =
-    let s = behind (c .before .before .before .before .before) in
-    (near-formed (s .args .b .snapshot) (formed-copy s), c .before .before .before .before .before .loop-test .taken)
+    let turn = turnOf (c .before) in
+    (near-formed (behind turn .args .b .snapshot) (formed-copy (behind turn)), turn .loop-test .taken)
 
 agrees-requires-2 : tie.Need-agrees-requires-2 Inv-loop μ-loop
 agrees-requires-2 c κs =
-    let s = behind (c .before .before .before .before .before .before) in
-    let i = c .before .before .before .before .before .before .before .loop .i in
-    let front = c .before .before .before .before .before .front .ensures in
+    let found = c .before .before in
+    let turn = turnOf found in
+    let s = behind turn in
+    let i = pageIn turn in
+    let front = found .before .before .before .front in
     let ready = s .pre .1 .0 in
-    let source = source-there (s .args .image .now) (s .args .images) (s .args .b .present) (ready .present) (s .pre .1 .1 .0) i in
-    let copied = source-there (s .args .image .now) (s .args .images) (s .args .b .snapshot) (ready .snapshot) (s .pre .1 .1 .0) i in
+    let backing = backing-there (s .args .image .now) (s .args .b .present) (ready .present) i in
+    let copied = backing-there (s .args .image .now) (s .args .b .snapshot) (ready .snapshot) i in
     let named = entries s i in
-    rw (c .slot2 .ensures, c .before .before .slot .ensures, c .before .before .before .back .ensures, front)
-    (named .0, (named .1, (named .2, (named .3, (source, (copied, ready .backing i))))))
+    rw (c .slot2 .ensures, found .slot .ensures, found .before .back .ensures, front .ensures)
+    (named .0, (named .1, (named .2, (named .3, (backing, (copied, ready .backing i))))))
 
 returns-2 : tie.Need-returns-2 Inv-loop μ-loop
 unfolding differing lowestDifference pageRead pageUnder copyRead contents
-returns-2 c = λ h.
-    let s = behind (c .before .before .before .before .before .before .before .before) in
-    let l = c .before .before .before .before .before .before .before .before .before .loop in
-    let test = c .before .before .before .before .before .before .before .before .loop-test .taken in
-    sym (l .inv .1 ∙ lowest-stop (λ k. not (ofIn s k)) 64 (l .i) test (ap not (sym (compared (c .before))) ∙ c .if4 .taken))
+returns-2 c = λ h. stops (turnOf (foundOther (c .before))) (ap not (sym (compared (c .before))) ∙ c .if4 .taken)
 
 add-i : tie.Need-add-i Inv-loop μ-loop
 add-i c = omega arith
@@ -200,10 +219,10 @@ loop-less c = omega arith
 
 loop-again : tie.Need-loop-again Inv-loop μ-loop
 loop-again c =
-    let s = behind (c .before .before) in
-    let l = c .before .before .before .loop in
-    let test = c .before .before .loop-test .taken in
-    (omega (arith, test), l .inv .1 ∙ lowest-next (λ k. not (ofIn s k)) 64 (l .i) test (ap not (agreed c)))
+    let turn = c .before .before in
+    let s = behind turn in
+    let test = turn .loop-test .taken in
+    (omega (arith, test), turn .before .loop .inv .1 ∙ lowest-next (λ k. not (ofIn s k)) 64 (pageIn turn) test (ap not (agreed c)))
 
 returns-3 : tie.Need-returns-3 Inv-loop μ-loop
 unfolding differing lowestDifference pageRead pageUnder copyRead contents

@@ -1,29 +1,29 @@
 -- A page without a front: a frame is given up where it must be, one that is then not held is there, and the page takes it.
 use mathlib.Core.Path.{_≡_, sym, ap, subst, _∙_}
-use Prim.Native.Nat.{_*_, _/_, _≤_, _<_}
+use mathlib.Core.List.{List}
+use Prim.Native.Nat.{ℕ, _*_, _/_, _≤_, _<_}
 use native.Mathlib.Omega.{arith}
 use lib.ListN.{length, getD}
 use Rattle.basics.proofs.TestLaws.{length-mapped}
-use Rattle.basics.proofs.ListLaws.{getD-any}
 use Rattle.interface.specs.declared.page.Slot.{Slot}
-use Rattle.interface.specs.Slots.{isCommitted, backingAt}
+use Rattle.interface.specs.Requests.{pageOf}
+use Rattle.interface.specs.Slots.{backingAt}
 use Rattle.marks.specs.declared.Marks.{Marks}
-use Rattle.table.specs.declared.source.Source.{Source}
-use Rattle.table.specs.Source.{sourceEnd}
+use Rattle.table.specs.Store.{frontOf, take}
+use Rattle.table.specs.Backing.{backingEnd}
 use Rattle.table.proofs.FiledLaws.{filed-ranged}
 use Rattle.kept.specs.Test.{keptTo}
 use Rattle.areas.specs.Areas.{slots}
 use Rattle.areas.proofs.FormedLaws.{near}
 use Rattle.state.specs.declared.sandbox.Sandbox.{Sandbox}
-use Rattle.state.specs.World.{World, worldOf, sandboxAt, closedSandbox, rowsOf}
+use Rattle.state.specs.World.{World, worldOf, framesOf, pagesIn, rowsOf}
 use Rattle.state.proofs.SharesLaws.{zeroSandbox}
 use Rattle.rules.proofs.FitLaws.{page-small}
-use Rattle.content.specs.Content.{sourceOf, pageUnder}
-use Rattle.content.proofs.ReadingLaws.{source-there}
+use Rattle.content.proofs.ReadingLaws.{backing-there, under-is}
 use Rattle.reuse.specs.Reuse.{GaveUp}
-use Rattle.memory.specs.Parts.{ownFront, Asked}
+use Rattle.memory.specs.Parts.{ownSandbox, ownFront, Asked}
 use Rattle.memory.proofs.SpareLaws.{gives, frame-there}
-use Rattle.memory.proofs.MemoryLaws.{touch-kept, touch-made}
+use Rattle.memory.proofs.MemoryLaws.{read-own, touch-kept, touch-made}
 use borrow.Author.Needs.{needs}
 use Rattle.effects.proofs.store.touch.Statement.{statement}
 use Rattle.effects.proofs.store.touch.Tie as tie
@@ -33,45 +33,41 @@ use Rattle.effects.proofs.store.touch.Tie as tie
 abbrev worldIn : tie.Start → World
 worldIn s = worldOf (s .args .machine) (s .args .pool .now) (s .args .table .now)
 
--- the sandbox of the world, and as the code reads it
 abbrev own : tie.Start → Sandbox
-own s = sandboxAt (worldIn s) (s .args .q .sandbox)
+own s = ownSandbox (s .args .q) (worldIn s)
 
-abbrev sandboxIn : tie.Start → Sandbox
-sandboxIn s = getD (s .args .machine .sandboxes) (s .args .q .sandbox) zeroSandbox
+abbrev asked : (s : tie.Start) → Asked (s .args .image .now) (s .args .q) (worldIn s)
+asked s = s .pre .1
 
 four : (s : tie.Start) → length (s .args .machine .sandboxes) ≡ 4
 four s = search length-mapped
 
-same-sandbox : (s : tie.Start) → sandboxIn s ≡ own s
-same-sandbox s = let l = four s in getD-any (s .args .machine .sandboxes) (s .args .q .sandbox) zeroSandbox closedSandbox (omega (arith, s .pre .1 .row))
-
-abbrev asked : (s : tie.Start) → Asked (s .args .image .now) (s .args .frames) (s .args .images) (s .args .q) (worldIn s)
-asked s = s .pre .1
+same-sandbox : (s : tie.Start) → getD (s .args .machine .sandboxes) (s .args .q .sandbox) zeroSandbox ≡ own s
+same-sandbox s = read-own (s .args .machine .sandboxes) (s .args .q .sandbox) (four s) (asked s .row)
 
 small : (s : tie.Start) → s .args .q .p1 / 256 < 64
-small s = page-small (s .args .q .p1) (s .pre .1 .fit .written (s .pre .0) .0)
+small s = page-small (s .args .q .p1) (asked s .fit .written (s .pre .0) .0)
 
 -- ---- what is known behind each part
 
-abbrev fronted : tie.After-front → tie.Start
-fronted c = c .before .before .before .before .before .before .before .before .before .before .before .before
+abbrev argued : tie.After-front-arg → tie.Start
+argued c = c .before .before .before .before .before .before .before .before .before .before .before
 
-front-is : (c : tie.After-front) → c .front .result ≡ ownFront (fronted c .args .q) (worldIn (fronted c) .store)
-front-is c = c .front .ensures
+abbrev fronted : tie.After-front → tie.Start
+fronted c = argued (c .before)
 
 abbrev bare : tie.Else1 → tie.Start
 bare c = fronted (c .before)
 
 no-front : (c : tie.Else1) → ownFront (bare c .args .q) (worldIn (bare c) .store) ≡ 0
-no-front c = sym (front-is (c .before)) ∙ c .if1 .left
+no-front c = sym (c .before .front .ensures) ∙ c .if1 .left
 
 abbrev spared : tie.After-give-up → tie.Else1
 spared c = c .before .before .before .before
 
 -- what was given up
 gave : (c : tie.After-give-up) → let s = bare (spared c) in
-    GaveUp (gives (s .args .image .now) (s .args .frames) (s .args .images) (s .args .q) (worldIn s) (asked s) (s .pre .0) (no-front (spared c)))
+    GaveUp (gives (s .args .image .now) (s .args .q) (worldIn s) (asked s) (s .pre .0) (no-front (spared c)))
     (own s .runs) (keptTo (rowsOf (worldIn s)) 4 .held) (c .give-up .result)
 gave c =
     let s = bare (spared c) in
@@ -82,38 +78,35 @@ gave c =
 abbrev framed : tie.After-unheld-frame → tie.After-give-up
 framed c = c .before .before .before
 
-abbrev looked : tie.After-source-of → tie.After-unheld-frame
-looked c = c .before .before .before .before .before
+abbrev looked : tie.After-slot → tie.After-unheld-frame
+looked c = c .before .before
 
-abbrev behind : tie.After-source-of → tie.Start
+abbrev behind : tie.After-slot → tie.Start
 behind c = bare (spared (framed (looked c)))
 
-abbrev slot-of : tie.After-source-of → Slot
-slot-of c = slots (own (behind c) .present) (behind c .args .q .p1 / 256)
-
-slot-is : (c : tie.After-source-of) → c .before .before .before .slot .result ≡ slot-of c
-slot-is c = c .before .before .before .slot .ensures ∙ ap (λ (b : Sandbox). slots (b .present) (behind c .args .q .p1 / 256)) (same-sandbox (behind c))
-
-source-is : (c : tie.After-source-of) → c .source-of .result ≡ sourceOf (backingAt (slot-of c))
-source-is c = c .source-of .ensures ∙ ap sourceOf (c .before .backing-at .ensures ∙ ap backingAt (slot-is c))
-
-committed-is : (c : tie.After-source-of) → c .before .before .is-committed .result ≡ isCommitted (slot-of c)
-committed-is c = c .before .before .is-committed .ensures ∙ ap isCommitted (slot-is c)
+slot-is : (c : tie.After-slot) → c .slot .result ≡ slots (own (behind c) .present) (behind c .args .q .p1 / 256)
+slot-is c = c .slot .ensures ∙ ap (λ (b : Sandbox). slots (b .present) (behind c .args .q .p1 / 256)) (same-sandbox (behind c))
 
 -- its image page is there
-source-here : (c : tie.After-source-of) → sourceEnd (c .source-of .result) * 256 ≤ length (behind c .args .image .now)
-source-here c =
+backing-here : (c : tie.After-slot) → backingEnd (backingAt (c .slot .result)) * 256 ≤ length (behind c .args .image .now)
+backing-here c =
     let s = behind c in
-    subst (λ (x : Source). sourceEnd x * 256 ≤ length (s .args .image .now)) (sym (source-is c))
-    (source-there (s .args .image .now) (s .args .images) (own s .present) (asked s .ready .present) (asked s .whole) (s .args .q .p1 / 256))
+    subst (λ (x : Slot). backingEnd (backingAt x) * 256 ≤ length (s .args .image .now)) (sym (slot-is c))
+    (backing-there (s .args .image .now) (own s .present) (asked s .ready .present) (s .args .q .p1 / 256))
 
 -- ---- the needs
 
 cast-s : tie.Need-cast-s
 cast-s c = search needs
 
-cast-t28 : tie.Need-cast-t28
-cast-t28 c = search needs
+cast-t25 : tie.Need-cast-t25
+cast-t25 c = search needs
+
+div-t26 : tie.Need-div-t26
+div-t26 c = search needs
+
+cast-t27 : tie.Need-cast-t27
+cast-t27 c = search needs
 
 cast-k : tie.Need-cast-k
 cast-k c = search needs
@@ -125,8 +118,7 @@ array-copy-out-b : tie.Need-array-copy-out-b
 array-copy-out-b c = search needs
 
 front-requires : tie.Need-front-requires
-front-requires c κs =
-    let s = c .before .before .before .before .before .before .before .before .before .before .before in (asked s .row, (small s, asked s .filed .entries))
+front-requires c κs = let s = argued c in (asked s .row, (small s, asked s .filed .entries))
 
 same-length : tie.Need-same-length
 same-length c = search needs
@@ -135,8 +127,7 @@ returns : tie.Need-returns
 returns c =
     let s = fronted (c .before) in
     rw (same-sandbox s)
-    (touch-kept (s .args .image .now) (s .args .frames) (s .args .images) (s .args .q) (worldIn s) (asked s) (s .pre .0)
-    (λ z. c .if1 .taken (front-is (c .before) ∙ z)))
+    (touch-kept (s .args .image .now) (s .args .q) (worldIn s) (asked s) (s .pre .0) (λ z. c .if1 .taken (c .before .front .ensures ∙ z)))
 
 kept-marks-requires : tie.Need-kept-marks-requires
 kept-marks-requires c κs = search needs
@@ -147,28 +138,22 @@ give-up-requires c κs =
     let s = bare bared in
     (asked s .row, (asked s .filed .entries, rw (same-sandbox s) (asked s .fits (s .pre .0) (no-front bared))))
 
+cast-frames : tie.Need-cast-frames
+cast-frames c = omega (arith, asked (bare (spared (c .before .before))) .filed .few)
+
 unheld-frame-requires : tie.Need-unheld-frame-requires
 unheld-frame-requires c κs =
     let g = c .before .before in
     let s = bare (spared g) in (
       asked s .filed .few,
-      frame-there (s .args .image .now) (s .args .frames) (s .args .images) (s .args .q) (worldIn s) (asked s) (s .pre .0) (no-front (spared g))
-          (g .give-up .result) (gave g),
+      frame-there (s .args .image .now) (s .args .q) (worldIn s) (asked s) (s .pre .0) (no-front (spared g)) (g .give-up .result) (gave g),
     )
 
 slot-requires : tie.Need-slot-requires
 slot-requires c κs =
     let s = bare (spared (framed (c .before))) in
-    (rw (same-sandbox s) (near (s .args .images) (own s .present) (asked s .ready .present) (asked s .ready .few)), small s)
-
-is-committed-requires : tie.Need-is-committed-requires
-is-committed-requires c κs = search needs
-
-backing-at-requires : tie.Need-backing-at-requires
-backing-at-requires c κs = search needs
-
-source-of-requires : tie.Need-source-of-requires
-source-of-requires c κs = search needs
+    let ready = asked s .ready in
+    (rw (same-sandbox s) (near (pagesIn (length (s .args .image .now))) (own s .present) (ready .present) (ready .few)), small s)
 
 take-requires : tie.Need-take-requires
 take-requires c κs =
@@ -176,16 +161,10 @@ take-requires c κs =
     let s = behind found in
     let low = looked found .unheld-frame .ensures .0 in
     let filed = asked s .filed in (
-      asked s .row,
+      record { row = asked s .row; inside = small s; backed = backing-here found },
       (
-        small s,
-        (
-          filed-ranged 256 (s .args .frames) (worldIn s .store) filed,
-          (
-            source-here found,
-            (omega (arith, low, filed .few), omega (arith, low, filed .pages)),
-          ),
-        ),
+        filed-ranged 256 (framesOf (worldIn s)) (worldIn s .store) filed,
+        (omega (arith, low, filed .few), omega (arith, low, filed .pages)),
       ),
     )
 
@@ -196,22 +175,27 @@ same-length-3 : tie.Need-same-length-3
 same-length-3 c = search needs
 
 returns-2 : tie.Need-returns-2
-unfolding pageUnder
 returns-2 c =
     let taken = c .before .before .before .before in
     let found = taken .before .before .before in
     let s = behind found in
+    let a = s .args in
     let g = framed (looked found) in
     let f = looked found .unheld-frame in
-    touch-made (s .args .image .now) (s .args .frames) (s .args .images) (s .args .q) (worldIn s) (asked s) (s .pre .0) _ (g .give-up .result) (f .result .0)
-    (no-front (spared g)) (gave g) (f .ensures .0) (f .ensures .1 .0) (f .ensures .1 .1) (rw (← committed-is found, ← source-is found) (taken .take .ensures))
+    let front = frontOf (a .q .sandbox) (pageOf (a .q)) in
+    touch-made (a .image .now) (a .q) (worldIn s) (asked s) (s .pre .0) _ (g .give-up .result) (f .result .0) (no-front (spared g)) (gave g)
+    (f .ensures .0) (f .ensures .1 .0) (f .ensures .1 .1)
+    (taken .take .ensures ∙ ap (λ (bytes : List ℕ). take 256 front (f .result .0) bytes (worldIn s .store))
+    (under-is (a .image .now) (worldIn s .store) (own s) (a .q .sandbox) _ (found .slot .result) (slot-is found)))
 
 pub touch-spec : {M : Type 1} → statement M
 touch-spec =
     tie.close
     (tie.spec
     cast-s
-    cast-t28
+    cast-t25
+    div-t26
+    cast-t27
     cast-k
     mul-b
     array-copy-out-b
@@ -220,11 +204,9 @@ touch-spec =
     returns
     kept-marks-requires
     give-up-requires
+    cast-frames
     unheld-frame-requires
     slot-requires
-    is-committed-requires
-    backing-at-requires
-    source-of-requires
     take-requires
     same-length-2
     same-length-3

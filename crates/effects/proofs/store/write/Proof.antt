@@ -1,8 +1,8 @@
+-- A byte is stored into the front that the page then has.
 use Prim.Native.Nat.{_/_, _<_}
 use native.Mathlib.Omega.{arith}
-use Rattle.state.specs.World.{World, worldOf, sandboxAt}
+use Rattle.state.specs.World.{World, worldOf}
 use Rattle.rules.proofs.FitLaws.{page-small}
-use Rattle.content.proofs.ReadingLaws.{source-there}
 use Rattle.memory.proofs.MemoryLaws.{touch-ranged, written}
 use borrow.Author.Needs.{needs}
 use Rattle.effects.proofs.store.write.Statement.{statement}
@@ -14,9 +14,14 @@ worldIn s = worldOf (s .args .machine) (s .args .pool .now) (s .args .table .now
 small : (s : tie.Start) → s .args .q .p1 / 256 < 64
 small s = page-small (s .args .q .p1) (s .pre .1 .fit .written (s .pre .0) .0)
 
--- behind the touch
+-- behind the touch, and where the byte is stored
 abbrev behind : tie.After-touch → tie.Start
 behind c = c .before .before .before .before .before .before
+
+abbrev touched : tie.After-struct-known4 → tie.After-touch
+touched c = c .before .before .before .before .before .before .before .before .before .before
+
+-- ---- the needs
 
 touch-requires : tie.Need-touch-requires
 touch-requires c κs = search needs
@@ -27,26 +32,31 @@ cast-s c = search needs
 cast-store-byte : tie.Need-cast-store-byte
 cast-store-byte c = search needs
 
+div-store-byte : tie.Need-div-store-byte
+div-store-byte c = search needs
+
 cast-store-byte-2 : tie.Need-cast-store-byte-2
 cast-store-byte-2 c = search needs
 
 cast-store-byte-3 : tie.Need-cast-store-byte-3
-cast-store-byte-3 c =
-    let s = behind (c .before .before .before .before .before .before .before .before .before .before) in omega (arith, s .pre .1 .fit .written (s .pre .0) .1)
+cast-store-byte-3 c = search needs
+
+rem-store-byte : tie.Need-rem-store-byte
+rem-store-byte c = search needs
+
+cast-store-byte-4 : tie.Need-cast-store-byte-4
+cast-store-byte-4 c = search needs
+
+cast-store-byte-5 : tie.Need-cast-store-byte-5
+cast-store-byte-5 c = let s = behind (touched c) in omega (arith, s .pre .1 .fit .written (s .pre .0) .1)
 
 store-byte-requires : tie.Need-store-byte-requires
 store-byte-requires c κs =
-    let touching = c .before .before .before .before .before .before .before .before .before .before in
+    let touching = touched c in
     let s = behind touching in
-    let asked = s .pre .1 in
-    let own = sandboxAt (worldIn s) (s .args .q .sandbox) in (
+    let asked = s .pre .1 in (
       asked .row,
-      (
-        small s,
-        touch-ranged (s .args .image .now) (s .args .frames) (s .args .images) (s .args .q) (worldIn s) asked (s .pre .0) _ _ (small s)
-            (source-there (s .args .image .now) (s .args .images) (own .present) (asked .ready .present) (asked .whole) (s .args .q .p1 / 256))
-            (touching .touch .ensures),
-      ),
+      (small s, touch-ranged (s .args .image .now) (s .args .q) (worldIn s) asked (s .pre .0) _ _ (small s) (touching .touch .ensures)),
     )
 
 same-length : tie.Need-same-length
@@ -57,10 +67,11 @@ same-length-2 c = search needs
 
 returns : tie.Need-returns
 returns c =
-    let touching = c .before .before .before .before .before .before .before .before .before .before .before .before .before in
-    let s = behind touching in
-    written (s .args .image .now) (s .args .frames) (s .args .q) (worldIn s) _ _ (touching .touch .result .runs) (touching .touch .ensures) (s .pre .0)
-    (c .before .before .store-byte .ensures (touching .touch .result .held))
+    let stored = c .before .before in
+    let touch = touched (stored .before) .touch in
+    let s = behind (touched (stored .before)) in
+    written (s .args .image .now) (s .args .q) (worldIn s) _ _ (touch .result .runs) (touch .ensures) (s .pre .0)
+    (stored .store-byte .ensures (touch .result .held))
 
 pub write-spec : {M : Type 1} → statement M
 write-spec =
@@ -69,8 +80,12 @@ write-spec =
     touch-requires
     cast-s
     cast-store-byte
+    div-store-byte
     cast-store-byte-2
     cast-store-byte-3
+    rem-store-byte
+    cast-store-byte-4
+    cast-store-byte-5
     store-byte-requires
     same-length
     same-length-2

@@ -1,26 +1,55 @@
+-- The frame is filled with what the page reads but for a front, and becomes its front.
+use mathlib.Core.Path.{_≡_, ap, _∙_}
+use mathlib.Core.Bool.{Bool}
 use native.Mathlib.Omega.{arith}
 use borrow.Author.Needs.{needs}
-use Rattle.table.specs.Source.{sourceBytes}
-use Rattle.table.specs.Store.{Store, kept, backOf, put, take}
+use lib.ListN.{getD}
+use Rattle.basics.specs.Choice.{_when_else_}
+use Rattle.interface.specs.Slots.{isCommitted, backingAt}
+use Rattle.table.specs.Store.{kept, put, take}
+use Rattle.table.specs.Backing.{backingPage}
+use Rattle.table.specs.Virtual.{backAt}
 use Rattle.table.proofs.PageLaws.{few-if, room-if, under-if}
 use Rattle.filling.proofs.store.take.Statement.{statement}
 use Rattle.filling.proofs.store.take.Tie as tie
+
+-- ---- what is known of the back entry
+
+abbrev behind : tie.After-back-if → tie.Start
+behind c = c .before .before .before .before .before .before .before .before
+
+abbrev committed : tie.Start → Bool
+committed s = isCommitted (s .args .page .slot)
+
+under-is : (c : tie.After-back-if) → let s = behind c in
+    c .back-if .result ≡ (getD (s .args .table .now) (backAt (s .args .page)) 0 when committed s else 0)
+under-is c =
+    let s = behind c in
+    c .back-if .ensures
+    ∙ ap (λ (b : Bool). getD (s .args .table .now) (backAt (s .args .page)) 0 when b else 0) (c .before .is-committed .ensures)
+
+-- ---- the needs
+
+backing-at-requires : tie.Need-backing-at-requires
+backing-at-requires c κs = search needs
+
+is-committed-requires : tie.Need-is-committed-requires
+is-committed-requires c κs = search needs
 
 back-if-requires : tie.Need-back-if-requires
 back-if-requires c κs = search needs
 
 fill-frame-requires : tie.Need-fill-frame-requires
 fill-frame-requires c κs =
-    let start = c .before .before .before .before .before .before in
-    let g = start .pre .1 .1 .0 in
-    let under = c .before .back-if in (
-      start .pre .1 .1 .1 .1 .1,
+    let under = c .before in
+    let s = behind under in
+    let ranged = s .pre .1 .0 in (
+      s .pre .1 .1 .1,
       (
-        rw (under .ensures) (few-if 256 _ _ g _ (start .args .committed)),
+        rw (under-is under) (few-if 256 _ _ ranged _ (committed s)),
         (
-          rw (under .ensures)
-              (room-if 256 _ _ g _ (start .args .committed)),
-          omega arith,
+          rw (under-is under) (room-if 256 _ _ ranged _ (committed s)),
+          rw (under .before .before .before .backing-at .ensures) (s .pre .0 .backed),
         ),
       ),
     )
@@ -52,15 +81,17 @@ same-length-2 c = search needs
 returns : tie.Need-returns
 unfolding take put
 returns c =
-    let start = c .before .before .before .before .before .before .before .before .before .before .before .before in
-    let s : Store = kept (start .args .held) (start .args .pool .now) (start .args .table .now) in
-    let bytes = sourceBytes (start .args .image .now) (start .args .source) in
+    let filled = c .before .before .before .before .before in
+    let under = filled .before .before in
+    let s = behind under in
+    let a = s .args in
+    let bytes = backingPage (a .image .now) (backingAt (a .page .slot)) in
     rw (
-      ← under-if 256 s (backOf (start .args .sandbox) (start .args .page .0)) bytes
-          (start .args .committed),
-      ← c .before .before .before .before .before .before .before .back-if .ensures,
+      ← under-if 256 (kept (a .held) (a .pool .now) (a .table .now)) (backAt (a .page)) bytes (committed s),
+      ← under-is under,
+      ← under .before .before .before .backing-at .ensures,
       c .with .ensures,
-      c .before .before .before .before .before .fill-frame .ensures,
+      filled .fill-frame .ensures,
       c .before .before .front-index .ensures,
     )
 
@@ -68,6 +99,8 @@ pub take-spec : {M : Type 1} → statement M
 take-spec =
     tie.close
     (tie.spec
+    backing-at-requires
+    is-committed-requires
     back-if-requires
     fill-frame-requires
     front-index-requires

@@ -1,11 +1,29 @@
-use mathlib.Core.Path.{sym}
+-- Without a front nothing is done; else the entry, the frame and its mark are cleared, which is `free`.
+use mathlib.Core.Path.{sym, ap, _∙_}
+use Prim.Native.Nat.{ℕ}
 use native.Mathlib.Omega.{arith}
-use borrow.Author.Tests.{ne-eqb}
 use borrow.Author.Needs.{needs}
-use Rattle.table.specs.Store.{put, free}
+use Rattle.table.specs.Store.{Store, kept, free}
 use Rattle.table.proofs.StoreLaws.{free-none}
+use Rattle.table.proofs.PageLaws.{free-some}
 use Rattle.freeing.proofs.store.free_front.Statement.{statement}
 use Rattle.freeing.proofs.store.free_front.Tie as tie
+
+-- ---- what is known behind the place, the frame and its clearing
+
+abbrev behind : tie.After-front-index → tie.Start
+behind c = c .before .before .before
+
+abbrev placed : tie.After-frame-of → tie.After-front-index
+placed c = c .before .before .before
+
+abbrev framed : tie.After-clear-frame → tie.After-frame-of
+framed c = c .before .before
+
+abbrev cleared : tie.After-without → tie.After-clear-frame
+cleared c = c .before .before .before
+
+-- ---- the needs
 
 front-index-requires : tie.Need-front-index-requires
 front-index-requires c κs = search needs
@@ -20,7 +38,7 @@ returns : tie.Need-returns
 returns c = rw (← c .before .before .front-index .ensures) (sym (free-none 256 _ _ (c .if1 .taken)))
 
 frame-of-requires : tie.Need-frame-of-requires
-frame-of-requires c κs = (omega arith, c .before .before .before .before .before .pre .1 .1 .few (c .before .before .front-index .result))
+frame-of-requires c κs = let at = c .before .before in (omega arith, behind at .pre .1 .1 .few (at .front-index .result))
 
 mul-table : tie.Need-mul-table
 mul-table c = search needs
@@ -29,20 +47,15 @@ slice-write-table : tie.Need-slice-write-table
 slice-write-table c = search needs
 
 clear-frame-requires : tie.Need-clear-frame-requires
-clear-frame-requires c κs = omega (
-  arith,
-  c .before .before .before .before .before .before .before .pre .1 .1 .room
-      (c .before .before .before .before .front-index .result),
-  c .before .frame-of .ensures,
-)
+clear-frame-requires c κs =
+    let at = placed (c .before) in
+    omega (arith, behind at .pre .1 .1 .room (at .front-index .result), c .before .frame-of .ensures)
 
 without-requires : tie.Need-without-requires
-without-requires c κs = omega (
-  arith,
-  c .before .before .before .before .before .before .before .before .before .before .pre .1 .1 .few
-      (c .before .before .before .before .before .before .before .front-index .result),
-  c .before .before .before .before .frame-of .ensures,
-)
+without-requires c κs =
+    let frame = framed (c .before .before) in
+    let at = placed frame in
+    omega (arith, behind at .pre .1 .1 .few (at .front-index .result), frame .frame-of .ensures)
 
 same-length : tie.Need-same-length
 same-length c = search needs
@@ -51,15 +64,15 @@ same-length-2 : tie.Need-same-length-2
 same-length-2 c = search needs
 
 returns-2 : tie.Need-returns-2
-unfolding free put
-returns-2 c = rw (
-  ← c .before .before .before .before .before .before .before .before .front-index .ensures,
-  ne-eqb _ _
-      (c .before .before .before .before .before .before .if1 .left),
-  c .without .ensures,
-  c .before .before .before .clear-frame .ensures,
-  c .before .before .before .before .before .frame-of .ensures,
-)
+returns-2 c =
+    let pool = cleared c .clear-frame in
+    let frame = framed (cleared c) in
+    let at = placed frame in
+    let a = behind at .args in
+    let st : Store = kept (a .held) (a .pool .now) (a .table .now) in
+    free-some 256 (at .front-index .result) st (frame .frame-of .result .0) (c .without .result) (pool .last .0) (frame .before .if1 .left)
+    (frame .frame-of .ensures) (c .without .ensures) (pool .ensures)
+    ∙ ap (λ (k : ℕ). free 256 k st) (at .front-index .ensures)
 
 pub free-front-spec : {M : Type 1} → statement M
 free-front-spec =

@@ -16,6 +16,13 @@ Inv-loop pool₀ table₀ sandbox first n h₀ i₀ pool table h i = (i ≤ n) �
 abbrev μ-loop : tie.MeasureT-loop
 μ-loop pool₀ table₀ sandbox first n h₀ i₀ pool table h i = n - i
 
+-- where a front is freed in a turn
+abbrev turning : tie.After-struct-known Inv-loop μ-loop → tie.In-loop Inv-loop μ-loop
+turning c = c .before .before .before
+
+abbrev behind : tie.In-loop Inv-loop μ-loop → tie.Start Inv-loop μ-loop
+behind c = c .before .before .before .before
+
 loop-holds : tie.Need-loop-holds Inv-loop μ-loop
 unfolding freeTo
 loop-holds c = (search needs, refl, refl, c .before .before .pre .1 .1, refl)
@@ -24,7 +31,7 @@ add-t14 : tie.Need-add-t14 Inv-loop μ-loop
 add-t14 c = search needs
 
 free-front-requires : tie.Need-free-front-requires Inv-loop μ-loop
-free-front-requires c κs = (c .before .before .before .before .before .before .before .pre .0, (omega arith, c .before .before .before .before .loop .inv .3))
+free-front-requires c κs = let turn = turning c in (behind turn .pre .0, (omega arith, turn .before .loop .inv .3))
 
 add-i : tie.Need-add-i Inv-loop μ-loop
 add-i c = search needs
@@ -34,9 +41,11 @@ loop-less c = search needs
 
 loop-again : tie.Need-loop-again Inv-loop μ-loop
 loop-again c =
-    let l = c .before .before .before .before .before .before .before .before .before .loop in
-    let start = c .before .before .before .before .before .before .before .before .before .before .before .before .args in
-    let f = c .before .before .before .before .free-front in
+    let freed = c .before .before .before .before in
+    let turn = turning (freed .before) in
+    let l = turn .before .loop in
+    let start = behind turn .args in
+    let f = freed .free-front in
     let at = frontOf (start .sandbox) (start .first .0) + l .i in
     let r = kept (l .h) (l .pool) (l .table) in
     let q = kept (f .result) (f .last .1 .0) (f .last .1 .1 .0) in

@@ -1,3 +1,4 @@
+-- What is left is cleared, each part by the function that clears it.
 use borrow.Author.Needs.{needs}
 use Rattle.freeing.proofs.store.start.Statement.{statement}
 use Rattle.freeing.proofs.store.start.Tie as tie

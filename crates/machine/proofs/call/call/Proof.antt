@@ -1,5 +1,5 @@
 -- A call: what each test shows of the number, and from it the step that each answer is.
-use mathlib.Core.Path.{_≡_, refl, sym, ap, _∙_}
+use mathlib.Core.Path.{_≡_, sym, ap, _∙_}
 use mathlib.Core.Bool.{true, false}
 use mathlib.Core.List.{List}
 use Prim.Native.Nat.{ℕ, _/_, _<_}
@@ -7,7 +7,6 @@ use native.Mathlib.Omega.{arith}
 use lib.ListN.{length, getD}
 use borrow.Author.Tests.{not-true, not-false}
 use Rattle.basics.proofs.TestLaws.{length-mapped}
-use Rattle.basics.proofs.ListLaws.{getD-any}
 use Rattle.interface.specs.declared.answer.Refusal.the-variants.{NoSuchCall, Unsound, NotOpen}
 use Rattle.interface.specs.Requests.{isCall}
 use Rattle.interface.specs.Refusals.{View, refusal}
@@ -149,7 +148,7 @@ perform-requires c κs =
     let start = behindState (atVerdict deciding) in
     let told = arm .enum-told .given .1 in
     let n = accepted-here deciding told in
-    (asked (imageIn start) (worldIn start) (start .args .q) (is-sound (atVerdict deciding)) n, (refl, areas-here deciding told))
+    (asked (imageIn start) (worldIn start) (start .args .q) (is-sound (atVerdict deciding)) n, areas-here deciding told)
 
 same-length-3 : tie.Need-same-length-3
 same-length-3 c = search needs

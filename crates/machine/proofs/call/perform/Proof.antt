@@ -1,16 +1,15 @@
 -- An accepted call: each part is asked in a sound state, and what they leave together is the step.
 use mathlib.Core.Path.{_≡_, ap, _∙_}
-use native.Mathlib.Omega.{arith}
 use lib.ListN.{length, getD, set}
 use Rattle.basics.proofs.TestLaws.{length-mapped}
-use Rattle.basics.proofs.ListLaws.{getD-any}
-use Rattle.table.specs.Store.{Store, kept}
 use Rattle.table.proofs.FiledLaws.{filed-ranged}
 use Rattle.areas.specs.declared.area.Areas.{Areas}
 use Rattle.state.specs.declared.sandbox.Sandbox.{Sandbox}
-use Rattle.state.specs.World.{World, worldOf, sandboxAt, closedSandbox, withRuns}
+use Rattle.state.specs.World.{World, worldOf, framesOf, withRuns}
 use Rattle.state.proofs.SharesLaws.{zeroSandbox}
 use Rattle.rules.specs.After.{sandboxWith, sandboxAfter}
+use Rattle.memory.specs.Parts.{ownSandbox}
+use Rattle.memory.proofs.MemoryLaws.{read-own}
 use Rattle.machine.proofs.CallLaws.{performed}
 use borrow.Author.Needs.{needs}
 use Rattle.machine.proofs.call.perform.Statement.{statement}
@@ -21,26 +20,25 @@ use Rattle.machine.proofs.call.perform.Tie as tie
 abbrev worldIn : tie.Start → World
 worldIn c = worldOf (c .args .machine) (c .args .pool .now) (c .args .table .now)
 
-abbrev storeIn : tie.Start → Store
-storeIn c = kept (c .args .machine .held) (c .args .pool .now) (c .args .table .now)
-
 -- the sandbox as the code reads it
 abbrev sandboxIn : tie.Start → Sandbox
 sandboxIn c = getD (c .args .machine .sandboxes) (c .args .q .sandbox) zeroSandbox
+
+abbrev own : tie.Start → Sandbox
+own c = ownSandbox (c .args .q) (worldIn c)
 
 four : (c : tie.Start) → length (c .args .machine .sandboxes) ≡ 4
 four c = search length-mapped
 
 -- is that of the world
-same-sandbox : (c : tie.Start) → sandboxIn c ≡ getD (c .args .machine .sandboxes) (c .args .q .sandbox) closedSandbox
-same-sandbox c = let l = four c in getD-any (c .args .machine .sandboxes) (c .args .q .sandbox) zeroSandbox closedSandbox (omega (arith, c .pre .0 .row))
+same-sandbox : (c : tie.Start) → sandboxIn c ≡ own c
+same-sandbox c = read-own (c .args .machine .sandboxes) (c .args .q .sandbox) (four c) (c .pre .0 .row)
 
 -- so with the areas that were decided it is the one that the request leaves
-own-after : (c : tie.Start) → let b = sandboxAt (worldIn c) (c .args .q .sandbox) in
-    sandboxWith (c .args .q) (c .args .present) (sandboxIn c) ≡ sandboxAfter (c .args .q) b
+own-after : (c : tie.Start) → sandboxWith (c .args .q) (c .args .present) (sandboxIn c) ≡ sandboxAfter (c .args .q) (own c)
 own-after c =
     ap (λ (b : Sandbox). sandboxWith (c .args .q) (c .args .present) b) (same-sandbox c)
-    ∙ ap (λ (present : Areas). sandboxWith (c .args .q) present (sandboxAt (worldIn c) (c .args .q .sandbox))) (c .pre .1 .1)
+    ∙ ap (λ (present : Areas). sandboxWith (c .args .q) present (own c)) (c .pre .1)
 
 -- ---- the parts in turn
 
@@ -68,8 +66,8 @@ value-of-requires : tie.Need-value-of-requires
 value-of-requires c κs =
     let start = c .before .before .before .before .before .before .before in
     let a = start .pre .0 in
-    let ranged = filed-ranged 256 (start .args .frames) (storeIn start) (a .filed) in
-    (a .row, (a .fit, (rw (same-sandbox start) (a .ready), (a .whole, (ranged, (a .filed .few, start .pre .1 .0))))))
+    let ranged = filed-ranged 256 (framesOf (worldIn start)) (worldIn start .store) (a .filed) in
+    (a .row, (a .fit, (rw (same-sandbox start) (a .ready), (ranged, a .filed .few))))
 
 store-after-requires : tie.Need-store-after-requires
 store-after-requires c κs = startOf (c .before .before) .pre .0
@@ -80,8 +78,8 @@ sandbox-after-requires c κs = startOf (valuedOf (c .before .before .before .bef
 with-runs-requires : tie.Need-with-runs-requires
 with-runs-requires c κs = search needs
 
-mul-t17 : tie.Need-mul-t17
-mul-t17 c = let row = startOf (valuedOf (storedOf (c .before))) .pre .0 .row in search needs
+mul-t15 : tie.Need-mul-t15
+mul-t15 c = let row = startOf (valuedOf (storedOf (c .before))) .pre .0 .row in search needs
 
 element-set-from-m : tie.Need-element-set-from-m
 element-set-from-m c =
@@ -103,8 +101,7 @@ returns c =
     let start = startOf valued in
     let q = start .args .q in
     let left = stored .store-after in
-    performed (start .args .image .now) (worldIn start) q (start .args .frames) (valued .value-of .result) _ _ (left .result .runs) (start .pre .1 .0)
-    (left .ensures)
+    performed (start .args .image .now) (worldIn start) q (valued .value-of .result) _ _ (left .result .runs) (left .ensures)
     (rw (← same-sandbox start) (valued .value-of .ensures (start .args .machine .held)))
     (ap (set (start .args .machine .sandboxes) (q .sandbox))
     (c .with-runs .ensures ∙ ap (withRuns (left .result .runs)) (c .before .sandbox-after .ensures ∙ own-after start)))
@@ -120,7 +117,7 @@ perform-spec =
     store-after-requires
     sandbox-after-requires
     with-runs-requires
-    mul-t17
+    mul-t15
     element-set-from-m
     same-length
     same-length-2

@@ -1,11 +1,22 @@
+-- The part is compared with the frame that is named, or with the backing where none is.
 use mathlib.Core.Path.{ap}
 use native.Mathlib.Omega.{arith}
 use Rattle.pages.specs.Parts.{zeros}
-use Rattle.table.specs.Source.{sourceEnd}
+use Rattle.table.specs.Backing.{backingEnd}
 use Rattle.reading.proofs.CompareLaws.{at-frame, at-zero, at-image, has-page}
 use borrow.Author.Needs.{needs}
 use Rattle.reading.proofs.compare.has_page.Statement.{statement}
 use Rattle.reading.proofs.compare.has_page.Tie as tie
+
+-- behind the test of the entry
+
+abbrev named : tie.Then1 → tie.Start
+named c = c .before .before .before .before
+
+abbrev unnamed : tie.Else1 → tie.Start
+unnamed c = c .before .before .before .before
+
+-- ---- the needs
 
 frame-of-requires : tie.Need-frame-of-requires
 frame-of-requires c κs = search needs
@@ -33,10 +44,11 @@ is-same-requires c κs = search needs
 
 returns : tie.Need-returns
 returns c =
-    let s = c .before .before .before .before .before .before .before .before in
-    let f = c .before .before .before .frame-of in
-    let named = c .before .before .before .before .if1 .taken in
-    let here = at-frame (s .args .pool .now) (s .args .image .now) (s .args .entry) (s .args .source) (f .result .0) (f .ensures) named in
+    let frame = c .before .before .before in
+    let s = named (frame .before) in
+    let a = s .args in
+    let f = frame .frame-of in
+    let here = at-frame (a .pool .now) (a .image .now) (a .entry) (a .backing) (f .result .0) (f .ensures) (frame .before .if1 .taken) in
     has-page (s .args .part .now) _ _ (c .is-same .result) (s .pre .0) here (c .is-same .ensures)
 
 enum-told : tie.Need-enum-told
@@ -48,8 +60,8 @@ slice-aggregate-is-same c = search needs
 is-same-requires-2 : tie.Need-is-same-requires-2
 is-same-requires-2 c κs = search needs
 
-enum-known-source : tie.Need-enum-known-source
-enum-known-source c = search needs
+enum-known-backing : tie.Need-enum-known-backing
+enum-known-backing c = search needs
 
 cast-start-2 : tie.Need-cast-start-2
 cast-start-2 c = search needs
@@ -67,7 +79,7 @@ part-is-same-start-2 : tie.Need-part-is-same-start-2
 part-is-same-start-2 c = search needs
 
 part-is-same-end-2 : tie.Need-part-is-same-end-2
-part-is-same-end-2 c = omega (arith, ap sourceEnd (c .before .before .source .given .1))
+part-is-same-end-2 c = omega (arith, ap backingEnd (c .before .before .backing .given .1))
 
 is-same-requires-3 : tie.Need-is-same-requires-3
 is-same-requires-3 c κs = search needs
@@ -75,17 +87,20 @@ is-same-requires-3 c κs = search needs
 returns-2 : tie.Need-returns-2
 unfolding zeros
 returns-2 c =
-    let s = c .before .before .before .before .before .before .before .before in
-    let none = c .before .before .before .before .if1 .left in
-    let here = at-zero (s .args .pool .now) (s .args .image .now) (s .args .entry) (s .args .source) none (c .before .before .enum-told .given .1) in
+    let told = c .before .before in
+    let s = unnamed (told .before .before) in
+    let a = unnamed (told .before .before) .args in
+    let none = told .before .before .if1 .left in
+    let here = at-zero (a .pool .now) (a .image .now) (a .entry) (a .backing) none (told .enum-told .given .1) in
     has-page (s .args .part .now) _ _ (c .is-same2 .result) (s .pre .0) here (c .is-same2 .ensures)
 
 returns-3 : tie.Need-returns-3
 returns-3 c =
-    let s = c .before .before .before .before .before .before .before .before .before .before in
-    let none = c .before .before .before .before .before .before .if1 .left in
-    let known = c .before .before .before .before .source .given in
-    let here = at-image (s .args .pool .now) (s .args .image .now) (s .args .entry) (s .args .source) (known .0 .0) none (known .1) in
+    let page = c .before .before .before .before in
+    let s = unnamed (page .before .before) in
+    let a = s .args in
+    let known = page .backing .given in
+    let here = at-image (a .pool .now) (a .image .now) (a .entry) (a .backing) (known .0 .0) (page .before .before .if1 .left) (known .1) in
     has-page (s .args .part .now) _ _ (c .is-same3 .result) (s .pre .0) here (c .is-same3 .ensures)
 
 pub has-page-spec : {M : Type 1} → statement M
@@ -104,7 +119,7 @@ has-page-spec =
     enum-told
     slice-aggregate-is-same
     is-same-requires-2
-    enum-known-source
+    enum-known-backing
     cast-start-2
     mul-start-2
     add-end-2

@@ -1,20 +1,28 @@
+-- The bytes of the first page, wherever they stand, are compared with the second page.
 use mathlib.Core.Path.{ap}
 use mathlib.Core.List.{List}
 use Prim.Native.Nat.{ℕ}
 use native.Mathlib.Omega.{arith}
 use Rattle.pages.specs.Parts.{zeros}
-use Rattle.table.specs.Source.{sourceEnd}
+use Rattle.table.specs.Backing.{backingEnd}
 use Rattle.reading.proofs.CompareLaws.{lent, pageOf, at-frame, at-zero, at-image, same-as}
 use borrow.Author.Needs.{needs}
 use Rattle.reading.proofs.compare.same_pages.Statement.{statement}
 use Rattle.reading.proofs.compare.same_pages.Tie as tie
 
--- the two pages
-abbrev mine : tie.Start → List ℕ
-mine s = pageOf (s .args .pool .now) (s .args .image .now) (s .args .entry) (s .args .source)
+-- behind the test of the entry
 
+abbrev named : tie.Then1 → tie.Start
+named c = c .before .before .before
+
+abbrev unnamed : tie.Else1 → tie.Start
+unnamed c = c .before .before .before
+
+-- the page that it is compared with
 abbrev twin : tie.Start → List ℕ
 twin s = pageOf (s .args .pool .now) (s .args .image .now) (s .args .other) (s .args .twin)
+
+-- ---- the needs
 
 frame-of-requires : tie.Need-frame-of-requires
 frame-of-requires c κs = search needs
@@ -42,11 +50,12 @@ has-page-requires c κs = search needs
 
 returns : tie.Need-returns
 returns c =
-    let s = c .before .before .before .before .before .before .before in
-    let f = c .before .before .before .frame-of in
-    let named = c .before .before .before .before .if1 .taken in
-    let here = at-frame (s .args .pool .now) (s .args .image .now) (s .args .entry) (s .args .source) (f .result .0) (f .ensures) named in
-    same-as (lent (s .args .pool .now) (f .result .0)) (mine s) (twin s) (c .has-page .result) here (c .has-page .ensures)
+    let frame = c .before .before .before in
+    let s = named (frame .before) in
+    let a = s .args in
+    let f = frame .frame-of in
+    let here = at-frame (a .pool .now) (a .image .now) (a .entry) (a .backing) (f .result .0) (f .ensures) (frame .before .if1 .taken) in
+    same-as (lent (a .pool .now) (f .result .0)) _ (twin s) (c .has-page .result) here (c .has-page .ensures)
 
 enum-told : tie.Need-enum-told
 enum-told c = search needs
@@ -57,8 +66,8 @@ slice-aggregate-has-page c = search needs
 has-page-requires-2 : tie.Need-has-page-requires-2
 has-page-requires-2 c κs = search needs
 
-enum-known-source : tie.Need-enum-known-source
-enum-known-source c = search needs
+enum-known-backing : tie.Need-enum-known-backing
+enum-known-backing c = search needs
 
 cast-start-2 : tie.Need-cast-start-2
 cast-start-2 c = search needs
@@ -76,7 +85,7 @@ part-has-page-start-2 : tie.Need-part-has-page-start-2
 part-has-page-start-2 c = search needs
 
 part-has-page-end-2 : tie.Need-part-has-page-end-2
-part-has-page-end-2 c = omega (arith, ap sourceEnd (c .before .before .source .given .1))
+part-has-page-end-2 c = omega (arith, ap backingEnd (c .before .before .backing .given .1))
 
 has-page-requires-3 : tie.Need-has-page-requires-3
 has-page-requires-3 c κs = search needs
@@ -84,19 +93,20 @@ has-page-requires-3 c κs = search needs
 returns-2 : tie.Need-returns-2
 unfolding zeros
 returns-2 c =
-    let s = c .before .before .before .before .before .before .before in
-    let none = c .before .before .before .before .if1 .left in
-    let here = at-zero (s .args .pool .now) (s .args .image .now) (s .args .entry) (s .args .source) none (c .before .before .enum-told .given .1) in
-    same-as (zeros 256) (mine s) (twin s) (c .has-page2 .result) here (c .has-page2 .ensures)
+    let told = c .before .before in
+    let a = unnamed (told .before .before) .args in
+    let none = told .before .before .if1 .left in
+    let here = at-zero (a .pool .now) (a .image .now) (a .entry) (a .backing) none (told .enum-told .given .1) in
+    same-as (zeros 256) _ (twin (unnamed (told .before .before))) (c .has-page2 .result) here (c .has-page2 .ensures)
 
 returns-3 : tie.Need-returns-3
 returns-3 c =
-    let s = c .before .before .before .before .before .before .before .before .before in
-    let none = c .before .before .before .before .before .before .if1 .left in
-    let known = c .before .before .before .before .source .given in
-    let page = lent (s .args .image .now) (known .0 .0 .0) in
-    let here = at-image (s .args .pool .now) (s .args .image .now) (s .args .entry) (s .args .source) (known .0 .0) none (known .1) in
-    same-as page (mine s) (twin s) (c .has-page3 .result) here (c .has-page3 .ensures)
+    let page = c .before .before .before .before in
+    let s = unnamed (page .before .before) in
+    let a = s .args in
+    let known = page .backing .given in
+    let here = at-image (a .pool .now) (a .image .now) (a .entry) (a .backing) (known .0 .0) (page .before .before .if1 .left) (known .1) in
+    same-as (lent (a .image .now) (known .0 .0 .0)) _ (twin s) (c .has-page3 .result) here (c .has-page3 .ensures)
 
 pub same-pages-spec : {M : Type 1} → statement M
 same-pages-spec =
@@ -114,7 +124,7 @@ same-pages-spec =
     enum-told
     slice-aggregate-has-page
     has-page-requires-2
-    enum-known-source
+    enum-known-backing
     cast-start-2
     mul-start-2
     add-end-2

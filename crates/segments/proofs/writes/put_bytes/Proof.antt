@@ -33,8 +33,8 @@ cast-offset c = search needs
 read-byte-requires : tie.Need-read-byte-requires Inv-loop μ-loop
 read-byte-requires c κs = search needs
 
-source-byte-requires : tie.Need-source-byte-requires Inv-loop μ-loop
-source-byte-requires c κs =
+backing-byte-requires : tie.Need-backing-byte-requires Inv-loop μ-loop
+backing-byte-requires c κs =
     let start = c .before .before .before .before .before .before .before in
     rw (c .before .before .before .backing-at .ensures) (start .pre .1 .0)
 
@@ -44,7 +44,7 @@ write-line-requires c κs = search needs
 put-if-requires : tie.Need-put-if-requires Inv-loop μ-loop
 put-if-requires c κs =
     let line = c .write-line in
-    let old = c .before .before .source-byte in
+    let old = c .before .before .backing-byte in
     let read = c .before .before .before .read-byte in
     let turn = c .before .before .before .before in
     let l = turn .before .loop in
@@ -65,7 +65,7 @@ loop-again : tie.Need-loop-again Inv-loop μ-loop
 loop-again c =
     let put = c .before .before .put-if in
     let line = c .before .before .before .write-line in
-    let old = c .before .before .before .before .before .source-byte in
+    let old = c .before .before .before .before .before .backing-byte in
     let read = c .before .before .before .before .before .before .read-byte in
     let turn = c .before .before .before .before .before .before .before in
     let l = turn .before .loop in
@@ -96,7 +96,7 @@ put-bytes-spec =
     loop-holds
     cast-offset
     read-byte-requires
-    source-byte-requires
+    backing-byte-requires
     write-line-requires
     put-if-requires
     add-j

@@ -1,3 +1,4 @@
+-- The entry 64 past the front entry is the back entry.
 use borrow.Author.Needs.{needs}
 use Rattle.table.proofs.entry.back.Statement.{statement}
 use Rattle.table.proofs.entry.back.Tie as tie

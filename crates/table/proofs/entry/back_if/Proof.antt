@@ -1,3 +1,4 @@
+-- The back entry where the page is committed, and none else.
 use borrow.Author.Needs.{needs}
 use Rattle.table.proofs.entry.back_if.Statement.{statement}
 use Rattle.table.proofs.entry.back_if.Tie as tie

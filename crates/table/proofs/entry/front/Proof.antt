@@ -1,3 +1,4 @@
+-- The entry at the place that `front_index` gives is the front entry.
 use borrow.Author.Needs.{needs}
 use Rattle.table.proofs.entry.front.Statement.{statement}
 use Rattle.table.proofs.entry.front.Tie as tie

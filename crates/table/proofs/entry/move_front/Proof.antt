@@ -1,3 +1,4 @@
+-- The two stores, in this order, are the `move` of the store.
 use native.Mathlib.Omega.{arith}
 use borrow.Author.Needs.{needs}
 use lib.ListN.{length-set}

@@ -12,7 +12,8 @@ use Rattle.table.proofs.entry.move_fronts.Statement.{statement}
 use Rattle.table.proofs.entry.move_fronts.Tie as tie
 
 abbrev Inv-loop : tie.InvT-loop
-Inv-loop table₀ sandbox i₀ table i = (i ≤ 64) × (length table ≡ length table₀) × ((h : Held) (pool : List ℕ) → kept h pool table ≡ moveTo (sandbox * 128) (kept h pool table₀) i)
+Inv-loop table₀ sandbox i₀ table i = (i ≤ 64) × (length table ≡ length table₀)
+    × ((h : Held) (pool : List ℕ) → kept h pool table ≡ moveTo (sandbox * 128) (kept h pool table₀) i)
 
 abbrev μ-loop : tie.MeasureT-loop
 μ-loop table₀ sandbox i₀ table i = 64 - i

@@ -1,16 +1,24 @@
+-- A byte of an anonymous backing is zero; any other is read in the part of the image that is its page.
 use mathlib.Core.Path.{ap}
 use native.Mathlib.Omega.{arith}
 use borrow.Author.Needs.{needs}
 use Rattle.pages.proofs.PartLaws.{part-is-frame, getD-zeros}
-use Rattle.table.specs.Source.{sourceEnd}
-use Rattle.reading.proofs.source.read_byte.Statement.{statement}
-use Rattle.reading.proofs.source.read_byte.Tie as tie
+use Rattle.table.specs.Backing.{backingEnd}
+use Rattle.reading.proofs.backing.read_byte.Statement.{statement}
+use Rattle.reading.proofs.backing.read_byte.Tie as tie
+
+-- behind the page of the image
+abbrev paged : tie.After-read → tie.After-backing
+paged c = c .before .before .before .before
+
+abbrev behind : tie.After-backing → tie.Start
+behind c = c .before .before .before
 
 enum-told : tie.Need-enum-told
 enum-told c = search needs
 
-enum-known-source : tie.Need-enum-known-source
-enum-known-source c = search needs
+enum-known-backing : tie.Need-enum-known-backing
+enum-known-backing c = search needs
 
 cast-start : tie.Need-cast-start
 cast-start c = search needs
@@ -28,7 +36,7 @@ part-read-start : tie.Need-part-read-start
 part-read-start c = search needs
 
 part-read-end : tie.Need-part-read-end
-part-read-end c = omega (arith, ap sourceEnd (c .before .before .source .given .1))
+part-read-end c = omega (arith, ap backingEnd (c .before .before .backing .given .1))
 
 read-requires : tie.Need-read-requires
 read-requires c κs = search needs
@@ -38,16 +46,15 @@ returns c = rw (c .enum-told .given .1, getD-zeros)
 
 returns-2 : tie.Need-returns-2
 returns-2 c =
-    let start = c .before .before .before .before .before .before .before in
-    let known = c .before .before .before .before .source .given in
-    rw (known .1, ← part-is-frame 256 (start .args .image .now) (known .0 .0 .0)) (c .read .ensures)
+    let known = paged c .backing .given in
+    rw (known .1, ← part-is-frame 256 (behind (paged c) .args .image .now) (known .0 .0 .0)) (c .read .ensures)
 
 pub read-byte-spec : {M : Type 1} → statement M
 read-byte-spec =
     tie.close
     (tie.spec
     enum-told
-    enum-known-source
+    enum-known-backing
     cast-start
     mul-start
     add-end

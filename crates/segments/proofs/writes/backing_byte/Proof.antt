@@ -1,14 +1,13 @@
 -- A byte of a page that was never written.
-use Rattle.content.specs.Content.{sourceOf}
-use Rattle.table.specs.Source.{sourceEnd}
+use Rattle.table.specs.Backing.{backingEnd}
 use Rattle.interface.specs.declared.page.Backing.{Backing}
 use native.Mathlib.Omega.{arith}
 use lib.ListN.{getD}
 use Prim.Native.Nat.{ℕ}
 use mathlib.Core.Path.{ap}
 use borrow.Author.Needs.{needs}
-use Rattle.segments.proofs.writes.source_byte.Statement.{statement}
-use Rattle.segments.proofs.writes.source_byte.Tie as tie
+use Rattle.segments.proofs.writes.backing_byte.Statement.{statement}
+use Rattle.segments.proofs.writes.backing_byte.Tie as tie
 
 enum-told : tie.Need-enum-told
 enum-told c = search needs
@@ -28,7 +27,7 @@ add-place c = search needs
 shared-slice-read-result : tie.Need-shared-slice-read-result
 shared-slice-read-result c =
     let known = c .before .before .before .backing .given .1 in
-    let end = ap (λ (b : Backing). sourceEnd (sourceOf b)) known in
+    let end = ap (λ (b : Backing). backingEnd b) known in
     omega (arith, end, c .before .before .before .before .before .pre)
 
 returns : tie.Need-returns
@@ -40,8 +39,8 @@ returns-2 c =
     let known = c .before .before .before .backing .given .1 in
     rw known (ap (λ (x : ℕ). getD (s .args .image .now) x 0) (omega arith))
 
-pub source-byte-spec : {M : Type 1} → statement M
-source-byte-spec =
+pub backing-byte-spec : {M : Type 1} → statement M
+backing-byte-spec =
     tie.close
     (tie.spec
     enum-told

@@ -1,0 +1,26 @@
+// A frame filled with the bytes that a page starts with.
+ghost use mathlib.Core.Path.{_≡_};
+ghost use Prim.Native.Nat.{_+_, _*_, _≤_};
+ghost use lib.ListN.{length};
+ghost use Rattle.pages.specs.Parts.{setFrame};
+ghost use Rattle.table.specs.Backing.{backingPage, backingEnd};
+use frames::FrameNo;
+use interface::page::Backing;
+use pages::Page;
+
+// A frame gets the backing's bytes.
+pub(crate) fn fill_frame(pool: &mut [u8], f: FrameNo, image: &[u8], backing: Backing)
+    requires { ⌜ f .0 * 256 + 256 ≤ length (now pool) ⌝ }
+    requires { ⌜ backingEnd backing * 256 ≤ length (now image) ⌝ }
+    ensures { λ r. ⌜ (let bytes = backingPage (now (image .entry)) backing in
+        now (pool .exit) ≡ setFrame 256 (now (pool .entry)) (f .0) bytes) ⌝ }
+{
+    match backing {
+        Backing::Anonymous => pool::clear_frame(pool, f),
+        Backing::Image(page) => {
+            let start = page.0 as usize * Page::SIZE;
+            let end = start + Page::SIZE;
+            pool::fill_frame(pool, f, &image[start..end])
+        }
+    }
+}

@@ -1,0 +1,10 @@
+// A page of a sandbox, as it is handed to what reads, fills and restores it.
+use interface::page::PageNo;
+use interface::page::Slot;
+
+// Whose page it is, its number, and what stands there.
+pub struct VirtualPage {
+    pub sandbox: u8,
+    pub number: PageNo,
+    pub slot: Slot,
+}
