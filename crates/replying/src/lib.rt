@@ -1,7 +1,7 @@
 // One line of a roll answered: its request is called, and the reply is printed at its place.
 // It promises that the reply is that of the machine's step, or refusal 1 where the line is malformed, and that nothing else of the output changes
 // (`Turned` and `Replied` of `roll`).
-// It stands on `machine` for the call, on `codes` for the number of an answer, on `lines` for the print and on `roll` for what a reply is.
+// It stands on `machine` for the call, on `codes` for the number of an answer, on `printer` for the print and on `roll` for what a reply is.
 ghost use mathlib.Core.Path.{_≡_};
 ghost use Prim.Native.Nat.{_+_, _*_, _≤_};
 ghost use lib.ListN.{length};
@@ -13,9 +13,9 @@ ghost use Rattle.roll.specs.Play.{Turned, Replied};
 use interface::answer::Answer;
 use interface::answer::Refusal;
 use lines::Line;
-use lines::print_reply;
 use machine::call::Reply;
 use machine::call::call;
+use printer::print_reply;
 use state::sandbox::Machine;
 
 // One line, with its reply: 19 bytes of out.
