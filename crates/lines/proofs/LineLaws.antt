@@ -88,6 +88,11 @@ module _ (line : List ℕ) (formed : wellFormed line ≡ true) where
   unfolding fieldAt
   formed-small = small-listed 7 (numberAt line) (λ k h. field-small (take 6 (drop (k * 6) line)) (numberAt line k) (formed-field k h))
 
+-- a well formed line says the request of its fields
+pub parsed-call : (line : List ℕ) → wellFormed line ≡ true → (q : Request) → q ≡ requestIn line → Call q ≡ parsed line
+unfolding parsed
+parsed-call line formed q e = rw (formed, e)
+
 call-same : (p q : Request) → Call p ≡ Call q → p ≡ q
 call-same p q e = cc
 

@@ -1,5 +1,5 @@
 // The roll's text printed: a reply, and a request, into the bytes of a line.
-// It promises that what is printed is the line that `lines` says: for a reply `printedReply`, for a request `printedRequest`, the one form that the parser takes.
+// It promises that what is printed is the line that `lines` defines, for a reply and for a request, and so the one form of a request that the parser takes.
 // It stands on `lines` for what a line has in its columns, and on `pages` for a part of a list.
 ghost use mathlib.Core.Path.{_≡_};
 ghost use Prim.Native.Nat.{_+_, _*_, _≤_};

@@ -7,9 +7,9 @@ use lib.Dec.{eqb}
 use lib.ListN.{getD}
 use borrow.Author.Tests.{ne-eqb, not-true, not-false}
 use borrow.Author.Needs.{needs}
-use Rattle.lines.specs.Fields.{isNumber}
+use Rattle.lines.specs.Fields.{isNumber, numberIn}
 use Rattle.lines.specs.Lines.{wellFormed, parsed}
-use Rattle.lines.proofs.LineLaws.{formed-by-fields}
+use Rattle.lines.proofs.LineLaws.{formed-by-fields, parsed-call}
 use Rattle.lines.proofs.parse.Statement.{statement}
 use Rattle.lines.proofs.parse.Tie as tie
 
@@ -123,30 +123,22 @@ number-in-requires-7 : tie.Need-number-in-requires-7
 number-in-requires-7 c κs = search needs
 
 returns-3 : tie.Need-returns-3
-unfolding parsed
 returns-3 c =
     let fourth = c .before .before .before in
     let accepted = fourth .before .before .before .before in
     let told = accepted .before .before in
     let p5 = read told in
     let p2 = p5 .before .before .before in
-    simp (
-      sym (formed told) ∙ not-false _ (accepted .if2 .left),
-      c .number-in7 .ensures,
-      c .before .number-in6 .ensures,
-      c .before .before .number-in5 .ensures,
-      fourth .number-in4 .ensures,
-      fourth .before .number-in3 .ensures,
-      fourth .before .before .number-in2 .ensures,
-      fourth .before .before .before .number-in .ensures,
-      p5 .field-at7 .ensures,
-      p5 .before .field-at6 .ensures,
-      p5 .before .before .field-at5 .ensures,
-      p2 .field-at4 .ensures,
-      p2 .before .field-at3 .ensures,
-      p2 .before .before .field-at2 .ensures,
-      p2 .before .before .before .field-at .ensures,
-    )
+    parsed-call (line p5) (sym (formed told) ∙ not-false _ (accepted .if2 .left)) _
+    (λ i. record {
+      code = (fourth .before .before .before .number-in .ensures ∙ ap numberIn (p2 .before .before .before .field-at .ensures)) i;
+      sandbox = (fourth .before .before .number-in2 .ensures ∙ ap numberIn (p2 .before .before .field-at2 .ensures)) i;
+      p1 = (fourth .before .number-in3 .ensures ∙ ap numberIn (p2 .before .field-at3 .ensures)) i;
+      p2 = (fourth .number-in4 .ensures ∙ ap numberIn (p2 .field-at4 .ensures)) i;
+      p3 = (c .before .before .number-in5 .ensures ∙ ap numberIn (p5 .before .before .field-at5 .ensures)) i;
+      p4 = (c .before .number-in6 .ensures ∙ ap numberIn (p5 .before .field-at6 .ensures)) i;
+      p5 = (c .number-in7 .ensures ∙ ap numberIn (p5 .field-at7 .ensures)) i;
+    })
 
 pub parse-spec : {M : Type 1} → statement M
 parse-spec =
