@@ -18,27 +18,47 @@ use machine::call::call;
 use printer::print_reply;
 use state::sandbox::Machine;
 
-// One line, with its reply: 19 bytes of out.
+// A roll that is being played: the machine, the number of the roll's first line, how many lines are answered, and how many there are.
+pub struct Playing {
+    pub machine: Machine,
+    pub first: u32,
+    pub answered: usize,
+    pub lines: usize,
+}
+
+// The next line, with its reply: 19 bytes of out.
 pub fn reply<'a, 'b>(
-    machine: Machine,
+    playing: Playing,
     pool: &'a mut [u8],
     table: &'a mut [u16],
     image: &'b [u8],
     line: Line,
-    first: u32,
-    k: usize,
     out: &'a mut [u8],
-) -> Machine
-    requires { ⌜ (k * 19 + 19 ≤ length (now out)) × (first + k ≤ 999999) ⌝ }
-    ensures { λ r. ⌜ Replied (now (image .entry)) (worldOf machine (now (pool .entry)) (now (table .entry))) line (first + k) (k * 19) (now (out .entry))
-        (now (out .exit)) (worldOf r (now (pool .exit)) (now (table .exit))) ⌝ }
+) -> Playing
+    requires { ⌜ (playing .answered * 19 + 19 ≤ length (now out)) × (playing .first + playing .answered ≤ 999999) ⌝ }
+    ensures { λ r. let before = worldOf (playing .machine) (now (pool .entry)) (now (table .entry)) in
+        let k = playing .answered in
+        ⌜ Replied (now (image .entry)) before line (playing .first + k) (k * 19) (now (out .entry)) (now (out .exit))
+        (worldOf (r .machine) (now (pool .exit)) (now (table .exit)))
+        × (r .first ≡ playing .first) × (r .answered ≡ k + 1) × (r .lines ≡ playing .lines) ⌝ }
 {
+    let machine = playing.machine;
     let r = turn(machine, pool, table, image, line);
-    let at = k * Line::REPLY;
+    let at = playing.answered * Line::REPLY;
     let end = at + Line::REPLY;
     let answer = r.answer;
-    print(&mut out[at..end], first + k as u32, answer);
-    r.machine
+    print(
+        &mut out[at..end],
+        playing.first + playing.answered as u32,
+        answer,
+    );
+    let after = r.machine;
+    Playing {
+        machine: after,
+        first: playing.first,
+        answered: playing.answered + 1,
+        lines: playing.lines,
+    }
 }
 
 // One line: its request is called; a malformed one is refused.

@@ -1,3 +1,4 @@
+-- A roll played is all its lines played: what `play_lines` ensures, at the count that `lines_of` ensures.
 use borrow.Author.Needs.{needs}
 use Rattle.playing.proofs.play.Statement.{statement}
 use Rattle.playing.proofs.play.Tie as tie
@@ -17,10 +18,23 @@ same-length-2 c = search needs
 same-length-3 : tie.Need-same-length-3
 same-length-3 c = search needs
 
+-- where the lines have been played, and where they have been counted
+abbrev played : tie.After-result → tie.After-play-lines
+played c = c .before .before .before .before .before .before .before
+
+abbrev counted : tie.After-play-lines → tie.After-lines-of
+counted c = c .before .before .before .before
+
 returns : tie.Need-returns
-returns c =
-    let played = c .before .before .before .before .before .before in
-    rw (← (played .before .lines-of .ensures)) (played .play-lines .ensures)
+returns c = rw (← (counted (played c) .lines-of .ensures)) (played c .play-lines .ensures)
 
 pub play-spec : {M : Type 1} → statement M
-play-spec = tie.close (tie.spec lines-of-requires play-lines-requires same-length same-length-2 same-length-3 returns)
+play-spec =
+    tie.close
+    (tie.spec
+    lines-of-requires
+    play-lines-requires
+    same-length
+    same-length-2
+    same-length-3
+    returns)
