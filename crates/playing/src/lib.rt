@@ -2,11 +2,12 @@
 // It promises that the replies are those of a run of the well-formed lines' requests, and refusal 1 for each other line (`Played` of `roll`).
 // It stands on `reader` for the lines, on `replying` for the reply to each, and on `roll` for what is played.
 ghost use mathlib.Core.Path.{_≡_};
-ghost use Prim.Native.Nat.{_+_, _*_, _≤_};
+ghost use Prim.Native.Nat.{_+_, _*_, _/_, _≤_};
 ghost use lib.ListN.{length};
 ghost use Rattle.lines.specs.Lines.{linesOf};
 ghost use Rattle.state.specs.World.{worldOf};
 ghost use Rattle.roll.specs.Play.{Played};
+use lines::Line;
 use lines::lines_of;
 use reader::new;
 use reader::next;
@@ -19,6 +20,15 @@ use state::sandbox::Machine;
 pub struct Player {
     pub machine: Machine,
     pub line: u32,
+}
+
+impl Player {
+    // "line number from 1"
+    pub const FIRST: u32 = 1;
+    // "Lines after the 65,535th are not read."
+    pub const LAST: u32 = 65_535;
+    // The bytes of a program's pool: "with 128 frames"
+    pub const POOL: usize = 32_768;
 }
 
 // Plays a roll, or a part of one that starts at a line's start, from the player's line on. Each line's reply is 19 bytes of out.
@@ -35,7 +45,8 @@ pub fn play(
     requires { ⌜ player .line + linesOf (length (now roll)) ≤ 1000000 ⌝ }
     ensures { λ r. let before = worldOf (player .machine) (now (pool .entry)) (now (table .entry)) in
         let lines = linesOf (length (now (roll .entry))) in
-        ⌜ Played (now (image .entry)) before (now (roll .entry)) lines (player .line) (now (out .entry)) (now (out .exit))
+        ⌜ Played (now (image .entry)) before (now (roll .entry)) lines (player .line) (now (out .entry))
+        (now (out .exit))
         (worldOf r (now (pool .exit)) (now (table .exit))) ⌝ }
 {
     let machine = player.machine;
@@ -43,13 +54,13 @@ pub fn play(
         machine: machine,
         first: player.line,
         answered: 0,
-        lines: lines_of(roll.len()),
     };
-    let played = play_lines(playing, pool, table, image, roll, out);
+    let size = lines_of(roll.len()) * Line::REPLY;
+    let played = play_lines(playing, pool, table, image, roll, &mut out[..size]);
     played.machine
 }
 
-// All lines of the roll, over which one reader goes line by line.
+// As many lines of the roll as out has room for replies, over which one reader goes line by line.
 fn play_lines(
     playing: Playing,
     pool: &mut [u8],
@@ -58,15 +69,16 @@ fn play_lines(
     roll: &[u8],
     out: &mut [u8],
 ) -> Playing
-    requires { ⌜ (playing .lines * 19 ≤ length (now out)) × (playing .first + playing .lines ≤ 1000000)
-        × (playing .answered ≡ 0) ⌝ }
+    requires { ⌜ (playing .first + length (now out) / 19 ≤ 1000000) × (playing .answered ≡ 0) ⌝ }
     ensures { λ r. let before = worldOf (playing .machine) (now (pool .entry)) (now (table .entry)) in
-        ⌜ Played (now (image .entry)) before (now (roll .entry)) (playing .lines) (playing .first) (now (out .entry))
-        (now (out .exit)) (worldOf (r .machine) (now (pool .exit)) (now (table .exit))) ⌝ }
+        let lines = length (now (out .entry)) / 19 in
+        ⌜ Played (now (image .entry)) before (now (roll .entry)) lines (playing .first) (now (out .entry)) (now (out .exit))
+        (worldOf (r .machine) (now (pool .exit)) (now (table .exit))) ⌝ }
 {
+    let lines = out.len() / Line::REPLY;
     let mut state = playing;
     let mut reader = new(roll);
-    while reader.line < state.lines {
+    while reader.line < lines {
         let line = next(reader);
         state = reply(state, pool, table, image, line, out);
         reader = skip(reader);

@@ -18,12 +18,11 @@ use machine::call::call;
 use printer::print_reply;
 use state::sandbox::Machine;
 
-// A roll that is being played: the machine, the number of the roll's first line, how many lines are answered, and how many there are.
+// A roll that is being played: the machine, the number of the roll's first line, and how many lines are answered.
 pub struct Playing {
     pub machine: Machine,
     pub first: u32,
     pub answered: usize,
-    pub lines: usize,
 }
 
 // The next line, with its reply: 19 bytes of out.
@@ -40,7 +39,7 @@ pub fn reply<'a, 'b>(
         let k = playing .answered in
         ⌜ Replied (now (image .entry)) before line (playing .first + k) (k * 19) (now (out .entry)) (now (out .exit))
         (worldOf (r .machine) (now (pool .exit)) (now (table .exit)))
-        × (r .first ≡ playing .first) × (r .answered ≡ k + 1) × (r .lines ≡ playing .lines) ⌝ }
+        × (r .first ≡ playing .first) × (r .answered ≡ k + 1) ⌝ }
 {
     let machine = playing.machine;
     let r = turn(machine, pool, table, image, line);
@@ -57,7 +56,6 @@ pub fn reply<'a, 'b>(
         machine: after,
         first: playing.first,
         answered: playing.answered + 1,
-        lines: playing.lines,
     }
 }
 

@@ -6,30 +6,27 @@ ghost use Rattle.state.specs.World.{worldOf};
 ghost use Rattle.state.specs.Start.{startedBy};
 ghost use Rattle.roll_input.specs.Input.{RollPlayed};
 use lines::Line;
+use playing::Player;
 use playing::play;
 use soundness::start::start;
 use state::sandbox::Machine;
 
 // Plays the roll on standard input from a start, line by line; its replies are not printed. "Lines after the 65,535th are not read."
 pub fn play_input(pool: &mut [u8], table: &mut [u16], image: &[u8]) -> Machine
-    ensures { λ r. ⌜ RollPlayed (now (image .entry)) (startedBy (now (pool .entry)) (now (table .entry)) (now (image .entry)))
-        (worldOf r (now (pool .exit)) (now (table .exit))) ⌝ }
+    ensures { λ r. let started = startedBy (now (pool .entry)) (now (table .entry)) (now (image .entry)) in
+        ⌜ RollPlayed (now (image .entry)) started (worldOf r (now (pool .exit)) (now (table .exit))) ⌝ }
 {
     let mut machine = start(pool, table, image).machine;
-    let mut number: u32 = 1;
-    while number < 65_536 {
-        let mut line = [0u8; 43];
-        let mut reply = [0u8; 19];
+    let mut number = Player::FIRST;
+    while number <= Player::LAST {
+        let mut line = [0u8; Line::BYTES];
+        let mut reply = [0u8; Line::REPLY];
         let got = io::read_full(libc::STDIN_FILENO, &mut line);
-        machine = play(
-            machine,
-            pool,
-            table,
-            image,
-            &line[..got],
-            number,
-            &mut reply,
-        );
+        let player = Player {
+            machine: machine,
+            line: number,
+        };
+        machine = play(player, pool, table, image, &line[..got], &mut reply);
         if got < Line::BYTES {
             return machine;
         }

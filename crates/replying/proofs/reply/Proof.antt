@@ -81,7 +81,6 @@ returns c =
       },
       refl,
       refl,
-      refl,
     )
 
 pub reply-spec : {M : Type 1} → statement M

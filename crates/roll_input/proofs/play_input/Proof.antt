@@ -7,8 +7,9 @@ use lib.ListN.{length}
 use borrow.Author.Needs.{needs}
 use Rattle.state.specs.World.{World, worldOf}
 use Rattle.state.specs.Start.{startedBy}
+use Rattle.playing.proofs.PrefixLaws.{few-lines}
 use Rattle.roll_input.specs.Input.{RollPlayed}
-use Rattle.roll_input.proofs.InputLaws.{SoFar, none-so-far, few-lines, ended, one-more, full}
+use Rattle.roll_input.proofs.InputLaws.{SoFar, none-so-far, ended, one-more, full}
 use Rattle.roll_input.proofs.play_input.Statement.{statement}
 use Rattle.roll_input.proofs.play_input.Tie as tie
 

@@ -40,7 +40,7 @@ use Rattle.reader.proofs.new.Symbol.{name as #reader·new}
 use Rattle.roll.specs.Play.{Played}
 use Rattle.roll.proofs.PlayLaws.{played-none}
 use Rattle.playing.proofs.play_lines as play-lines
-use Rattle.playing.proofs.play_lines.Proof.Held.{Passed, Turn, Fits, Held, Slices, Token, Roll-token, Roll, B, reader, mach, spelled, slice, called}
+use Rattle.playing.proofs.play_lines.Proof.Held.{valueOf, Passed, Turn, Fits, Held, Slices, Token, Roll-token, Roll, B, reader, mach, spelled, slice, called}
 use Rattle.playing.proofs.play_lines.Proof.Held.{pool₀, table₀, image, roll, first, out₀, n, κi, κr}
 
 abbrev pub stayed : Stays (play-lines.ended .signature .params) (play-lines.ended .kept)
@@ -60,10 +60,10 @@ module _ {M₁ : Type 1} (𝓤 : URA M₁) (H : Heap 𝓤) (A : Atoms 𝓤) (mem
       (fact 𝓤 ((r .src ≡ s) × (r .line ≡ 0)))
   new-said κ s r = exE 𝓤 _ (λ ws. snd∗ 𝓤 (sem 𝓤 H A (lasts new.ended (κ, tt) (s, tt) ws)) (fact 𝓤 ((r .src ≡ s) × (r .line ≡ 0))))
 
-module _ (P : Passed) (ok : Fits P) (is : Is G.the-row (P .args .0) (G′.lowered (P .args .0) ∷ [])) where
+module _ (P : Passed) (ok : Fits P) (is : Is G.the-row (P .args .0) (valueOf (P .args .0) ∷ [])) where
   abbrev pub vals : Vals play-lines.signature (P .κs)
   vals = (
-    G′.lowered (P .args .0) ∷ [],
+    valueOf (P .args .0) ∷ [],
     (slice (pool₀ P) ∷ [], (slice (table₀ P) ∷ [], (slice (image P) ∷ [], (slice (roll P) ∷ [], (slice (out₀ P) ∷ [], tt))))),
   )
 
@@ -76,7 +76,6 @@ module _ (P : Passed) (ok : Fits P) (is : Is G.the-row (P .args .0) (G′.lowere
     is = is;
     first-is = refl;
     answered-is = ok .none-yet;
-    lines-is = refl;
     below = omega arith;
     pool-length = refl;
     table-length = refl;
@@ -89,11 +88,11 @@ module _ (P : Passed) (ok : Fits P) (is : Is G.the-row (P .args .0) (G′.lowere
     Post = walkOf 𝓤 H A play-lines.ended stayed (play-lines.clauses 𝓤 H A mem run) .post ((P .κs, P .qs, tt, P .args, vals), tt)
 
     -- all lines are played
-    pub exits : (k j : ℕ) (t : Turn P k) → k ≡ n P → ent 𝓤 (⋆ 𝓤 H A (Held P 𝓤 j t)) (Post (G′.lowered (t .state)))
+    pub exits : (k j : ℕ) (t : Turn P k) → k ≡ n P → ent 𝓤 (⋆ 𝓤 H A (Held P 𝓤 j t)) (Post (valueOf (t .state)))
     exits k j t e =
         qed W (Held P 𝓤 j t) ∵
         suffices ! _ (ends-at 𝓤 H A play-lines.ended stayed (play-lines.clauses 𝓤 H A mem run) W ((P .κs, P .qs, tt, P .args, vals), tt)
-        (G′.lowered (t .state)) (t .state) (tt, (t .pool, (t .table, (tt, (tt, (t .out, tt))))))
+        (valueOf (t .state)) (t .state) (tt, (t .pool, (t .table, (tt, (tt, (t .out, tt))))))
         (tt, (t .pool-length, (t .table-length, (tt, (tt, (t .out-length, tt))))))) $
         says ! (subst (λ (m : ℕ). Played (image P .now) (worldOf (P .args .0 .machine) (pool₀ P .now) (table₀ P .now)) (roll P .now) m (first P) (out₀ P .now)
         (t .out) (worldOf (t .state .machine) (t .pool) (t .table))) e (t .played)) $

@@ -44,7 +44,7 @@ use Rattle.roll.proofs.PlayLaws.{played-on}
 use Rattle.replying.proofs.reply as reply
 use Rattle.replying.proofs.reply.Symbol.{name as #replying·reply}
 use Rattle.roll.specs.Play.{Replied as ReplySaid}
-use Rattle.playing.proofs.play_lines.Proof.Held.{Passed, Fits, Turn, Held, Image, Token, Own, Roll, Roll-token, Reply, Replied, called, slice, pool₀}
+use Rattle.playing.proofs.play_lines.Proof.Held.{valueOf, value-told, Passed, Fits, Turn, Held, Image, Token, Own, Roll, Roll-token, Reply, Replied, called, slice, pool₀}
 use Rattle.playing.proofs.play_lines.Proof.Held.{table₀, image, roll, first, out₀, n, κi}
 
 module _ (P : Passed) (ok : Fits P) {M₁ : Type 1} (𝓤 : URA M₁) (H : Heap 𝓤) (A : Atoms 𝓤) (W : Given 𝓤 H A) (mem : Memory → SProp 𝓤) (run : Routine
@@ -52,7 +52,7 @@ module _ (P : Passed) (ok : Fits P) {M₁ : Type 1} (𝓤 : URA M₁) (H : Heap 
     (k : ℕ) (t : Turn P k) (less : k < n P) (v : Val) (is-line : Is S.the-row (lineAt (roll P .now) k) (v ∷ [])) where
   -- the machine values that are passed
   abbrev pub vals : List Val
-  vals = G′.lowered (t .state) ∷ slice (pool₀ P) ∷ slice (table₀ P) ∷ slice (image P) ∷ v ∷ slice (out₀ P) ∷ []
+  vals = valueOf (t .state) ∷ slice (pool₀ P) ∷ slice (table₀ P) ∷ slice (image P) ∷ v ∷ slice (out₀ P) ∷ []
 
   -- for the lifetime ν, under the names p, s and o
   module _ (ν : ℕ) (p s o : GName) where
@@ -68,7 +68,7 @@ module _ (P : Passed) (ok : Fits P) {M₁ : Type 1} (𝓤 : URA M₁) (H : Heap 
 
     abbrev values : Vals reply.signature κs′
     values = (
-      G′.lowered (t .state) ∷ [],
+      valueOf (t .state) ∷ [],
       (slice (pool₀ P) ∷ [], (slice (table₀ P) ∷ [], (slice (image P) ∷ [], (v ∷ [], (slice (out₀ P) ∷ [], tt))))),
     )
 
@@ -110,7 +110,7 @@ module _ (P : Passed) (ok : Fits P) {M₁ : Type 1} (𝓤 : URA M₁) (H : Heap 
     abbrev Said : Playing → Ends → Type 0
     Said r zs =
         Said-at (t .state .first + t .state .answered) (t .state .answered * 19) r zs
-        × (r .first ≡ t .state .first) × (r .answered ≡ t .state .answered + 1) × (r .lines ≡ t .state .lines)
+        × (r .first ≡ t .state .first) × (r .answered ≡ t .state .answered + 1)
 
     said-here : (r : Playing) (zs : Ends) → Said r zs → Said-at (first P + k) (k * 19) r zs
     said-here r zs said =
@@ -143,8 +143,8 @@ module _ (P : Passed) (ok : Fits P) {M₁ : Type 1} (𝓤 : URA M₁) (H : Heap 
         move ! (4 ∷ 8 ∷ 6 ∷ []) $ backs ! tt u8 (out₀ P) (named 4) (P .κs .1 .1 .1 .1 .0) (ν ∷ []) (P .qs .1 .1 .1 .1 .0) (t .out)
         (out-of zs) o (ok .out-room) (t .out-length) lo $
         move ! (6 ∷ []) $ split ! $ keep ! (11 ∷ 12 ∷ 6 ∷ 7 ∷ 4 ∷ 5 ∷ 2 ∷ 3 ∷ 9 ∷ 0 ∷ 10 ∷ []) $
-        at-once ! $ show ! (λ (t′ : Turn P (k + 1)). guard 𝓤 (w ≡ G′.lowered (t′ .state)) (⋆ 𝓤 H A (Held P 𝓤 k t′))) (on r zs said lp ls lo is) $
-        check ! (ap only (G′.lowers .val-is r (w ∷ []) is)) $ done !)))))))
+        at-once ! $ show ! (λ (t′ : Turn P (k + 1)). guard 𝓤 (w ≡ valueOf (t′ .state)) (⋆ 𝓤 H A (Held P 𝓤 k t′))) (on r zs said lp ls lo is) $
+        check ! (ap only (value-told r (w ∷ []) is)) $ done !)))))))
       where
         on : (r : Playing) (zs : Ends) → Said r zs → length (zs .1 .0) ≡ length (t .pool) → length (zs .1 .1 .0) ≡ length (t .table)
             → length (out-of zs) ≡ length (t .out) → Is G.the-row r (w ∷ []) → Turn P (k + 1)
@@ -153,10 +153,9 @@ module _ (P : Passed) (ok : Fits P) {M₁ : Type 1} (𝓤 : URA M₁) (H : Heap 
           pool = zs .1 .0;
           table = zs .1 .1 .0;
           out = out-of zs;
-          is = subst (Is G.the-row r) (G′.lowers .val-is r (w ∷ []) is) is;
+          is = subst (Is G.the-row r) (value-told r (w ∷ []) is) is;
           first-is = said .1 ∙ t .first-is;
           answered-is = said .2 ∙ ap (λ (a : ℕ). a + 1) (t .answered-is);
-          lines-is = said .3 ∙ t .lines-is;
           below = omega (arith, less);
           pool-length = lp ∙ t .pool-length;
           table-length = ls ∙ t .table-length;
