@@ -2,8 +2,8 @@
 // of the sandbox that its argument names. Where that is refused it writes nothing, and says the refusal's number on standard error.
 // It promises that what it reads, one line after the other, is one roll played from a start, and that answer and output are those of the archive roll of what
 // that roll left (`Performed`); so what it hands on to be written is the plain machine's archive roll, or nothing where that is refused (specs/Prints).
-// It stands on `roll_input` for the roll played, on `archiving`, on `image_file` for the image, and on the kit's `io`, `os` and `libc`; which bytes these read
-// and write nothing proves.
+// It stands on `soundness` for the start, on `roll_input` for the roll played, on `archiving`, on `image_file` for the image, and on the kit's `io`, `os` and
+// `libc`; which bytes these read and write nothing proves.
 ghost use mathlib.Core.Path.{_≡_};
 ghost use Prim.Native.Nat.{_*_, _≤_};
 ghost use lib.ListN.{length};
@@ -20,6 +20,7 @@ use lines::Line;
 use marks::Marks;
 use playing::Player;
 use roll_input::play_input;
+use soundness::start::start;
 
 fn main() {
     let mut image = [0u8; Found::BYTES];
@@ -42,7 +43,8 @@ fn perform(pool: &mut [u8], table: &mut [u16], image: &[u8], sandbox: u16, out: 
         ⌜ Performed (now (image .entry)) started sandbox (now (out .entry)) r (now (out .exit)) ⌝ }
     ensures { λ r. ⌜ valueOf r * 43 ≤ length (now (out .exit)) ⌝ }
 {
-    let machine = play_input(pool, table, image);
+    let begun = start(pool, table, image).machine;
+    let machine = play_input(begun, pool, table, image);
     write_archive(machine, pool, table, image, sandbox, out)
 }
 

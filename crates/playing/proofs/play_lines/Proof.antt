@@ -1,4 +1,4 @@
--- `roll::play_lines` meets its contract: a walk of its MIR, by hand, since it has a local that holds a reference. One reader goes over the roll: it is made
+-- `playing::play_lines` meets its contract: a walk of its MIR, by hand, since it has a local that holds a reference. One reader goes over the roll: it is made
 -- once, and moves on by a line in each turn.
 -- `Proof/Held.antt` has what is held before a line, `Proof/Replied.antt` the call that answers it, and `Proof/Loop.antt` the loop. Of each callee the proof
 -- knows only that it meets its contract.
@@ -75,7 +75,8 @@ module _ (P : Passed) (ok : Fits P) (is : Is G.the-row (P .args .0) (valueOf (P 
       (𝓣 .Λ) code.function (passed P ok is image-is roll-is) _ $
       alloc1 ! (λ l₀. alloc1 ! (λ l₁. alloc1 ! (λ l₂. alloc1 ! (λ l₃. alloc1 ! (λ l₄. alloc1 ! (λ l₅. alloc1 ! (λ l₆.
       alloc1 ! (λ l₇. alloc1 ! (λ l₈. alloc1 ! (λ l₉. alloc1 ! (λ l₁₀. alloc1 ! (λ l₁₁. alloc1 ! (λ l₁₂. alloc1 ! (λ l₁₃.
-      alloc1 ! (λ l₁₄. alloc1 ! (λ l₁₅. alloc1 ! (λ l₁₆. alloc1 ! (λ l₁₇. alloc1 ! (λ l₁₈. alloc1 ! (λ l₁₉. alloc1 ! (λ l₂₀. alloc1 ! (λ l₂₁. alloc0 ! $ params1 ! $
+      alloc1 ! (λ l₁₄. alloc1 ! (λ l₁₅. alloc1 ! (λ l₁₆. alloc1 ! (λ l₁₇. alloc1 ! (λ l₁₈. alloc1 ! (λ l₁₉. alloc1 ! (λ l₂₀. alloc1 ! (λ l₂₁.
+      alloc0 ! $ params1 ! $
       pass1 ! (init ! 40 refl (typed-state P ok is image-is roll-is 𝓤 H A W mem run 𝓣 (P .args .0) is)) $
       pass1 ! (init ! 38 refl (tt, (tt, (record { fits = ok .pool-room .0 }, tt)))) $
       pass1 ! (init ! 36 refl (tt, (tt, (record { fits = ok .table-room .0 }, tt)))) $
