@@ -44,7 +44,7 @@ pub extern "C" fn gazhuppin_play(
     let machine = start(pool, table, image).machine;
     let player = Player {
         machine: machine,
-        line: Player::FIRST,
+        line: 1,
     };
     play(player, pool, table, image, roll, out);
     lines

@@ -35,7 +35,7 @@ fn perform(pool: &mut [u8], table: &mut [u16], image: &[u8]) -> bool
         ⌜ Talked (now (image .entry)) started (now (pool .exit)) (now (table .exit)) r ⌝ }
 {
     let mut machine = soundness::start::start(pool, table, image).machine;
-    let mut number = Player::FIRST;
+    let mut number: u32 = 1;
     while number <= Player::LAST {
         let mut line = [0u8; Line::BYTES];
         let mut reply = [0u8; Line::REPLY];

@@ -23,8 +23,6 @@ pub struct Player {
 }
 
 impl Player {
-    // "line number from 1"
-    pub const FIRST: u32 = 1;
     // "Lines after the 65,535th are not read."
     pub const LAST: u32 = 65_535;
     // The bytes of a program's pool: "with 128 frames"
@@ -72,8 +70,8 @@ fn play_lines(
     requires { ⌜ (playing .first + length (now out) / 19 ≤ 1000000) × (playing .answered ≡ 0) ⌝ }
     ensures { λ r. let before = worldOf (playing .machine) (now (pool .entry)) (now (table .entry)) in
         let lines = length (now (out .entry)) / 19 in
-        ⌜ Played (now (image .entry)) before (now (roll .entry)) lines (playing .first) (now (out .entry)) (now (out .exit))
-        (worldOf (r .machine) (now (pool .exit)) (now (table .exit))) ⌝ }
+        ⌜ Played (now (image .entry)) before (now (roll .entry)) lines (playing .first) (now (out .entry))
+        (now (out .exit)) (worldOf (r .machine) (now (pool .exit)) (now (table .exit))) ⌝ }
 {
     let lines = out.len() / Line::REPLY;
     let mut state = playing;

@@ -14,7 +14,7 @@ pub fn play_input(machine: Machine, pool: &mut [u8], table: &mut [u16], image: &
         ⌜ RollPlayed (now (image .entry)) before (worldOf r (now (pool .exit)) (now (table .exit))) ⌝ }
 {
     let mut state = machine;
-    let mut number = Player::FIRST;
+    let mut number: u32 = 1;
     while number <= Player::LAST {
         let mut line = [0u8; Line::BYTES];
         let mut reply = [0u8; Line::REPLY];

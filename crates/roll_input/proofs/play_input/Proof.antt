@@ -24,6 +24,11 @@ abbrev μ-loop : tie.MeasureT-loop
 abbrev AtLoop : Type 0
 AtLoop = tie.At-loop Inv-loop μ-loop
 
+-- the world that a line meets
+abbrev worldAt : AtLoop → World
+worldAt c = worldOf (c .loop .state) (c .loop .pool) (c .loop .table)
+
+-- and the one that the roll met
 abbrev startOf : AtLoop → tie.Start Inv-loop μ-loop
 startOf c = c .before .before .before .before
 
@@ -32,10 +37,6 @@ imageIn c = startOf c .args .image .now
 
 abbrev worldBegun : AtLoop → World
 worldBegun c = let a = startOf c .args in worldOf (a .machine) (a .pool .now) (a .table .now)
-
--- the world that a line meets
-abbrev worldAt : AtLoop → World
-worldAt c = worldOf (c .loop .state) (c .loop .pool) (c .loop .table)
 
 -- ---- a line read
 

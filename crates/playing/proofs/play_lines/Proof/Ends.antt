@@ -40,7 +40,8 @@ use Rattle.reader.proofs.new.Symbol.{name as #reader·new}
 use Rattle.roll.specs.Play.{Played}
 use Rattle.roll.proofs.PlayLaws.{played-none}
 use Rattle.playing.proofs.play_lines as play-lines
-use Rattle.playing.proofs.play_lines.Proof.Held.{valueOf, Passed, Turn, Fits, Held, Slices, Token, Roll-token, Roll, B, reader, mach, spelled, slice, called}
+use Rattle.playing.proofs.play_lines.Proof.Held.{valueOf, Passed, Turn, Fits, Held, Slices, Token, Roll-token, Roll}
+use Rattle.playing.proofs.play_lines.Proof.Held.{B, reader, mach, spelled, slice, called}
 use Rattle.playing.proofs.play_lines.Proof.Held.{pool₀, table₀, image, roll, first, out₀, n, κi, κr}
 
 abbrev pub stayed : Stays (play-lines.ended .signature .params) (play-lines.ended .kept)

@@ -48,7 +48,8 @@ use Rattle.reader.proofs.skip.Symbol.{name as #reader·skip}
 use Rattle.replying.proofs.reply.Symbol.{name as #replying·reply}
 use Rattle.playing.proofs.play_lines as play-lines
 use Rattle.playing.proofs.play_lines.Code.Mir as body
-use Rattle.playing.proofs.play_lines.Proof.Held.{valueOf, Passed, Next, Skip, Reply, Fits, Turn, Held, Read, nexted, Moved, skipped, Replied as RepliedAt, mach}
+use Rattle.playing.proofs.play_lines.Proof.Held.{valueOf, Passed, Next, Skip, Reply, Fits, Turn, Held, mach}
+use Rattle.playing.proofs.play_lines.Proof.Held.{Read, nexted, Moved, skipped, Replied as RepliedAt}
 use Rattle.playing.proofs.play_lines.Proof.Held.{slice, pool₀, table₀, image, roll, first, out₀, n, κi, κr}
 use Rattle.playing.proofs.play_lines.Proof.Replied.{replied}
 use Rattle.playing.proofs.play_lines.Proof.Replied as call

@@ -44,7 +44,8 @@ use Rattle.roll.proofs.PlayLaws.{played-on}
 use Rattle.replying.proofs.reply as reply
 use Rattle.replying.proofs.reply.Symbol.{name as #replying·reply}
 use Rattle.roll.specs.Play.{Replied as ReplySaid}
-use Rattle.playing.proofs.play_lines.Proof.Held.{valueOf, value-told, Passed, Fits, Turn, Held, Image, Token, Own, Roll, Roll-token, Reply, Replied, called, slice, pool₀}
+use Rattle.playing.proofs.play_lines.Proof.Held.{valueOf, value-told, Passed, Fits, Turn, Held, Image, Token}
+use Rattle.playing.proofs.play_lines.Proof.Held.{Own, Roll, Roll-token, Reply, Replied, called, slice, pool₀}
 use Rattle.playing.proofs.play_lines.Proof.Held.{table₀, image, roll, first, out₀, n, κi}
 
 module _ (P : Passed) (ok : Fits P) {M₁ : Type 1} (𝓤 : URA M₁) (H : Heap 𝓤) (A : Atoms 𝓤) (W : Given 𝓤 H A) (mem : Memory → SProp 𝓤) (run : Routine
