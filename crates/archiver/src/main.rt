@@ -2,8 +2,8 @@
 // of the sandbox that its argument names. Where that is refused it writes nothing, and says the refusal's number on standard error.
 // It promises that what it reads, one line after the other, is one roll played from a start, and that answer and output are those of the archive roll of what
 // that roll left (`Performed`); so what it hands on to be written is the plain machine's archive roll, or nothing where that is refused (specs/Prints).
-// It stands on `roll_input` for the roll played, on `archiving`, on `image_file` for the image, and on the kit's `io`, `os` and `libc`; which bytes these read
-// and write nothing proves.
+// It stands on `starting` for the start, on `roll_input` for the roll played, on `archiving`, on `image_file` for the image, and on the kit's `io`, `os` and
+// `libc`; which bytes these read and write nothing proves.
 ghost use mathlib.Core.Path.{_≡_};
 ghost use Prim.Native.Nat.{_*_, _≤_};
 ghost use lib.ListN.{length};
@@ -12,17 +12,21 @@ ghost use Rattle.state.specs.Start.{startedBy};
 ghost use Rattle.archiver.specs.Sandbox.{named};
 ghost use Rattle.archiver.specs.Performed.{Performed};
 use archiving::write_archive;
+use image_file::Found;
 use image_file::image_bytes;
 use image_file::load;
 use interface::answer::Answer;
 use lines::Line;
+use marks::Marks;
+use playing::Player;
 use roll_input::play_input;
+use starting::start;
 
 fn main() {
-    let mut image = [0u8; 16_385];
+    let mut image = [0u8; Found::BYTES];
     let bytes = image_bytes(load(&mut image));
-    let mut pool = [0u8; 32_768];
-    let mut table = [0u16; 512];
+    let mut pool = [0u8; Player::POOL];
+    let mut table = [0u16; Marks::ENTRIES];
     let mut out = output();
     let sandbox = sandbox();
     let answer = perform(&mut pool, &mut table, &image[..bytes], sandbox, &mut out);
@@ -35,19 +39,23 @@ fn main() {
 
 // Plays the roll from a start, and writes the archive roll of a sandbox of what it leaves into `out`.
 fn perform(pool: &mut [u8], table: &mut [u16], image: &[u8], sandbox: u16, out: &mut [u8]) -> Answer
-    ensures { λ r. ⌜ Performed (now (image .entry)) (startedBy (now (pool .entry)) (now (table .entry)) (now (image .entry))) sandbox (now (out .entry)) r
-        (now (out .exit)) ⌝ }
+    ensures { λ r. let started = startedBy (now (pool .entry)) (now (table .entry)) (now (image .entry)) in
+        ⌜ Performed (now (image .entry)) started sandbox (now (out .entry)) r (now (out .exit)) ⌝ }
     ensures { λ r. ⌜ valueOf r * 43 ≤ length (now (out .exit)) ⌝ }
 {
-    let machine = play_input(pool, table, image);
+    let begun = start(pool, table, image).machine;
+    let machine = play_input(begun, pool, table, image);
     write_archive(machine, pool, table, image, sandbox, out)
 }
 
-// Room for the longest archive roll, 16,402 lines. That the contract tells the length alone keeps proofs from going through the bytes one by one.
-fn output() -> [u8; 705_286]
+// Room for the longest archive roll, 16,402 lines of 43 bytes.
+const OUTPUT: usize = 705_286;
+
+// The output. That the contract tells the length alone keeps proofs from going through the bytes one by one.
+fn output() -> [u8; OUTPUT]
     ensures { λ r. ⌜ 705286 ≡ length r ⌝ }
 {
-    [0; 705_286]
+    [0; OUTPUT]
 }
 
 // How many bytes of the output are the roll: none where it is refused.
@@ -64,18 +72,21 @@ fn sandbox() -> u16 {
     name(bytes, text[0])
 }
 
-// One digit, 0 to 3, names a sandbox; anything else is 4, which none is.
+// The first number that no sandbox has.
+const NO_SANDBOX: u16 = 4;
+
+// One digit, 0 to 3, names a sandbox; anything else names none.
 fn name(bytes: usize, first: u8) -> u16
     ensures { λ r. ⌜ r ≡ named bytes first ⌝ }
 {
     if bytes != 1 {
-        return 4;
+        return NO_SANDBOX;
     }
     if first < b'0' {
-        return 4;
+        return NO_SANDBOX;
     }
     if b'3' < first {
-        return 4;
+        return NO_SANDBOX;
     }
     (first - b'0') as u16
 }

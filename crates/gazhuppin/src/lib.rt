@@ -11,6 +11,7 @@ ghost use Rattle.lines.specs.Lines.{linesOf};
 ghost use Rattle.gazhuppin.specs.FromStart.{FromStart};
 use lines::Line;
 use lines::lines_of;
+use playing::Player;
 use playing::play;
 use starting::start;
 
@@ -41,6 +42,10 @@ pub extern "C" fn gazhuppin_play(
         return 0;
     }
     let machine = start(pool, table, image).machine;
-    play(machine, pool, table, image, roll, 1, out);
+    let player = Player {
+        machine: machine,
+        line: 1,
+    };
+    play(player, pool, table, image, roll, out);
     lines
 }

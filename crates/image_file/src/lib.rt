@@ -13,6 +13,11 @@ pub enum Found {
     Unreadable,
 }
 
+impl Found {
+    // How many bytes are asked for: "above 64" pages is a wrong length, and a byte more than 64 pages is enough to tell.
+    pub const BYTES: usize = 16_385;
+}
+
 // How many bytes the image has: "missing: empty"; one that cannot be read whole has a wrong length.
 pub fn image_bytes(found: Found) -> usize
     ensures { λ r. ⌜ r ≡ imageBytes found ⌝ }
@@ -20,7 +25,7 @@ pub fn image_bytes(found: Found) -> usize
     match found {
         Found::Missing => 0,
         Found::Whole(bytes) => bytes,
-        Found::Unreadable => 16_385,
+        Found::Unreadable => Found::BYTES,
     }
 }
 

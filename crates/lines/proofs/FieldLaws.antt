@@ -33,7 +33,8 @@ not-bad : (c : Bool) (other : Field) (n : ℕ) → (Bad when c else other) ≡ N
 not-bad true other n e = never n e
 not-bad false other n e = (refl, e)
 
-digit-stands : (before n byte : ℕ) → 48 ≤ byte → byte ≤ 57 → before * 10 + (byte - 48) ≤ 65535 → before * 10 + (byte - 48) ≡ n → Read lastDigit (Number before) byte n
+digit-stands : (before n byte : ℕ) → 48 ≤ byte → byte ≤ 57 → before * 10 + (byte - 48) ≤ 65535 → before * 10 + (byte - 48) ≡ n
+    → Read lastDigit (Number before) byte n
 digit-stands before n byte low high small e = record { rest = ap Number (omega arith); here = omega arith; small = omega arith }
 
 pub digit-said : (before : Field) (byte n : ℕ) → withDigit before byte ≡ Number n → Read lastDigit before byte n
@@ -60,7 +61,10 @@ shown-digit : (before : Field) (byte n : ℕ) → 0 < n → Read lastDigit befor
 shown-digit before byte n h r = record { rest = r .rest; here = r .here ∙ sym (column-shown n h); small = r .small }
 
 first-said : (byte n : ℕ) → (Number 0 when eqb byte 32 else Bad when eqb byte 48 else withDigit (Number 0) byte) ≡ Number n → Read column (Number 0) byte n
-first-said byte n e = by-cases (eqb byte 32) (λ t. blank t (number-same 0 n (rw t at e))) (λ t. digit (not-bad (eqb byte 48) (withDigit (Number 0) byte) n (rw t at e)))
+first-said byte n e =
+    by-cases (eqb byte 32)
+    (λ t. blank t (number-same 0 n (rw t at e)))
+    (λ t. digit (not-bad (eqb byte 48) (withDigit (Number 0) byte) n (rw t at e)))
   where
     blank : eqb byte 32 ≡ true → 0 ≡ n → Read column (Number 0) byte n
     blank t z = rw (← z) (record { rest = refl; here = eqb-true byte 32 t; small = omega arith })
@@ -76,7 +80,9 @@ unfolding withColumn
 column-said Bad byte n e = never n e
 column-said (Number before) byte n e =
     by-cases (ltb 0 before)
-    (λ t. let r = digit-said (Number before) byte n (rw t at e) in shown-digit (Number before) byte n (omega (arith, ltb-true 0 before t, number-same before (n / 10) (r .rest))) r)
+    (λ t. let r = digit-said (Number before) byte n (rw t at e) in
+    let positive : 0 < n = omega (arith, ltb-true 0 before t, number-same before (n / 10) (r .rest)) in
+    shown-digit (Number before) byte n positive r)
     (λ t. let z : before ≡ 0 = omega (arith, ltb-false 0 before t) in rw z (first-said byte n (rw (t, z) at e)))
 
 -- what is printed is read

@@ -59,13 +59,14 @@ and-end : (b : Bool) → b ≡ (b && true)
 and-end true = refl
 and-end false = refl
 
-pub formed-by-fields : (line : List ℕ) → length line ≡ 43
-    → let n = hasNumber line in (eqb (getD line 42 0) 10 && (n 0 && (n 1 && (n 2 && (n 3 && (n 4 && (n 5 && n 6))))))) ≡ wellFormed line
+pub formed-by-fields : (line : List ℕ) → length line ≡ 43 → let has = hasNumber line in
+    (code sandbox p1 p2 p3 p4 p5 : Bool) → code ≡ has 0 → sandbox ≡ has 1 → p1 ≡ has 2 → p2 ≡ has 3 → p3 ≡ has 4 → p4 ≡ has 5 → p5 ≡ has 6
+    → (eqb (getD line 42 0) 10 && (code && (sandbox && (p1 && (p2 && (p3 && (p4 && p5))))))) ≡ wellFormed line
 unfolding wellFormed every
-formed-by-fields line h =
-    rw (eq-eqb (length line) 43 h)
-    (ap (λ b. eqb (getD line 42 0) 10 && (hasNumber line 0 && (hasNumber line 1 && (hasNumber line 2 && (hasNumber line 3 && (hasNumber line 4 && (hasNumber line 5 && b)))))))
-    (and-end (hasNumber line 6)))
+formed-by-fields line h code sandbox p1 p2 p3 p4 p5 e0 e1 e2 e3 e4 e5 e6 =
+    let has : ℕ → Bool = hasNumber line in
+    rw (eq-eqb (length line) 43 h, e0, e1, e2, e3, e4, e5, e6)
+    (ap (λ b. eqb (getD line 42 0) 10 && (has 0 && (has 1 && (has 2 && (has 3 && (has 4 && (has 5 && b))))))) (and-end (has 6)))
 
 module _ (line : List ℕ) (formed : wellFormed line ≡ true) where
   formed-parts : (eqb (length line) 43 ≡ true) × ((eqb (getD line 42 0) 10 && every (hasNumber line) 0 7) ≡ true)
@@ -86,6 +87,11 @@ module _ (line : List ℕ) (formed : wellFormed line ≡ true) where
   formed-small : UpTo 65535 (numbersOf (requestIn line))
   unfolding fieldAt
   formed-small = small-listed 7 (numberAt line) (λ k h. field-small (take 6 (drop (k * 6) line)) (numberAt line k) (formed-field k h))
+
+-- a well formed line says the request of its fields
+pub parsed-call : (line : List ℕ) → wellFormed line ≡ true → (q : Request) → q ≡ requestIn line → Call q ≡ parsed line
+unfolding parsed
+parsed-call line formed q e = rw (formed, e)
 
 call-same : (p q : Request) → Call p ≡ Call q → p ≡ q
 call-same p q e = cc

@@ -1,13 +1,12 @@
-// The roll's text: what a line of the roll says, what a reply prints, and where each line stands in the lent bytes.
+// The roll's text: what a line of the roll says, and where each line stands in the lent bytes; as definitions also what is printed (`printer` prints it).
 // It promises that a line has one accepted form: what `parse` takes for a request is that request's print, and every request's print is taken
-// (proofs/LineLaws); and that a reply prints its three numbers, none too wide for its columns.
+// (proofs/LineLaws).
 // It stands on `interface` for the request.
 ghost use mathlib.Core.Path.{_≡_};
 ghost use Prim.Native.Nat.{_+_, _*_, _≤_, _<_};
 ghost use lib.ListN.{length};
 ghost use Rattle.lines.specs.Fields.{withDigit, withColumn, fieldOf, isNumber, numberIn};
 ghost use Rattle.lines.specs.Lines.{fieldAt, parsed, linesOf, lineAt};
-ghost use Rattle.lines.specs.Prints.{lastDigit, column, printedField, printedReply};
 use interface::request::Request;
 
 // What a line of the roll says: a call, or nothing.
@@ -17,12 +16,42 @@ pub enum Line {
 }
 
 impl Line {
-    // "7 fields of 6 columns and a line feed, 43 bytes"
-    pub const BYTES: usize = 43;
     // "Lines after the 65,535th are not read."
     pub const MOST: usize = 65_535;
-    // A reply is "3 fields a line, same columns".
+    // "7 fields of 6 columns and a line feed, 43 bytes"
+    pub const BYTES: usize = 43;
+    // where the line feed stands
+    pub const FEED: usize = 42;
+    // A reply is "3 fields a line, same columns", and has its line feed behind them.
     pub const REPLY: usize = 19;
+
+    pub const REPLY_FEED: usize = 18;
+    // "fields of 6 columns", of which the last always has a digit; numbers are decimal
+    pub const FIELD: usize = 6;
+
+    pub const LAST_COLUMN: usize = 5;
+
+    pub const RADIX: u32 = 10;
+    // The fields of a line, from 0 on: "call, sandbox, p1 to p5"
+    pub const CODE: usize = 0;
+
+    pub const SANDBOX: usize = 1;
+
+    pub const P1: usize = 2;
+
+    pub const P2: usize = 3;
+
+    pub const P3: usize = 4;
+
+    pub const P4: usize = 5;
+
+    pub const P5: usize = 6;
+    // The fields of a reply: "line number from 1, refusal number or 0, value"
+    pub const REPLY_LINE: usize = 0;
+
+    pub const REPLY_NUMBER: usize = 1;
+
+    pub const REPLY_VALUE: usize = 2;
 }
 
 // The request that a line says.
@@ -32,17 +61,17 @@ pub fn parse(line: &[u8]) -> Line
     if line.len() != Line::BYTES {
         return Line::Malformed;
     }
-    let code = field_at(line, 0);
-    let sandbox = field_at(line, 1);
-    let p1 = field_at(line, 2);
-    let p2 = field_at(line, 3);
-    let p3 = field_at(line, 4);
-    let p4 = field_at(line, 5);
-    let p5 = field_at(line, 6);
+    let code = field_at(line, Line::CODE);
+    let sandbox = field_at(line, Line::SANDBOX);
+    let p1 = field_at(line, Line::P1);
+    let p2 = field_at(line, Line::P2);
+    let p3 = field_at(line, Line::P3);
+    let p4 = field_at(line, Line::P4);
+    let p5 = field_at(line, Line::P5);
     let last = is_number(p4) & is_number(p5);
     let middle = is_number(p1) & (is_number(p2) & (is_number(p3) & last));
     let numbers = is_number(code) & (is_number(sandbox) & middle);
-    if !((line[42] == b'\n') & numbers) {
+    if !((line[Line::FEED] == b'\n') & numbers) {
         return Line::Malformed;
     }
     Line::Call(Request {
@@ -78,55 +107,15 @@ pub fn line_at(roll: &[u8], line: usize) -> Line
     parse(&roll[at..end])
 }
 
-// Prints a reply, "line number from 1, refusal number or 0, value", and a line feed, into 19 bytes.
-pub fn print_reply(out: &mut [u8], line: u32, number: u32, value: u32)
-    requires { ⌜ length (now out) ≡ 19 ⌝ }
-    requires { ⌜ (line ≤ 999999) × (number ≤ 999999) × (value ≤ 999999) ⌝ }
-    ensures { λ _. ⌜ now (out .exit) ≡ printedReply line number value ⌝ }
-{
-    print_field(&mut out[0..6], line);
-    print_field(&mut out[6..12], number);
-    print_field(&mut out[12..18], value);
-    out[18] = b'\n';
-}
-
-// Prints a number right-justified over blanks, into 6 bytes.
-pub fn print_field(out: &mut [u8], n: u32)
-    requires { ⌜ length (now out) ≡ 6 ⌝ }
-    requires { ⌜ n ≤ 999999 ⌝ }
-    ensures { λ _. ⌜ now (out .exit) ≡ printedField n ⌝ }
-{
-    out[5] = digit(n);
-    let mut rest = n / 10;
-    let mut i = 5;
-    while i > 0 {
-        i -= 1;
-        out[i] = column_of(rest);
-        rest /= 10;
-    }
-}
-
-// The last digit of a number, in ASCII.
-fn digit(n: u32) -> u8
-    ensures { λ r. ⌜ r ≡ lastDigit n ⌝ }
-{
-    b'0' + (n % 10) as u8
-}
-
-// What stands in a column that is not the last: a digit, or a blank where no digit is left.
-fn column_of(rest: u32) -> u8
-    ensures { λ r. ⌜ r ≡ column rest ⌝ }
-{
-    if rest == 0 {
-        return b' ';
-    }
-    digit(rest)
-}
-
 // What 6 columns say: a number, or none.
 enum Field {
     Number(u16),
     Bad,
+}
+
+impl Field {
+    // "a number 0 to 65,535"
+    const MOST: u32 = 65_535;
 }
 
 // Whether a field says a number.
@@ -154,8 +143,8 @@ fn field_at(line: &[u8], k: usize) -> Field
     requires { ⌜ (length (now line) ≡ 43) × (k < 7) ⌝ }
     ensures { λ r. ⌜ r ≡ fieldAt (now (line .entry)) k ⌝ }
 {
-    let at = k * 6;
-    let end = at + 6;
+    let at = k * Line::FIELD;
+    let end = at + Line::FIELD;
     read_field(&line[at..end])
 }
 
@@ -166,11 +155,11 @@ fn read_field(part: &[u8]) -> Field
 {
     let mut read = Field::Number(0);
     let mut i = 0;
-    while i < 5 {
+    while i < Line::LAST_COLUMN {
         read = with_column(read, part[i]);
         i += 1;
     }
-    with_digit(read, part[5])
+    with_digit(read, part[Line::LAST_COLUMN])
 }
 
 // What is read with one more column that is not the last: before the first digit a blank, or a digit that is not 0.
@@ -205,8 +194,8 @@ fn with_digit(read: Field, byte: u8) -> Field
     if byte > b'9' {
         return Field::Bad;
     }
-    let more = n as u32 * 10 + (byte - b'0') as u32;
-    if more > 65_535 {
+    let more = n as u32 * Line::RADIX + (byte - b'0') as u32;
+    if more > Field::MOST {
         return Field::Bad;
     }
     Field::Number(more as u16)

@@ -16,11 +16,6 @@ use Rattle.roll.proofs.PlayLaws.{played-none}
 use Rattle.roll.proofs.JoinLaws.{joins, counts-on, played-alone}
 use Rattle.player.specs.Conversation.{Turn, goesOn, Answers, Conversation, full, last, next, rollOf, repliesOf, allWritten, Talked}
 
--- a turn reads at most a line
-pub few-lines : (bytes : ℕ) → bytes ≤ 43 → linesOf bytes ≤ 1
-unfolding linesOf
-few-lines bytes h = omega arith
-
 -- ---- a turn
 
 pub turn-answers : (image line reply₀ reply : List ℕ) (number got : ℕ) (written : Bool) (w v : World)

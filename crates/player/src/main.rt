@@ -9,18 +9,21 @@ ghost use lib.ListN.{length};
 ghost use Rattle.state.specs.World.{worldOf};
 ghost use Rattle.state.specs.Start.{startedBy};
 ghost use Rattle.player.specs.Conversation.{turnOf, goesOn, Answers, Talked};
+use image_file::Found;
 use image_file::image_bytes;
 use image_file::load;
 use lines::Line;
 use lines::lines_of;
+use marks::Marks;
+use playing::Player;
 use playing::play;
 use state::sandbox::Machine;
 
 fn main() {
-    let mut image = [0u8; 16_385];
+    let mut image = [0u8; Found::BYTES];
     let bytes = image_bytes(load(&mut image));
-    let mut pool = [0u8; 32_768];
-    let mut table = [0u16; 512];
+    let mut pool = [0u8; Player::POOL];
+    let mut table = [0u16; Marks::ENTRIES];
     if !perform(&mut pool, &mut table, &image[..bytes]) {
         complain();
     }
@@ -28,15 +31,19 @@ fn main() {
 
 // Plays the roll from a start, line by line, and says whether every reply was written. "Lines after the 65,535th are not read."
 fn perform(pool: &mut [u8], table: &mut [u16], image: &[u8]) -> bool
-    ensures { λ r. ⌜ Talked (now (image .entry)) (startedBy (now (pool .entry)) (now (table .entry)) (now (image .entry))) (now (pool .exit))
-        (now (table .exit)) r ⌝ }
+    ensures { λ r. let started = startedBy (now (pool .entry)) (now (table .entry)) (now (image .entry)) in
+        ⌜ Talked (now (image .entry)) started (now (pool .exit)) (now (table .exit)) r ⌝ }
 {
     let mut machine = starting::start(pool, table, image).machine;
     let mut number: u32 = 1;
-    while number < 65_536 {
-        let mut line = [0u8; 43];
-        let mut reply = [0u8; 19];
-        let progress = turn(machine, pool, table, image, number, &mut line, &mut reply);
+    while number <= Player::LAST {
+        let mut line = [0u8; Line::BYTES];
+        let mut reply = [0u8; Line::REPLY];
+        let player = Player {
+            machine: machine,
+            line: number,
+        };
+        let progress = turn(player, pool, table, image, &mut line, &mut reply);
         if !progress.more {
             return progress.written;
         }
@@ -56,22 +63,22 @@ struct Progress {
 
 // Reads a line, plays it and prints its reply. Where nothing is read, nothing is printed.
 fn turn(
-    machine: Machine,
+    player: Player,
     pool: &mut [u8],
     table: &mut [u16],
     image: &[u8],
-    number: u32,
     line: &mut [u8],
     reply: &mut [u8],
 ) -> Progress
     requires { ⌜ (length (now line) ≡ 43) × (length (now reply) ≡ 19) ⌝ }
-    requires { ⌜ number ≤ 65535 ⌝ }
-    ensures { λ r. ⌜ Answers (now (image .entry)) number (worldOf machine (now (pool .entry)) (now (table .entry)))
-        (turnOf r (now (line .exit)) (now (reply .exit))) (worldOf (r .machine) (now (pool .exit)) (now (table .exit))) ⌝ }
+    requires { ⌜ player .line ≤ 65535 ⌝ }
+    ensures { λ r. let before = worldOf (player .machine) (now (pool .entry)) (now (table .entry)) in
+        ⌜ Answers (now (image .entry)) (player .line) before (turnOf r (now (line .exit)) (now (reply .exit)))
+        (worldOf (r .machine) (now (pool .exit)) (now (table .exit))) ⌝ }
     ensures { λ r. ⌜ r .more ≡ goesOn (turnOf r (now (line .exit)) (now (reply .exit))) ⌝ }
 {
     let got = io::read_full(libc::STDIN_FILENO, line);
-    let after = play(machine, pool, table, image, &line[..got], number, reply);
+    let after = play(player, pool, table, image, &line[..got], reply);
     let size = lines_of(got) * Line::REPLY;
     let written = io::write_all(libc::STDOUT_FILENO, &reply[..size]);
     Progress {

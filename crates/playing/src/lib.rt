@@ -1,66 +1,84 @@
 // A roll played over lent bytes: each line is read, answered and its reply printed, in order.
 // It promises that the replies are those of a run of the well-formed lines' requests, and refusal 1 for each other line (`Played` of `roll`).
 // It stands on `reader` for the lines, on `replying` for the reply to each, and on `roll` for what is played.
-ghost use Prim.Native.Nat.{_+_, _*_, _≤_};
+ghost use mathlib.Core.Path.{_≡_};
+ghost use Prim.Native.Nat.{_+_, _*_, _/_, _≤_};
 ghost use lib.ListN.{length};
 ghost use Rattle.lines.specs.Lines.{linesOf};
 ghost use Rattle.state.specs.World.{worldOf};
 ghost use Rattle.roll.specs.Play.{Played};
+use lines::Line;
 use lines::lines_of;
 use reader::new;
 use reader::next;
 use reader::skip;
+use replying::Playing;
 use replying::reply;
 use state::sandbox::Machine;
 
-// Plays a roll, or a part of one that starts at a line's start, whose first line has the number first. Each line's reply is 19 bytes of out.
+// Who plays: the machine, and the number of the next line.
+pub struct Player {
+    pub machine: Machine,
+    pub line: u32,
+}
+
+impl Player {
+    // "Lines after the 65,535th are not read."
+    pub const LAST: u32 = 65_535;
+    // The bytes of a program's pool: "with 128 frames"
+    pub const POOL: usize = 32_768;
+}
+
+// Plays a roll, or a part of one that starts at a line's start, from the player's line on. Each line's reply is 19 bytes of out.
 // "Lines after the 65,535th are not read."
 pub fn play(
-    machine: Machine,
+    player: Player,
     pool: &mut [u8],
     table: &mut [u16],
     image: &[u8],
     roll: &[u8],
-    first: u32,
     out: &mut [u8],
 ) -> Machine
     requires { ⌜ linesOf (length (now roll)) * 19 ≤ length (now out) ⌝ }
-    requires { ⌜ first + linesOf (length (now roll)) ≤ 1000000 ⌝ }
-    ensures { λ r. ⌜ Played (now (image .entry)) (worldOf machine (now (pool .entry)) (now (table .entry))) (now (roll .entry))
-        (linesOf (length (now (roll .entry)))) first (now (out .entry)) (now (out .exit)) (worldOf r (now (pool .exit)) (now (table .exit))) ⌝ }
+    requires { ⌜ player .line + linesOf (length (now roll)) ≤ 1000000 ⌝ }
+    ensures { λ r. let before = worldOf (player .machine) (now (pool .entry)) (now (table .entry)) in
+        let lines = linesOf (length (now (roll .entry))) in
+        ⌜ Played (now (image .entry)) before (now (roll .entry)) lines (player .line) (now (out .entry))
+        (now (out .exit))
+        (worldOf r (now (pool .exit)) (now (table .exit))) ⌝ }
 {
-    play_lines(
-        machine,
-        pool,
-        table,
-        image,
-        roll,
-        first,
-        out,
-        lines_of(roll.len()),
-    )
+    let machine = player.machine;
+    let playing = Playing {
+        machine: machine,
+        first: player.line,
+        answered: 0,
+    };
+    let size = lines_of(roll.len()) * Line::REPLY;
+    let played = play_lines(playing, pool, table, image, roll, &mut out[..size]);
+    played.machine
 }
 
-// The first n lines of the roll, over which one reader goes line by line.
+// As many lines of the roll as out has room for replies, over which one reader goes line by line.
 fn play_lines(
-    machine: Machine,
+    playing: Playing,
     pool: &mut [u8],
     table: &mut [u16],
     image: &[u8],
     roll: &[u8],
-    first: u32,
     out: &mut [u8],
-    n: usize,
-) -> Machine
-    requires { ⌜ (n * 19 ≤ length (now out)) × (first + n ≤ 1000000) ⌝ }
-    ensures { λ r. ⌜ Played (now (image .entry)) (worldOf machine (now (pool .entry)) (now (table .entry))) (now (roll .entry)) n first (now (out .entry))
-        (now (out .exit)) (worldOf r (now (pool .exit)) (now (table .exit))) ⌝ }
+) -> Playing
+    requires { ⌜ (playing .first + length (now out) / 19 ≤ 1000000) × (playing .answered ≡ 0) ⌝ }
+    ensures { λ r. let before = worldOf (playing .machine) (now (pool .entry)) (now (table .entry)) in
+        let lines = length (now (out .entry)) / 19 in
+        ⌜ Played (now (image .entry)) before (now (roll .entry)) lines (playing .first) (now (out .entry))
+        (now (out .exit)) (worldOf (r .machine) (now (pool .exit)) (now (table .exit))) ⌝ }
 {
-    let mut state = machine;
+    let lines = out.len() / Line::REPLY;
+    let mut state = playing;
     let mut reader = new(roll);
-    while reader.line < n {
+    while reader.line < lines {
         let line = next(reader);
-        state = reply(state, pool, table, image, line, first, reader.line, out);
+        state = reply(state, pool, table, image, line, out);
         reader = skip(reader);
     }
     state

@@ -1,7 +1,7 @@
 // One line of a roll answered: its request is called, and the reply is printed at its place.
 // It promises that the reply is that of the machine's step, or refusal 1 where the line is malformed, and that nothing else of the output changes
 // (`Turned` and `Replied` of `roll`).
-// It stands on `machine` for the call, on `codes` for the number of an answer, on `lines` for the print and on `roll` for what a reply is.
+// It stands on `machine` for the call, on `codes` for the number of an answer, on `printer` for the print and on `roll` for what a reply is.
 ghost use mathlib.Core.Path.{_≡_};
 ghost use Prim.Native.Nat.{_+_, _*_, _≤_};
 ghost use lib.ListN.{length};
@@ -13,32 +13,50 @@ ghost use Rattle.roll.specs.Play.{Turned, Replied};
 use interface::answer::Answer;
 use interface::answer::Refusal;
 use lines::Line;
-use lines::print_reply;
 use machine::call::Reply;
 use machine::call::call;
+use printer::print_reply;
 use state::sandbox::Machine;
 
-// One line, with its reply: 19 bytes of out.
+// A roll that is being played: the machine, the number of the roll's first line, and how many lines are answered.
+pub struct Playing {
+    pub machine: Machine,
+    pub first: u32,
+    pub answered: usize,
+}
+
+// The next line, with its reply: 19 bytes of out.
 pub fn reply<'a, 'b>(
-    machine: Machine,
+    playing: Playing,
     pool: &'a mut [u8],
     table: &'a mut [u16],
     image: &'b [u8],
     line: Line,
-    first: u32,
-    k: usize,
     out: &'a mut [u8],
-) -> Machine
-    requires { ⌜ (k * 19 + 19 ≤ length (now out)) × (first + k ≤ 999999) ⌝ }
-    ensures { λ r. ⌜ Replied (now (image .entry)) (worldOf machine (now (pool .entry)) (now (table .entry))) line (first + k) (k * 19) (now (out .entry))
-        (now (out .exit)) (worldOf r (now (pool .exit)) (now (table .exit))) ⌝ }
+) -> Playing
+    requires { ⌜ (playing .answered * 19 + 19 ≤ length (now out)) × (playing .first + playing .answered ≤ 999999) ⌝ }
+    ensures { λ r. let before = worldOf (playing .machine) (now (pool .entry)) (now (table .entry)) in
+        let k = playing .answered in
+        ⌜ Replied (now (image .entry)) before line (playing .first + k) (k * 19) (now (out .entry)) (now (out .exit))
+        (worldOf (r .machine) (now (pool .exit)) (now (table .exit)))
+        × (r .first ≡ playing .first) × (r .answered ≡ k + 1) ⌝ }
 {
+    let machine = playing.machine;
     let r = turn(machine, pool, table, image, line);
-    let at = k * Line::REPLY;
+    let at = playing.answered * Line::REPLY;
     let end = at + Line::REPLY;
     let answer = r.answer;
-    print(&mut out[at..end], first + k as u32, answer);
-    r.machine
+    print(
+        &mut out[at..end],
+        playing.first + playing.answered as u32,
+        answer,
+    );
+    let after = r.machine;
+    Playing {
+        machine: after,
+        first: playing.first,
+        answered: playing.answered + 1,
+    }
 }
 
 // One line: its request is called; a malformed one is refused.

@@ -7,6 +7,7 @@ use lib.ListN.{length, take, length-append}
 use Rattle.lines.specs.Lines.{linesOf}
 use Rattle.state.specs.World.{World}
 use Rattle.roll.specs.Play.{Played}
+use Rattle.playing.proofs.PrefixLaws.{few-lines}
 use Rattle.roll.specs.Join.{WholeLines}
 use Rattle.roll.proofs.PlayLaws.{played-none}
 use Rattle.roll.proofs.JoinLaws.{joins, counts-on, played-alone}
@@ -32,11 +33,6 @@ none-so-far image w = record {
   behind = λ rest r. r;
   played = played-none image [] [] w 1;
 }
-
--- at most a line has at most one reply
-pub few-lines : (bytes : ℕ) → bytes ≤ 43 → linesOf bytes ≤ 1
-unfolding linesOf
-few-lines bytes h = omega arith
 
 a-line : (bytes : ℕ) → bytes ≡ 43 → linesOf bytes ≡ 1
 unfolding linesOf

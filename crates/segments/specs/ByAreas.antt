@@ -1,6 +1,6 @@
 -- The maps and protects of a roll, by the places of the snapshot's areas.
 use Prim.Native.Nat.{ℕ}
-use mathlib.Core.Bool.{not}
+use mathlib.Core.Bool.{Bool, not}
 use mathlib.Core.List.{List}
 use lib.Dec.{eqb}
 use lib.ListN.{getD}
@@ -11,6 +11,8 @@ use Rattle.areas.specs.declared.area.Areas.{Areas}
 use Rattle.areas.specs.Areas.{none}
 use Rattle.archive.specs.Archive.{joined, only, kindOf, firstImage}
 use Rattle.segments.specs.declared.Snapshot.{Snapshot}
+use Rattle.segments.specs.declared.by_area.Segment.{Segment}
+use Rattle.segments.specs.declared.by_area.Segment.the-variants.{Maps, Protects}
 
 -- of an area
 abbrev pub mapOf : ℕ → Area → Request
@@ -19,12 +21,24 @@ mapOf s a = requestOf Map s (a .first .0) (a .pages) (kindOf (a .backing)) (firs
 abbrev pub protectOf : ℕ → Area → Request
 protectOf s a = requestOf Protect s (a .first .0) (a .pages) 1 0 0
 
+-- whether a segment has a line for an area, and which
+abbrev pub isTold : Segment → Area → Bool
+isTold Maps a = not (eqb (a .pages) 0)
+isTold Protects a = eqb (a .rights) 1
+
+abbrev pub lineOf : Segment → ℕ → Area → Request
+lineOf Maps s a = mapOf s a
+lineOf Protects s a = protectOf s a
+
 -- of a place; a place without an area has no pages and no rights
+abbrev pub linesAt : Segment → ℕ → Areas → ℕ → List Request
+linesAt segment s areas k = let a = getD (areas .list) k none in only (isTold segment a) (lineOf segment s a)
+
 abbrev pub mapsAt : ℕ → Areas → ℕ → List Request
-mapsAt s areas k = only (not (eqb (getD (areas .list) k none .pages) 0)) (mapOf s (getD (areas .list) k none))
+mapsAt = linesAt Maps
 
 abbrev pub protectsAt : ℕ → Areas → ℕ → List Request
-protectsAt s areas k = only (eqb (getD (areas .list) k none .rights) 1) (protectOf s (getD (areas .list) k none))
+protectsAt = linesAt Protects
 
 -- of all places
 abbrev pub mapsOf : Snapshot → List Request

@@ -3,7 +3,11 @@
 // of well formed areas these are the lines of the roll (proofs/AreaLaws). Pool, table and image are only read.
 // It stands on `printing` for a line put, on `areas`, `table` and `pool` for the snapshot, and on `archive` for the roll.
 use areas::area::Areas;
+pub use maps::put_maps;
+pub use protects::put_protects;
+pub use writes::put_writes;
 
+mod by_area;
 pub mod maps;
 pub mod protects;
 pub mod writes;

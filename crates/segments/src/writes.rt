@@ -65,9 +65,11 @@ fn put_page(
     requires { ⌜ page .number .0 < 64 ⌝ }
     requires { ⌜ Ranged 256 (now pool) (now table) ⌝ }
     requires { ⌜ backingEnd (backingAt (page .slot)) * 256 ≤ length (now image) ⌝ }
-    requires { ⌜ Room to (now out) (pageLines (now image) (now pool) (now table) (page .sandbox) (page .number .0) (page .slot)) ⌝ }
+    requires { ⌜ Room to (now out)
+        (pageLines (now image) (now pool) (now table) (page .sandbox) (page .number .0) (page .slot)) ⌝ }
     ensures { λ r. ⌜ placed r (now (out .exit)) ≡ put to (now (out .entry))
-        (pageLines (now (image .entry)) (now (pool .entry)) (now (table .entry)) (page .sandbox) (page .number .0) (page .slot)) ⌝ }
+        (pageLines (now (image .entry)) (now (pool .entry)) (now (table .entry))
+        (page .sandbox) (page .number .0) (page .slot)) ⌝ }
 {
     let number = page.number;
     let back = table::entry::back(table, page.sandbox, number);
@@ -92,9 +94,11 @@ fn put_bytes(
 ) -> Cursor
     requires { ⌜ f .0 * 256 + 256 ≤ length (now pool) ⌝ }
     requires { ⌜ backingEnd (backingAt (page .slot)) * 256 ≤ length (now image) ⌝ }
-    requires { ⌜ Room to (now out) (bytesOf (now image) (page .sandbox) (page .number .0) (page .slot) (frame 256 (now pool) (f .0))) ⌝ }
+    requires { ⌜ Room to (now out)
+        (bytesOf (now image) (page .sandbox) (page .number .0) (page .slot) (frame 256 (now pool) (f .0))) ⌝ }
     ensures { λ r. ⌜ placed r (now (out .exit)) ≡ put to (now (out .entry))
-        (bytesOf (now (image .entry)) (page .sandbox) (page .number .0) (page .slot) (frame 256 (now (pool .entry)) (f .0))) ⌝ }
+        (bytesOf (now (image .entry)) (page .sandbox) (page .number .0) (page .slot)
+        (frame 256 (now (pool .entry)) (f .0))) ⌝ }
 {
     let slot = page.slot;
     let backing = backing_at(slot);

@@ -1,9 +1,30 @@
--- The roll is played, and then the archive roll is written of what it left.
-use borrow.Author.Needs.{needs}
+-- The roll is played from what a start leaves, and then the archive roll is written of what it left.
+use mathlib.Core.Path.{subst}
 use Rattle.state.specs.World.{worldOf}
+use Rattle.roll_input.specs.Input.{RollPlayed}
 use Rattle.archiver.proofs.PerformedLaws.{answered-fits}
+use borrow.Author.Needs.{needs}
 use Rattle.archiver.proofs.perform.Statement.{statement}
 use Rattle.archiver.proofs.perform.Tie as tie
+
+-- where the archive roll has been written, the roll played, the machine started, and before that
+abbrev lent : tie.After-write-archive → tie.After-slice-known7
+lent c = c .before .before .before .before
+
+abbrev played : tie.After-write-archive → tie.After-play-input
+played c = lent c .before .before .before .before
+
+abbrev begun : tie.After-play-input → tie.After-begun
+begun c = c .before .before .before
+
+abbrev started : tie.After-play-input → tie.After-start
+started c = begun c .before .before .before .before .before
+
+abbrev first : tie.After-start → tie.Start
+first c = c .before .before .before .before .before .before .before
+
+start-requires : tie.Need-start-requires
+start-requires c κs = search needs
 
 play-input-requires : tie.Need-play-input-requires
 play-input-requires c κs = search needs
@@ -22,14 +43,17 @@ same-length-3 c = search needs
 
 returns : tie.Need-returns
 returns c =
-    let writing = c .before .before in
-    let put = writing .write-archive in
-    let playing = writing .before .before .before .before .before .before .before .before in
-    let played = playing .play-input in
-    let start = playing .before .before .before .before .before .before .before in
+    let put = c .before .before .write-archive in
+    let playing = played (c .before .before) in
+    let left = playing .play-input in
+    let start = first (started playing) in
     let image = start .args .image .now in
-    let w = worldOf (played .result) (played .last .0) (played .last .1 .0) in (
-      record { world = w; input = played .ensures; archived = put .ensures },
+    let w = worldOf (left .result) (left .last .1 .0) (left .last .1 .1 .0) in (
+      record {
+        world = w;
+        input = subst (λ v. RollPlayed image v w) (started playing .start .ensures .1) (left .ensures);
+        archived = put .ensures;
+      },
       rw (put .kept .1 .1 .1 .1 .1 .0) (answered-fits image w (start .args .sandbox) (start .args .out .now) (put .result) _ (put .ensures)),
     )
 
@@ -37,6 +61,7 @@ pub perform-spec : {M : Type 1} → statement M
 perform-spec =
     tie.close
     (tie.spec
+    start-requires
     play-input-requires
     write-archive-requires
     same-length

@@ -1,3 +1,4 @@
+-- A field is the part of its six columns read: the part's length is that of a field.
 use Prim.Native.Nat.{_*_}
 use native.Mathlib.Nat.{add-sub-cancel-left}
 use borrow.Author.Needs.{needs}

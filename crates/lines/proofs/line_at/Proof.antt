@@ -1,3 +1,4 @@
+-- The line at a place: past the whole lines there is none (`past-line`), and else the part of its 43 bytes is parsed.
 use Prim.Native.Nat.{_*_}
 use mathlib.Core.Path.{sym}
 use native.Mathlib.Nat.{add-sub-cancel-left}

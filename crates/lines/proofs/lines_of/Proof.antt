@@ -1,3 +1,4 @@
+-- The lines counted are those of the definition, by arithmetic in both ways out.
 use native.Mathlib.Omega.{arith}
 use borrow.Author.Needs.{needs}
 use Rattle.lines.specs.Lines.{linesOf}

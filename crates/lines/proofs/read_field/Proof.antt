@@ -1,3 +1,4 @@
+-- Six columns read: the loop keeps what the columns so far say, and the last one has a digit.
 use Prim.Native.Nat.{_≤_, _-_}
 use mathlib.Core.Path.{_≡_, refl}
 use native.Mathlib.Omega.{arith}

@@ -1,3 +1,4 @@
+-- One more column that is not the last: each way out is the row of the definition that its tests choose.
 use borrow.Author.Tests.{lt-ltb, le-ltb, eq-eqb, ne-eqb}
 use borrow.Author.Needs.{needs}
 use Rattle.lines.specs.Fields.{withColumn}
@@ -39,8 +40,8 @@ returns-5 c =
 returns-4 : tie.Need-returns-4
 unfolding withColumn
 returns-4 c =
-    simp
-    (c .before .before .before .before .read .given .1, le-ltb _ _ (c .before .before .if1 .left), ne-eqb _ _ (c .before .if2 .left), eq-eqb _ _ (c .if3 .taken))
+    let seen = c .before in
+    simp (seen .before .before .before .read .given .1, le-ltb _ _ (seen .before .if1 .left), ne-eqb _ _ (seen .if2 .left), eq-eqb _ _ (c .if3 .taken))
 
 with-digit-requires-2 : tie.Need-with-digit-requires-2
 with-digit-requires-2 c κs = search needs

@@ -1,3 +1,4 @@
+-- One more digit: each way out is the row of the definition that its tests choose.
 use borrow.Author.Tests.{lt-ltb, le-ltb}
 use borrow.Author.Needs.{needs}
 use Rattle.lines.specs.Fields.{withDigit}
@@ -40,14 +41,14 @@ cast-t10 c = search needs
 returns-4 : tie.Need-returns-4
 unfolding withDigit
 returns-4 c =
-    simp
-    (c .before .before .before .before .read .given .1, le-ltb _ _ (c .before .before .if1 .left), le-ltb _ _ (c .before .if2 .left), lt-ltb _ _ (c .if3 .taken))
+    let high = c .before in
+    simp (high .before .before .before .read .given .1, le-ltb _ _ (high .before .if1 .left), le-ltb _ _ (high .if2 .left), lt-ltb _ _ (c .if3 .taken))
 
 returns-5 : tie.Need-returns-5
 unfolding withDigit
 returns-5 c =
-    simp
-    (c .before .before .before .before .read .given .1, le-ltb _ _ (c .before .before .if1 .left), le-ltb _ _ (c .before .if2 .left), le-ltb _ _ (c .if3 .left))
+    let high = c .before in
+    simp (high .before .before .before .read .given .1, le-ltb _ _ (high .before .if1 .left), le-ltb _ _ (high .if2 .left), le-ltb _ _ (c .if3 .left))
 
 pub with-digit-spec : {M : Type 1} → statement M
 with-digit-spec =

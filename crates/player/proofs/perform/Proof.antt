@@ -63,7 +63,7 @@ abbrev tableAfter : AfterTurn → List ℕ
 tableAfter c = c .turn .last .1 .1 .0
 
 abbrev turnAt : AfterTurn → Turn
-turnAt c = turnOf (c .turn .result) (c .turn .last .1 .1 .1 .1 .1 .0) (c .turn .last .1 .1 .1 .1 .1 .1 .0)
+turnAt c = turnOf (c .turn .result) (c .turn .last .1 .1 .1 .1 .0) (c .turn .last .1 .1 .1 .1 .1 .0)
 
 -- ---- the needs
 

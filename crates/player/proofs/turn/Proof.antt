@@ -7,7 +7,8 @@ use native.Mathlib.Omega.{arith}
 use lib.Seq.{length-take-le}
 use Rattle.lines.specs.Lines.{linesOf}
 use Rattle.state.specs.World.{worldOf}
-use Rattle.player.proofs.ConversationLaws.{few-lines, turn-answers}
+use Rattle.playing.proofs.PrefixLaws.{few-lines}
+use Rattle.player.proofs.ConversationLaws.{turn-answers}
 use borrow.Author.Needs.{needs}
 use Rattle.player.proofs.turn.Statement.{statement}
 use Rattle.player.proofs.turn.Tie as tie
@@ -58,7 +59,7 @@ slice-reshare-prefix-write-all c =
     let playing = playingOf c in
     let reading = readingOf playing in
     let few = one-line reading in
-    omega (arith, few, c .lines-of .ensures, playing .play .kept .1 .1 .1 .1 .1 .1 .0, startOf reading .pre .0 .1)
+    omega (arith, few, c .lines-of .ensures, playing .play .kept .1 .1 .1 .1 .1 .0, startOf reading .pre .0 .1)
 
 slice-aggregate-write-all : tie.Need-slice-aggregate-write-all
 slice-aggregate-write-all c = sym (length-take-le _ _ (slice-reshare-prefix-write-all (c .before)))
@@ -86,10 +87,10 @@ returns c =
     let got = reading .read-full in
     let start = startOf reading in
     let image = start .args .image .now in
-    let reply = played .last .1 .1 .1 .1 .1 .1 .0 in
-    let w = worldOf (start .args .machine) (start .args .pool .now) (start .args .table .now) in
+    let reply = played .last .1 .1 .1 .1 .1 .0 in
+    let w = worldOf (start .args .player .machine) (start .args .pool .now) (start .args .table .now) in
     let v = worldOf (played .result) (played .last .1 .0) (played .last .1 .1 .0) in (
-      turn-answers image (got .last .1 .0) (start .args .reply .now) reply (start .args .number) (got .result) (c .write-all .result) w v
+      turn-answers image (got .last .1 .0) (start .args .reply .now) reply (start .args .player .line) (got .result) (c .write-all .result) w v
           (start .pre .1) (few-bytes reading) (sym (got .ensures .1)) (played .ensures),
       ap (λ n. c .write-all .result && eqb n 43) (got .ensures .1),
     )

@@ -1,3 +1,4 @@
+-- An answer printed is its number and its value printed, by what the two helpers ensure.
 use borrow.Author.Needs.{needs}
 use Rattle.replying.proofs.print.Statement.{statement}
 use Rattle.replying.proofs.print.Tie as tie

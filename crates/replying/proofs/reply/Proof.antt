@@ -1,13 +1,28 @@
+-- The next line answered: its turn, and its reply printed at its place, are what `Replied` asks.
 use mathlib.Core.Path.{refl, ap, _∙_}
 use mathlib.Core.List.{_++_}
+use native.Mathlib.Omega.{arith}
 use lib.ListN.{take, drop}
 use Prim.Native.Nat.{_+_, _*_}
-use borrow.Author.Needs.{needs}
 use Rattle.interface.specs.Answers.{answered}
 use Rattle.roll.proofs.PlayLaws.{part-is}
 use Rattle.roll.proofs.SmallLaws.{fits-line}
+use borrow.Author.Needs.{needs}
 use Rattle.replying.proofs.reply.Statement.{statement}
 use Rattle.replying.proofs.reply.Tie as tie
+
+-- where the reply has been printed, where the line has been answered, and the start
+abbrev parted : tie.After-print → tie.After-struct-known
+parted c = c .before .before .before .before
+
+abbrev turned : tie.After-print → tie.After-turn
+turned c = parted c .before .before .before .before .before
+
+abbrev lent : tie.After-turn → tie.After-slice-known3
+lent c = c .before .before .before .before
+
+abbrev begun : tie.After-print → tie.Start
+begun c = lent (turned c) .before .before .before .before
 
 turn-requires : tie.Need-turn-requires
 turn-requires c κs = search needs
@@ -36,6 +51,9 @@ add-print c = search needs
 print-requires : tie.Need-print-requires
 print-requires c κs = search needs
 
+add-t19 : tie.Need-add-t19
+add-t19 c = let start = begun (c .before .before .before .before) in omega (arith, start .pre .1)
+
 same-length : tie.Need-same-length
 same-length c = search needs
 
@@ -47,19 +65,23 @@ same-length-3 c = search needs
 
 returns : tie.Need-returns
 returns c =
-    let start = c .before .before .before .before .before .before .before .before .before .before .before .before .before .before .before .before in
-    let got = c .before .before .before .before .before .before .before .before .before .turn in
-    let shown = c .before .before .before .print in
+    let shown = c .before .before .before .before in
+    let got = turned shown .turn in
+    let start = begun shown in
     let a = start .args in
-    let at = a .k * 19 in
-    record {
-      answer = answered (got .result .answer);
-      turned = got .ensures .0;
-      fits = fits-line (a .first + a .k) (got .result .answer) (start .pre .1) (got .ensures .1);
-      prints =
-          part-is (a .out .now) (shown .last .0) at (at + 19) refl
-          ∙ ap (λ ys. take at (a .out .now) ++ (ys ++ drop (at + 19) (a .out .now))) (shown .ensures);
-    }
+    let k = a .playing .answered in
+    let at = k * 19 in (
+      record {
+        answer = answered (got .result .answer);
+        turned = got .ensures .0;
+        fits = fits-line (a .playing .first + k) (got .result .answer) (start .pre .1) (got .ensures .1);
+        prints =
+            part-is (a .out .now) (shown .print .last .0) at (at + 19) refl
+            ∙ ap (λ ys. take at (a .out .now) ++ (ys ++ drop (at + 19) (a .out .now))) (shown .print .ensures);
+      },
+      refl,
+      refl,
+    )
 
 pub reply-spec : {M : Type 1} → statement M
 reply-spec =
@@ -74,6 +96,7 @@ reply-spec =
     cast-print
     add-print
     print-requires
+    add-t19
     same-length
     same-length-2
     same-length-3

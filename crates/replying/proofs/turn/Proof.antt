@@ -1,3 +1,4 @@
+-- One line: a request is answered as the call ensures, with a small value; a malformed line changes nothing.
 use native.Mathlib.Omega.{arith}
 use mathlib.Core.Path.{refl, sym, subst}
 use Rattle.state.specs.World.{worldOf}
@@ -23,17 +24,28 @@ same-length c = search needs
 same-length-2 : tie.Need-same-length-2
 same-length-2 c = search needs
 
+-- where the request has been called, where the line has been told apart, and the start
+abbrev called : tie.After-slice-known4 → tie.After-call
+called c = c .before .before .before .before
+
+abbrev told : tie.After-call → tie.After-line
+told c = c .before .before .before .before
+
+abbrev lent : tie.After-call → tie.After-shared-slice-known
+lent c = told c .before .before
+
 returns : tie.Need-returns
 returns c =
-    let start = c .before .before .before .before .before .before .before .before .before .before .before .before .before in
-    let got = c .before .before .before .before .call in
+    let calling = called c in
+    let got = calling .call in
+    let images = lent calling .shared-slice-known .given in
+    let pool = lent calling .before .before in
+    let bytes = pool .slice-known .given in
+    let start = pool .before in
     let image = start .args .image .now in
     let w = worldOf (start .args .machine) (start .args .pool .now) (start .args .table .now) in
-    let o = outcomeOf (got .result) (got .last .1 .0) (got .last .1 .1 .0) in
-    let line = c .before .before .before .before .before .before .before .before .line .given in
-    let images = c .before .before .before .before .before .before .before .before .before .before .shared-slice-known .given in
-    let bytes = c .before .before .before .before .before .before .before .before .before .before .before .before .slice-known .given in (
-      subst (λ l. Turned image w l o) (sym (line .1)) (got .ensures),
+    let o = outcomeOf (got .result) (got .last .1 .0) (got .last .1 .1 .0) in (
+      subst (λ l. Turned image w l o) (sym (told calling .line .given .1)) (got .ensures),
       value-small image w _ (λ k. omega (arith, images k)) (λ k. omega (arith, bytes k)) o (got .ensures),
     )
 

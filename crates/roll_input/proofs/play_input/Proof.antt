@@ -1,51 +1,42 @@
--- The loop over the lines: after each of them, what was read is one roll played from the start.
-use mathlib.Core.Path.{_≡_, refl, sym, subst, _∙_}
+-- The loop over the lines: after each of them, what was read is one roll played.
+use mathlib.Core.Path.{_≡_, refl, sym, _∙_}
 use mathlib.Core.List.{List}
 use Prim.Native.Nat.{ℕ, _-_, _≤_}
 use native.Mathlib.Omega.{arith}
 use lib.ListN.{length}
 use borrow.Author.Needs.{needs}
 use Rattle.state.specs.World.{World, worldOf}
-use Rattle.state.specs.Start.{startedBy}
-use Rattle.roll_input.specs.Input.{RollPlayed}
-use Rattle.roll_input.proofs.InputLaws.{SoFar, none-so-far, few-lines, ended, one-more, full}
+use Rattle.playing.proofs.PrefixLaws.{few-lines}
+use Rattle.roll_input.proofs.InputLaws.{SoFar, none-so-far, ended, one-more, full}
 use Rattle.roll_input.proofs.play_input.Statement.{statement}
 use Rattle.roll_input.proofs.play_input.Tie as tie
 
 abbrev Inv-loop : tie.InvT-loop
-Inv-loop pool₀ table₀ image machine₀ number₀ pool table machine number =
+Inv-loop pool₀ table₀ image state₀ number₀ pool table state number =
     (number ≤ 65536) × (length pool ≡ length pool₀) × (length table ≡ length table₀)
-    × SoFar image (worldOf machine₀ pool₀ table₀) number (worldOf machine pool table)
+    × SoFar image (worldOf state₀ pool₀ table₀) number (worldOf state pool table)
 
 abbrev μ-loop : tie.MeasureT-loop
-μ-loop pool₀ table₀ image machine₀ number₀ pool table machine number = 65536 - number
+μ-loop pool₀ table₀ image state₀ number₀ pool table state number = 65536 - number
 
 -- ---- what is known in the loop
 
 abbrev AtLoop : Type 0
 AtLoop = tie.At-loop Inv-loop μ-loop
 
-abbrev begunOf : AtLoop → tie.After-start Inv-loop μ-loop
-begunOf c = c .before .before .before .before .before .before
+-- the world that a line meets
+abbrev worldAt : AtLoop → World
+worldAt c = worldOf (c .loop .state) (c .loop .pool) (c .loop .table)
 
+-- and the one that the roll met
 abbrev startOf : AtLoop → tie.Start Inv-loop μ-loop
-startOf c = begunOf c .before .before .before .before .before .before
+startOf c = c .before .before .before .before
 
 abbrev imageIn : AtLoop → List ℕ
 imageIn c = startOf c .args .image .now
 
--- the world that the start left
 abbrev worldBegun : AtLoop → World
-worldBegun c = worldOf (begunOf c .start .result .machine) (begunOf c .start .last .0) (begunOf c .start .last .1 .0)
-
--- is the started one
-from-start : (c : AtLoop) (v : World) → RollPlayed (imageIn c) (worldBegun c) v
-    → RollPlayed (imageIn c) (startedBy (startOf c .args .pool .now) (startOf c .args .table .now) (imageIn c)) v
-from-start c v = subst (λ w. RollPlayed (imageIn c) w v) (begunOf c .start .ensures .1)
-
--- the world that a line meets
-abbrev worldAt : AtLoop → World
-worldAt c = worldOf (c .loop .machine) (c .loop .pool) (c .loop .table)
+worldBegun c = let a = startOf c .args in worldOf (a .machine) (a .pool .now) (a .table .now)
 
 -- ---- a line read
 
@@ -70,9 +61,6 @@ abbrev worldAfter : AfterPlay → World
 worldAfter c = worldOf (c .play .result) (c .play .last .1 .0) (c .play .last .1 .1 .0)
 
 -- ---- the needs
-
-start-requires : tie.Need-start-requires Inv-loop μ-loop
-start-requires c κs = search needs
 
 loop-holds : tie.Need-loop-holds Inv-loop μ-loop
 loop-holds c = (omega arith, refl, refl, none-so-far _ _)
@@ -111,9 +99,8 @@ returns c =
     let reading = readOf playing in
     let at = loopOf reading in
     let low : at .loop .number ≤ 65535 = omega (arith, reading .before .before .loop-test .taken) in
-    from-start at (worldAfter playing)
-    (ended (imageIn at) (worldBegun at) (at .loop .number) (worldAt at) (at .loop .inv .3) low _ _ _ (worldAfter playing)
-    (rw (← (reading .read-full .ensures .1)) (c .if1 .taken)) (playing .play .ensures))
+    ended (imageIn at) (worldBegun at) (at .loop .number) (worldAt at) (at .loop .inv .3) low _ _ _ (worldAfter playing)
+    (rw (← (reading .read-full .ensures .1)) (c .if1 .taken)) (playing .play .ensures)
 
 add-number : tie.Need-add-number Inv-loop μ-loop
 add-number c = search needs
@@ -146,7 +133,7 @@ returns-2 : tie.Need-returns-2 Inv-loop μ-loop
 returns-2 c =
     let at = c .before in
     let all : at .loop .number ≡ 65536 = omega (arith, at .loop .inv .0, c .loop-test .left) in
-    from-start at (worldAt at) (full (imageIn at) (worldBegun at) (at .loop .number) (worldAt at) (at .loop .inv .3) all)
+    full (imageIn at) (worldBegun at) (at .loop .number) (worldAt at) (at .loop .inv .3) all
 
 pub play-input-spec : {M : Type 1} → statement M
 play-input-spec =
@@ -154,7 +141,6 @@ play-input-spec =
     (tie.spec
     Inv-loop
     μ-loop
-    start-requires
     loop-holds
     slice-aggregate-read-full
     read-full-requires

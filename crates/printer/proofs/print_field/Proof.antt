@@ -1,13 +1,14 @@
+-- A field printed from its last column to its first: the columns still to be printed and those that stand make the field at each turn.
 use Prim.Native.Nat.{_≤_, _+_, _-_}
 use mathlib.Core.Path.{_≡_}
 use mathlib.Core.List.{_++_}
 use native.Mathlib.Omega.{arith}
 use lib.ListN.{length, drop}
 use borrow.Author.Needs.{needs}
-use Rattle.lines.proofs.PrintLaws.{last-printed, column-printed}
+use Rattle.printer.proofs.PrinterLaws.{last-printed, column-printed}
 use Rattle.lines.specs.Prints.{columns, printedField}
-use Rattle.lines.proofs.print_field.Statement.{statement}
-use Rattle.lines.proofs.print_field.Tie as tie
+use Rattle.printer.proofs.print_field.Statement.{statement}
+use Rattle.printer.proofs.print_field.Tie as tie
 
 abbrev Inv-loop : tie.InvT-loop
 Inv-loop out₀ n rest₀ i₀ out rest i = (i ≤ 5) × (length out ≡ 6) × (columns i rest ++ drop i out ≡ printedField n)

@@ -1,7 +1,8 @@
+-- A column is a blank where no digit is left, and else a digit.
 use borrow.Author.Tests.{ne-eqb}
 use borrow.Author.Needs.{needs}
-use Rattle.lines.proofs.column_of.Statement.{statement}
-use Rattle.lines.proofs.column_of.Tie as tie
+use Rattle.printer.proofs.column_of.Statement.{statement}
+use Rattle.printer.proofs.column_of.Tie as tie
 
 returns : tie.Need-returns
 returns c = rw (c .if1 .taken)

@@ -1,7 +1,7 @@
--- The map of an area.
+-- The map of an area: its fields are those of the definition, by what the two helpers ensure.
 use borrow.Author.Needs.{needs}
-use Rattle.segments.proofs.maps.map_line.Statement.{statement}
-use Rattle.segments.proofs.maps.map_line.Tie as tie
+use Rattle.segments.proofs.by_area.map_line.Statement.{statement}
+use Rattle.segments.proofs.by_area.map_line.Tie as tie
 
 cast-t5 : tie.Need-cast-t5
 cast-t5 c = search needs

@@ -1,0 +1,81 @@
+// The roll's text printed: a reply, and a request, into the bytes of a line.
+// It promises that what is printed is the line that `lines` defines, for a reply and for a request, and so the one form of a request that the parser takes.
+// It stands on `lines` for what a line has in its columns, and on `pages` for a part of a list.
+ghost use mathlib.Core.Path.{_≡_};
+ghost use Prim.Native.Nat.{_+_, _*_, _≤_};
+ghost use lib.ListN.{length};
+ghost use Rattle.pages.specs.Parts.{setPart};
+ghost use Rattle.lines.specs.Prints.{lastDigit, column, printedField, printedRequest, printedReply};
+use interface::request::Request;
+use lines::Line;
+
+// Prints a reply, "line number from 1, refusal number or 0, value", and a line feed, into 19 bytes.
+pub fn print_reply(out: &mut [u8], line: u32, number: u32, value: u32)
+    requires { ⌜ length (now out) ≡ 19 ⌝ }
+    requires { ⌜ (line ≤ 999999) × (number ≤ 999999) × (value ≤ 999999) ⌝ }
+    ensures { λ _. ⌜ now (out .exit) ≡ printedReply line number value ⌝ }
+{
+    print_at(out, Line::REPLY_LINE, line);
+    print_at(out, Line::REPLY_NUMBER, number);
+    print_at(out, Line::REPLY_VALUE, value);
+    out[Line::REPLY_FEED] = b'\n';
+}
+
+// Prints a request, "call, sandbox, p1 to p5", and a line feed, into 43 bytes.
+pub fn print_request(out: &mut [u8], q: Request)
+    requires { ⌜ length (now out) ≡ 43 ⌝ }
+    ensures { λ _. ⌜ now (out .exit) ≡ printedRequest q ⌝ }
+{
+    print_at(out, Line::CODE, q.code as u32);
+    print_at(out, Line::SANDBOX, q.sandbox as u32);
+    print_at(out, Line::P1, q.p1 as u32);
+    print_at(out, Line::P2, q.p2 as u32);
+    print_at(out, Line::P3, q.p3 as u32);
+    print_at(out, Line::P4, q.p4 as u32);
+    print_at(out, Line::P5, q.p5 as u32);
+    out[Line::FEED] = b'\n';
+}
+
+// Prints a number as a field of the line, from 0 on.
+fn print_at(out: &mut [u8], field: usize, n: u32)
+    requires { ⌜ field * 6 + 6 ≤ length (now out) ⌝ }
+    requires { ⌜ n ≤ 999999 ⌝ }
+    ensures { λ _. ⌜ now (out .exit) ≡ setPart (now (out .entry)) (field * 6) (printedField n) ⌝ }
+{
+    let at = field * Line::FIELD;
+    let end = at + Line::FIELD;
+    print_field(&mut out[at..end], n);
+}
+
+// Prints a number right-justified over blanks, into 6 bytes.
+fn print_field(out: &mut [u8], n: u32)
+    requires { ⌜ length (now out) ≡ 6 ⌝ }
+    requires { ⌜ n ≤ 999999 ⌝ }
+    ensures { λ _. ⌜ now (out .exit) ≡ printedField n ⌝ }
+{
+    out[Line::LAST_COLUMN] = digit(n);
+    let mut rest = n / Line::RADIX;
+    let mut i = Line::LAST_COLUMN;
+    while i > 0 {
+        i -= 1;
+        out[i] = column_of(rest);
+        rest /= Line::RADIX;
+    }
+}
+
+// The last digit of a number, in ASCII.
+fn digit(n: u32) -> u8
+    ensures { λ r. ⌜ r ≡ lastDigit n ⌝ }
+{
+    b'0' + (n % Line::RADIX) as u8
+}
+
+// What stands in a column that is not the last: a digit, or a blank where no digit is left.
+fn column_of(rest: u32) -> u8
+    ensures { λ r. ⌜ r ≡ column rest ⌝ }
+{
+    if rest == 0 {
+        return b' ';
+    }
+    digit(rest)
+}
