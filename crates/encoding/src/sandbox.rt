@@ -2,9 +2,9 @@
 ghost use mathlib.Core.Path.{_≡_};
 ghost use lib.ListN.{length};
 ghost use Rattle.layout.specs.Layout.{sandboxSize, sandboxBytes, sandboxFrom, isSandbox};
+use fields::word::flag;
 use layout::size::At;
 use layout::size::Size;
-use layout::word::flag;
 use places::area::decode_areas;
 use places::area::encode_areas;
 use places::area::is_areas;

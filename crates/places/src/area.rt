@@ -6,9 +6,9 @@ ghost use Rattle.layout.specs.Layout.{placesSize, areasSize, areaBytes, areasBy
 ghost use Rattle.layout.specs.Rows.{rowBytes};
 use areas::area::Area;
 use areas::area::Areas;
-use layout::area::decode_area;
-use layout::area::encode_area;
-use layout::area::is_area;
+use fields::area::decode_area;
+use fields::area::encode_area;
+use fields::area::is_area;
 use layout::size::Size;
 
 pub fn encode_areas(areas: Areas, out: &mut [u8])

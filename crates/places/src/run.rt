@@ -2,8 +2,8 @@
 ghost use mathlib.Core.Path.{_≡_};
 ghost use lib.ListN.{length};
 ghost use Rattle.layout.specs.Layout.{runsSize, runsBytes, runsFrom};
-use layout::run::decode_marks;
-use layout::run::encode_marks;
+use fields::held::decode_marks;
+use fields::held::encode_marks;
 use layout::size::Size;
 use runs::Runs;
 

@@ -1,10 +1,14 @@
-use Rattle.layout.specs.Layout.{areaBytes}
+-- The six bytes stored in turn are those of the area: stores from the first byte to the last are the list of what was stored.
 use native.Mathlib.Omega.{arith}
 use lib.ListN.{length-set}
+use Rattle.layout.specs.Layout.{areaBytes}
 use Rattle.layout.proofs.PartsLaws.{stored-all}
 use borrow.Author.Needs.{needs}
-use Rattle.layout.proofs.area.encode_area.Statement.{statement}
-use Rattle.layout.proofs.area.encode_area.Tie as tie
+use Rattle.fields.proofs.area.encode_area.Statement.{statement}
+use Rattle.fields.proofs.area.encode_area.Tie as tie
+
+backing-bytes-requires : tie.Need-backing-bytes-requires
+backing-bytes-requires c κs = search needs
 
 slice-write-out : tie.Need-slice-write-out
 slice-write-out c = search needs
@@ -21,17 +25,17 @@ flag-requires c κs = search needs
 slice-write-out-4 : tie.Need-slice-write-out-4
 slice-write-out-4 c = search needs
 
-kind-of-requires : tie.Need-kind-of-requires
-kind-of-requires c κs = search needs
+array-read-out : tie.Need-array-read-out
+array-read-out c = search needs
 
 slice-write-out-5 : tie.Need-slice-write-out-5
 slice-write-out-5 c = simp length-set (omega (arith, c .before .before .before .pre))
 
-image-page-of-requires : tie.Need-image-page-of-requires
-image-page-of-requires c κs = search needs
+array-read-out-2 : tie.Need-array-read-out-2
+array-read-out-2 c = search needs
 
 slice-write-out-6 : tie.Need-slice-write-out-6
-slice-write-out-6 c = simp length-set (omega (arith, c .before .before .before .before .pre))
+slice-write-out-6 c = simp length-set (omega (arith, c .before .before .before .pre))
 
 same-length : tie.Need-same-length
 same-length c = search needs
@@ -39,22 +43,23 @@ same-length c = search needs
 returns : tie.Need-returns
 unfolding areaBytes
 returns c =
-    let k = c .before .before .before .before in
-    rw (c .before .before .flag .ensures, c .before .kind-of .ensures, c .image-page-of .ensures)
-    (stored-all (areaBytes (k .args .area)) (k .args .out .now) (k .pre))
+    let first = c .before .before .before in
+    rw (c .flag .ensures, c .before .backing-bytes .ensures)
+    (stored-all (areaBytes (first .args .area)) (first .args .out .now) (first .pre))
 
 pub encode-area-spec : {M : Type 1} → statement M
 encode-area-spec =
     tie.close
     (tie.spec
+    backing-bytes-requires
     slice-write-out
     slice-write-out-2
     slice-write-out-3
     flag-requires
     slice-write-out-4
-    kind-of-requires
+    array-read-out
     slice-write-out-5
-    image-page-of-requires
+    array-read-out-2
     slice-write-out-6
     same-length
     returns)

@@ -1,8 +1,9 @@
+-- The word that is summed up from the last byte to the first is what the eight bytes spell.
 use mathlib.Core.Path.{sym}
 use Rattle.layout.proofs.RowLaws.{spelled-eight}
 use borrow.Author.Needs.{needs}
-use Rattle.layout.proofs.word.decode_word.Statement.{statement}
-use Rattle.layout.proofs.word.decode_word.Tie as tie
+use Rattle.fields.proofs.word.decode_word.Statement.{statement}
+use Rattle.fields.proofs.word.decode_word.Tie as tie
 
 shared-slice-read-wide : tie.Need-shared-slice-read-wide
 shared-slice-read-wide c = search needs
@@ -96,16 +97,23 @@ add-result c = search needs
 
 returns : tie.Need-returns
 returns c =
-    let first = c .before .before .before .before .before .before .before .before .before .before .before .before .before .before .before .before .before in
+    let at1 = c .before .before in
+    let at2 = at1 .before .before in
+    let at3 = at2 .before .before in
+    let at4 = at3 .before .before in
+    let at5 = at4 .before .before in
+    let at6 = at5 .before .before in
+    let at7 = at6 .before .before in
+    let first = at7 .before .before .before in
     rw (
       c .wide8 .ensures .0,
-      c .before .before .wide7 .ensures .0,
-      c .before .before .before .before .wide6 .ensures .0,
-      c .before .before .before .before .before .before .wide5 .ensures .0,
-      c .before .before .before .before .before .before .before .before .wide4 .ensures .0,
-      c .before .before .before .before .before .before .before .before .before .before .wide3 .ensures .0,
-      c .before .before .before .before .before .before .before .before .before .before .before .before .wide2 .ensures .0,
-      c .before .before .before .before .before .before .before .before .before .before .before .before .before .before .wide .ensures .0,
+      at1 .wide7 .ensures .0,
+      at2 .wide6 .ensures .0,
+      at3 .wide5 .ensures .0,
+      at4 .wide4 .ensures .0,
+      at5 .wide3 .ensures .0,
+      at6 .wide2 .ensures .0,
+      at7 .wide .ensures .0,
     )
     (sym (spelled-eight (first .args .bytes .now) (first .pre)))
 

@@ -1,7 +1,8 @@
+-- The area read from six bytes is the definition's, field by field.
 use Rattle.layout.specs.Layout.{areaFrom}
 use borrow.Author.Needs.{needs}
-use Rattle.layout.proofs.area.decode_area.Statement.{statement}
-use Rattle.layout.proofs.area.decode_area.Tie as tie
+use Rattle.fields.proofs.area.decode_area.Statement.{statement}
+use Rattle.fields.proofs.area.decode_area.Tie as tie
 
 shared-slice-read-t3 : tie.Need-shared-slice-read-t3
 shared-slice-read-t3 c = search needs

@@ -1,6 +1,7 @@
+-- The backing of a kind and a page is the definition's: shown by the test of the kind.
 use borrow.Author.Tests.{eq-eqb, ne-eqb}
-use Rattle.layout.proofs.area.backing_from.Statement.{statement}
-use Rattle.layout.proofs.area.backing_from.Tie as tie
+use Rattle.fields.proofs.area.backing_from.Statement.{statement}
+use Rattle.fields.proofs.area.backing_from.Tie as tie
 
 returns : tie.Need-returns
 returns c = simp (eq-eqb _ _ (c .if1 .taken))

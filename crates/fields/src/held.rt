@@ -1,11 +1,11 @@
 // Marks of frames in bytes.
 ghost use mathlib.Core.Path.{_≡_};
 ghost use lib.ListN.{length};
 ghost use Rattle.layout.specs.Layout.{marksSize, marksBytes, marksFrom};
-use crate::size::Size;
 use crate::word::decode_word;
 use crate::word::encode_word;
 use frames::Held;
+use layout::size::Size;
 
 pub fn encode_marks(held: Held, out: &mut [u8])
     requires { ⌜ length (now out) ≡ marksSize ⌝ }

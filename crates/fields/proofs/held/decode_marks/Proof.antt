@@ -1,8 +1,9 @@
+-- The marks read are the words that the two halves spell.
 use Rattle.pages.specs.Parts.{partAt}
 use Rattle.layout.specs.Layout.{marksFrom}
 use borrow.Author.Needs.{needs}
-use Rattle.layout.proofs.run.decode_marks.Statement.{statement}
-use Rattle.layout.proofs.run.decode_marks.Tie as tie
+use Rattle.fields.proofs.held.decode_marks.Statement.{statement}
+use Rattle.fields.proofs.held.decode_marks.Tie as tie
 
 sub-decode-word : tie.Need-sub-decode-word
 sub-decode-word c = search needs

@@ -1,10 +1,11 @@
+-- The eight bytes stored in turn are the digits of the word: stores from the first byte to the last are the list of what was stored.
 use native.Mathlib.Omega.{arith}
 use lib.ListN.{length-set}
 use Rattle.layout.proofs.PartsLaws.{stored-all}
 use Rattle.layout.specs.Rows.{digits}
 use borrow.Author.Needs.{needs}
-use Rattle.layout.proofs.word.encode_word.Statement.{statement}
-use Rattle.layout.proofs.word.encode_word.Tie as tie
+use Rattle.fields.proofs.word.encode_word.Statement.{statement}
+use Rattle.fields.proofs.word.encode_word.Tie as tie
 
 cast-out : tie.Need-cast-out
 cast-out c = search needs

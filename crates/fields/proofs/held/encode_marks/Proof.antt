@@ -1,10 +1,11 @@
+-- The two words, each written into its half, are the bytes of the marks.
 use mathlib.Core.List.{[]}
 use Rattle.layout.specs.Layout.{marksParts, marksBytes}
 use Rattle.layout.proofs.LengthLaws.{sized-marks}
 use Rattle.layout.proofs.PartsLaws.{laid-out}
 use borrow.Author.Needs.{needs}
-use Rattle.layout.proofs.run.encode_marks.Statement.{statement}
-use Rattle.layout.proofs.run.encode_marks.Tie as tie
+use Rattle.fields.proofs.held.encode_marks.Statement.{statement}
+use Rattle.fields.proofs.held.encode_marks.Tie as tie
 
 sub-encode-word : tie.Need-sub-encode-word
 sub-encode-word c = search needs
@@ -36,9 +37,11 @@ same-length c = search needs
 returns : tie.Need-returns
 unfolding marksBytes
 returns c =
-    let k = c .before .before .before .before .before .before .before .before .before in
-    rw (c .before .before .before .before .before .before .encode-word .ensures, c .before .before .encode-word2 .ensures)
-    (laid-out [] (marksParts (k .args .held)) (k .args .out .now) (k .pre) (sized-marks (k .args .held)))
+    let high = c .before .before in
+    let low = high .before .before .before .before in
+    let first = low .before .before .before in
+    rw (low .encode-word .ensures, high .encode-word2 .ensures)
+    (laid-out [] (marksParts (first .args .held)) (first .args .out .now) (first .pre) (sized-marks (first .args .held)))
 
 pub encode-marks-spec : {M : Type 1} → statement M
 encode-marks-spec =
