@@ -1,23 +1,20 @@
-// The state in bytes, so that a host can keep it between calls: a sandbox and the whole state written, read and tested.
+// The state in bytes, so that a host can keep it between calls: written, read and tested.
 // It promises: `encode` writes the bytes of a state, `decode` gives the state of bytes, `is_state` tells which bytes are a state's, each as the layout has it.
-// It stands on `layout` for the definitions, what they promise and the code of the least parts, on `places` for areas and runs, and on `state` for what is
-// written.
+// It stands on `layout` for the definitions and what they promise, on `sandboxes` and `fields` for the parts, and on `state` for what is written.
 ghost use mathlib.Core.Path.{_≡_};
 ghost use lib.ListN.{length};
 ghost use Rattle.layout.specs.Layout.{heldAt, stateSize, sandboxBytes, stateBytes, stateFrom, areSandboxes, isState};
 ghost use Rattle.layout.specs.Rows.{rowBytes};
 ghost use Rattle.state.specs.World.{closedSandbox};
-use crate::sandbox::decode_sandbox;
-use crate::sandbox::encode_sandbox;
-use crate::sandbox::is_sandbox;
 use fields::held::decode_marks;
 use fields::held::encode_marks;
 use layout::size::At;
 use layout::size::Size;
+use sandboxes::decode_sandbox;
+use sandboxes::encode_sandbox;
+use sandboxes::is_sandbox;
 use state::sandbox::Machine;
 use state::sandbox::Sandbox;
-
-pub mod sandbox;
 
 // Writes a state.
 pub fn encode(machine: Machine, out: &mut [u8])

@@ -1,3 +1,4 @@
+-- Every sandbox's bytes pass the test, by a loop that has tested the first s of them.
 use Prim.Native.Nat.{_-_, _*_}
 use mathlib.Core.Path.{ap, _∙_}
 use native.Mathlib.Omega.{arith}

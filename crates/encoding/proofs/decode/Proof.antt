@@ -1,3 +1,4 @@
+-- The state read is the definition's: a loop has read the first s sandboxes, and the marks stand behind them.
 use Prim.Native.Nat.{ℕ, _-_, _*_}
 use mathlib.Core.Path.{refl, ap, _∙_}
 use mathlib.Core.List.{List}

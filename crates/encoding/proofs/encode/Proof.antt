@@ -1,3 +1,4 @@
+-- The sandboxes and the held marks, each written into its part, are the bytes of the state.
 use mathlib.Core.List.{[]}
 use Rattle.layout.specs.Layout.{stateParts, stateBytes}
 use Rattle.layout.proofs.LengthLaws.{sized-state}

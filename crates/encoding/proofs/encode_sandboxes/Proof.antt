@@ -1,3 +1,4 @@
+-- The sandboxes written one behind the other are the row's bytes, by a loop that has written the first s of them.
 use Prim.Native.Nat.{ℕ, _-_}
 use mathlib.Core.Path.{_≡_, ap, _∙_}
 use mathlib.Core.List.{List}

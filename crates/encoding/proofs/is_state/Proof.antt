@@ -1,3 +1,4 @@
+-- The length is right and the sandboxes pass: shown by the test of the length.
 use Rattle.layout.specs.Layout.{isState, stateSize}
 use lib.ListN.{length}
 use borrow.Author.Tests.{eq-eqb, ne-eqb}

@@ -1,3 +1,4 @@
+-- The areas read are the definition's: their count, and a loop that has read the first k places.
 use Prim.Native.Nat.{ℕ, _-_, _*_}
 use mathlib.Core.Path.{_≡_, refl, ap, _∙_}
 use mathlib.Core.List.{List}

@@ -1,3 +1,4 @@
+-- The count and the places behind it are the bytes of the areas.
 use mathlib.Core.List.{[], _∷_}
 use Rattle.areas.specs.Areas.{none}
 use Rattle.layout.specs.Rows.{part, rowBytes}

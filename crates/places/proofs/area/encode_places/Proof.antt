@@ -1,3 +1,4 @@
+-- The places written one behind the other are the row's bytes, by a loop that has written the first k of them.
 use Prim.Native.Nat.{ℕ, _-_}
 use mathlib.Core.List.{List}
 use native.Mathlib.Omega.{arith}

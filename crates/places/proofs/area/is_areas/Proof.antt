@@ -1,3 +1,4 @@
+-- Every place's bytes pass the test, by a loop that has tested the first k of them.
 use Prim.Native.Nat.{_-_, _*_}
 use mathlib.Core.Path.{ap, _∙_}
 use native.Mathlib.Omega.{arith}

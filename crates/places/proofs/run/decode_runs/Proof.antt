@@ -1,3 +1,4 @@
+-- The runs read are the definition's, by a loop that has read the first k of them.
 use Prim.Native.Nat.{ℕ, _-_, _*_}
 use mathlib.Core.Path.{refl, ap, _∙_}
 use mathlib.Core.List.{List}

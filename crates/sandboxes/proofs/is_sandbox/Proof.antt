@@ -1,8 +1,9 @@
+-- The test of a sandbox's bytes is the definition's: both rows of areas, and two flags.
 use Rattle.layout.specs.Layout.{isSandbox}
 use Rattle.pages.specs.Parts.{partAt}
 use borrow.Author.Needs.{needs}
-use Rattle.encoding.proofs.sandbox.is_sandbox.Statement.{statement}
-use Rattle.encoding.proofs.sandbox.is_sandbox.Tie as tie
+use Rattle.sandboxes.proofs.is_sandbox.Statement.{statement}
+use Rattle.sandboxes.proofs.is_sandbox.Tie as tie
 
 sub-is-areas : tie.Need-sub-is-areas
 sub-is-areas c = search needs

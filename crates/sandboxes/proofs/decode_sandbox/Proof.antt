@@ -1,8 +1,9 @@
+-- The sandbox read is the definition's: each part is read from its own bytes.
 use Rattle.layout.specs.Layout.{sandboxFrom}
 use Rattle.pages.specs.Parts.{partAt}
 use borrow.Author.Needs.{needs}
-use Rattle.encoding.proofs.sandbox.decode_sandbox.Statement.{statement}
-use Rattle.encoding.proofs.sandbox.decode_sandbox.Tie as tie
+use Rattle.sandboxes.proofs.decode_sandbox.Statement.{statement}
+use Rattle.sandboxes.proofs.decode_sandbox.Tie as tie
 
 sub-decode-areas : tie.Need-sub-decode-areas
 sub-decode-areas c = search needs

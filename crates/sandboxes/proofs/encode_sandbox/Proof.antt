@@ -1,3 +1,4 @@
+-- The parts of a sandbox, written each behind the one before and then its first three bytes, are the bytes of the sandbox.
 use Prim.Native.Nat.{ℕ}
 use mathlib.Core.List.{List, [], _∷_}
 use native.Mathlib.Omega.{arith}
@@ -8,8 +9,8 @@ use Rattle.layout.specs.Layout.{areasSize, runsSize, areasBytes, runsBytes, san
 use Rattle.layout.proofs.LengthLaws.{sized-sandbox}
 use Rattle.layout.proofs.PartsLaws.{laid-out}
 use borrow.Author.Needs.{needs}
-use Rattle.encoding.proofs.sandbox.encode_sandbox.Statement.{statement}
-use Rattle.encoding.proofs.sandbox.encode_sandbox.Tie as tie
+use Rattle.sandboxes.proofs.encode_sandbox.Statement.{statement}
+use Rattle.sandboxes.proofs.encode_sandbox.Tie as tie
 
 sub-encode-areas : tie.Need-sub-encode-areas
 sub-encode-areas c = search needs

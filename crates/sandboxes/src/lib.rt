@@ -1,4 +1,6 @@
-// A sandbox in bytes.
+// A sandbox in bytes: written, read and tested.
+// It promises: the bytes, and what is read of them, are those of layout/specs/Layout (`sandboxBytes`, `sandboxFrom`, `isSandbox`).
+// It stands on `layout` for the definitions and their laws, on `fields` for a flag, on `places` for areas and runs, and on `state` for what is laid out.
 ghost use mathlib.Core.Path.{_≡_};
 ghost use lib.ListN.{length};
 ghost use Rattle.layout.specs.Layout.{sandboxSize, sandboxBytes, sandboxFrom, isSandbox};
@@ -22,9 +24,9 @@ pub fn encode_sandbox(sandbox: Sandbox, out: &mut [u8])
     encode_areas(present, &mut out[At::PRESENT..At::SNAPSHOT]);
     encode_areas(snapshot, &mut out[At::SNAPSHOT..At::RUNS]);
     encode_runs(runs, &mut out[At::RUNS..Size::SANDBOX]);
-    out[0] = flag(sandbox.opened);
-    out[1] = sandbox.share;
-    out[2] = flag(sandbox.taken);
+    out[At::OPENED] = flag(sandbox.opened);
+    out[At::SHARE] = sandbox.share;
+    out[At::TAKEN] = flag(sandbox.taken);
 }
 
 pub fn decode_sandbox(bytes: &[u8]) -> Sandbox
@@ -35,10 +37,10 @@ pub fn decode_sandbox(bytes: &[u8]) -> Sandbox
     let snapshot = decode_areas(&bytes[At::SNAPSHOT..At::RUNS]);
     let runs = decode_runs(&bytes[At::RUNS..Size::SANDBOX]);
     Sandbox {
-        opened: bytes[0] == 1,
-        share: bytes[1],
+        opened: bytes[At::OPENED] == 1,
+        share: bytes[At::SHARE],
         present: present,
-        taken: bytes[2] == 1,
+        taken: bytes[At::TAKEN] == 1,
         snapshot: snapshot,
         runs: runs,
     }
@@ -50,5 +52,5 @@ pub fn is_sandbox(bytes: &[u8]) -> bool
 {
     let areas = is_areas(&bytes[At::PRESENT..At::SNAPSHOT])
         & is_areas(&bytes[At::SNAPSHOT..At::RUNS]);
-    (bytes[0] <= 1) & ((bytes[2] <= 1) & areas)
+    (bytes[At::OPENED] <= 1) & ((bytes[At::TAKEN] <= 1) & areas)
 }
