@@ -4,14 +4,14 @@
 // rebuild the snapshot.
 // It stands on `archiving` for the roll, on `encoding` for the state in bytes, and on `stepwise` for what a host hands over.
 ghost use mathlib.Core.Path.{_≡_};
-ghost use Rattle.stepwise.specs.Calls.{handed};
+ghost use Rattle.host_calls.specs.Calls.{handed};
 ghost use Rattle.filing.specs.Filed.{left, filed};
 use archiving::write_archive;
 use encoding::decode;
 use encoding::is_state;
 use interface::answer::Answer;
 use interface::answer::Refusal;
-use stepwise::Told;
+use host_calls::Told;
 
 // Writes the archive roll of a sandbox's snapshot into `out`, and answers the number of its lines.
 pub fn archive_over(

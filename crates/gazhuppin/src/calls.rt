@@ -4,12 +4,12 @@
 ghost use mathlib.Core.Path.{_≡_};
 ghost use Rattle.interface.specs.Requests.{requestOf};
 ghost use Rattle.layout.specs.Layout.{stateSize};
-ghost use Rattle.stepwise.specs.Calls.{handed, startNumber, startHands, Called};
+ghost use Rattle.host_calls.specs.Calls.{handed, startNumber, startHands, Called};
 ghost use Rattle.filing.specs.Filed.{left, filed};
 use filing::archive_over;
 use interface::request::Request;
 use layout::size::Size;
-use stepwise::Told;
+use host_calls::Told;
 use stepwise::call_over;
 use stepwise::start_over;
 

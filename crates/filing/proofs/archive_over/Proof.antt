@@ -4,7 +4,7 @@ use mathlib.Core.Bool.{true, false}
 use borrow.Author.Tests.{not-true, not-false}
 use Rattle.layout.specs.Layout.{isState}
 use Rattle.layout.proofs.LayoutLaws.{state-long}
-use Rattle.stepwise.specs.Calls.{Handed, handed}
+use Rattle.host_calls.specs.Calls.{Handed, handed}
 use Rattle.filing.proofs.FiledLaws.{no-state, a-state}
 use borrow.Author.Needs.{needs}
 use Rattle.filing.proofs.archive_over.Statement.{statement}

@@ -15,7 +15,7 @@ use Rattle.state.specs.Start.{startAnswer, startedBy}
 use Rattle.layout.specs.Layout.{stateSize, stateBytes, stateFrom, isState}
 use Rattle.layout.specs.Claims.{machineOf}
 use Rattle.machine.specs.Step.{Outcome, Stepped}
-use Rattle.stepwise.specs.declared.Told.{Told}
+use Rattle.host_calls.specs.declared.Told.{Told}
 
 -- what a host hands over at each call and gets back: "Between calls the state, pool and table are handed back unaltered"
 pub record Handed : Type 0 where

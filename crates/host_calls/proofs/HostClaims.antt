@@ -25,10 +25,10 @@ use Rattle.claims.specs.Demands.{Run, RunFrom}
 use Rattle.claims.specs.Demands.Run.{none, more}
 use Rattle.claims.proofs.Claims.{claim-start, claim-runs, claim-1, claim-2, claim-3}
 use Rattle.consequences.proofs.Claims.{claim-over-gaps}
-use Rattle.stepwise.specs.declared.Told.{Told}
-use Rattle.stepwise.specs.Calls.{Handed, handed, handsOf, worldIn, startNumber, startHands, Calls}
-use Rattle.stepwise.specs.HostClaims.{givenBy, HostDemand1, HostOverGaps, CallsAreRuns, HostClaims, HostStarts}
-use Rattle.stepwise.proofs.CallLaws.{world-again, hands-again, called}
+use Rattle.host_calls.specs.declared.Told.{Told}
+use Rattle.host_calls.specs.Calls.{Handed, handed, handsOf, worldIn, startNumber, startHands, Calls}
+use Rattle.host_calls.specs.HostClaims.{givenBy, HostDemand1, HostOverGaps, CallsAreRuns, HostClaims, HostStarts}
+use Rattle.host_calls.proofs.CallLaws.{world-again, hands-again, called}
 
 -- ---- of any bytes that are a state's
 

@@ -1,11 +1,11 @@
 -- What each way out of a start and of a call leaves.
 use mathlib.Core.Path.{_≡_, refl, sym, ap, _∙_, subst}
-use mathlib.Core.Bool.{true, false}
+use mathlib.Core.Bool.{Bool, true, false, not}
 use mathlib.Core.List.{List}
 use Prim.Native.Nat.{ℕ}
 use lib.Dec.{eqb}
 use lib.ListN.{length}
-use borrow.Author.Tests.{eqb-true, eq-eqb, ne-eqb}
+use borrow.Author.Tests.{eqb-true, eq-eqb, ne-eqb, not-true, not-false}
 use Rattle.basics.proofs.TestLaws.{by-cases, never}
 use Rattle.interface.specs.declared.request.Request.{Request}
 use Rattle.interface.specs.declared.answer.Answer.{Answer}
@@ -27,8 +27,17 @@ use Rattle.machine.specs.Step.{numberAt, Outcome, Stepped}
 use Rattle.machine.specs.Parts.{outcomeOf}
 use Rattle.simulation.proofs.StepLaws.{was-sound, refused-leaves}
 use Rattle.claims.proofs.Claims.{claim-1}
-use Rattle.stepwise.specs.declared.Told.{Told}
-use Rattle.stepwise.specs.Calls.{Handed, handed, handsOf, worldIn, toldBy, answerTold, outcomeIn, startNumber, startHands, Called}
+use Rattle.host_calls.specs.declared.Told.{Told}
+use Rattle.host_calls.specs.Calls.{Handed, handed, handsOf, worldIn, toldBy, answerTold, outcomeIn, startNumber, startHands, Called}
+
+-- ---- the test of bytes, as code has it: `if !is_state(state)`
+
+module _ (state : List ℕ) (tested : Bool) (is : tested ≡ isState state) where
+  pub fails-test : not tested ≡ true → isState state ≡ false
+  fails-test e = sym is ∙ not-true tested e
+
+  pub passes-test : not tested ≡ false → isState state ≡ true
+  passes-test e = sym is ∙ not-false tested e
 
 -- ---- what is handed over
 

@@ -1,6 +1,7 @@
+-- What a host is told is the answer's number and value, as `codes` computes them.
 use borrow.Author.Needs.{needs}
-use Rattle.stepwise.proofs.Told.by.Statement.{statement}
-use Rattle.stepwise.proofs.Told.by.Tie as tie
+use Rattle.host_calls.proofs.Told.by.Statement.{statement}
+use Rattle.host_calls.proofs.Told.by.Tie as tie
 
 number-requires : tie.Need-number-requires
 number-requires c κs = search needs

@@ -18,8 +18,8 @@ use Rattle.plain.specs.Machine.{Given, fresh, answers}
 use Rattle.plain.specs.Lists.{naming, toldLater, Rewound}
 use Rattle.claims.specs.Demands.{Run, RunFrom, Demand1, AsSnapshot, Frames, Promise, Took}
 use Rattle.consequences.specs.OverGaps.{pagesOf, OverGaps}
-use Rattle.stepwise.specs.declared.Told.{Told}
-use Rattle.stepwise.specs.Calls.{Handed, handed, handsOf, worldIn, outcomeIn, startNumber, startHands, Called, Calls}
+use Rattle.host_calls.specs.declared.Told.{Told}
+use Rattle.host_calls.specs.Calls.{Handed, handed, handsOf, worldIn, outcomeIn, startNumber, startHands, Called, Calls}
 
 -- "with the image and the pool's number of frames"
 abbrev pub givenBy : List ℕ → Handed → Given
