@@ -1,4 +1,4 @@
--- What a host finds in pool and table afterwards is what demand 3 says.
+-- What a host finds in pool and table afterwards is what demand 3 says of the run that its roll is.
 use mathlib.Core.Path.{_≡_, refl, ap, _∙_}
 use mathlib.Core.Bool.{true}
 use mathlib.Core.List.{List, []}
@@ -13,7 +13,7 @@ use Rattle.pages.specs.Parts.{zeros}
 use Rattle.marks.specs.Named.{usedBelow}
 use Rattle.marks.specs.Marks.{from}
 use Rattle.table.specs.Store.{frontOf, backOf}
-use Rattle.state.specs.World.{World, worldOf, freshMachine, sandboxAt, lengthsOk}
+use Rattle.state.specs.World.{World, worldOf, freshMachine, sandboxAt}
 use Rattle.state.specs.Start.{startedBy}
 use Rattle.plain.specs.Machine.{Given, held, copyBytes}
 use Rattle.plain.specs.Lists.{upTo}
@@ -25,9 +25,9 @@ use Rattle.claims.proofs.Claims.{claim-start, claim-3}
 use Rattle.roll.specs.Play.{linesIn, requests, replies, printed}
 use Rattle.roll.specs.Replies.{lent}
 use Rattle.roll.proofs.RepliesLaws.{run-of}
-use Rattle.gazhuppin.specs.FromStart.{FromStart}
-use Rattle.gazhuppin.specs.Left.{LeftAt, Left}
-use Rattle.gazhuppin.specs.Promised.{Room}
+use Rattle.host_rolls.specs.FromStart.{Regions, regions, Room, FromStart}
+use Rattle.host_rolls.specs.Left.{LeftAt, Left}
+use Rattle.host_rolls.specs.Promised.{rightLengths}
 
 module _ (g : Given) (L : Lent g) (qs : List Request) (as′ : List Answered) (v : World) (r : RunFrom g qs as′ v) where
   left-at : (s : ℕ) → s < 4 → LeftAt (v .store .pool) (v .store .table) s (upTo g qs s)
@@ -66,14 +66,15 @@ module _ (g : Given) (L : Lent g) (qs : List Request) (as′ : List Answered) (v
       }
 
 -- where the lent lengths are right and the replies fit
-pub left-behind : (image roll pool₀ table₀ out₀ pool table out : List ℕ) (lines : ℕ)
-    → FromStart image roll pool₀ table₀ out₀ pool table out lines
-    → lengthsOk (length pool₀) (length table₀) (length image) ≡ true
-    → Room roll out₀
-    → Left (lent image pool₀) (requests (linesIn roll (linesOf (length roll)))) pool table
-left-behind image roll pool₀ table₀ out₀ pool table out lines r ok room =
+pub left-behind : (image roll : List ℕ) (before after : Regions) (lines : ℕ)
+    → FromStart image roll before after lines
+    → rightLengths image before ≡ true
+    → Room roll (before .out)
+    → Left (lent image (before .pool)) (requests (linesIn roll (linesOf (length roll)))) (after .pool) (after .table)
+left-behind image roll before after lines r ok room =
     let p = r .played room .1 in
-    left-by _ (claim-start pool₀ table₀ image ok .0) _ (p .answers) _ (run-of image roll pool₀ table₀ out₀ out _ ok p)
+    left-by _ (claim-start (before .pool) (before .table) image ok .0) _ (p .answers) _
+    (run-of image roll (before .pool) (before .table) (before .out) (after .out) _ ok p)
 
 -- ---- a roll of no bytes
 
@@ -82,14 +83,14 @@ run-none none e = refl
 run-none (more s r) e = absurd (omega (arith, ap length e))
 
 -- is a start alone: pool and table are cleared, and nothing is printed
-pub empty-roll : (image pool₀ table₀ out₀ pool table out : List ℕ) (lines : ℕ)
-    → FromStart image [] pool₀ table₀ out₀ pool table out lines
-    → lengthsOk (length pool₀) (length table₀) (length image) ≡ true
-    → (lines ≡ 0) × ((pool ≡ zeros (length pool₀)) × ((table ≡ zeros 512) × (out ≡ out₀)))
+pub empty-roll : (image : List ℕ) (before after : Regions) (lines : ℕ)
+    → FromStart image [] before after lines
+    → rightLengths image before ≡ true
+    → (lines ≡ 0) × (after ≡ regions (zeros (length (before .pool))) (zeros 512) (before .out))
 unfolding linesOf linesIn requests replies printed startedBy
-empty-roll image pool₀ table₀ out₀ pool table out lines r ok =
-    let room : linesOf 0 * 19 ≤ length out₀ = omega arith in
+empty-roll image before after lines r ok =
+    let room : Room [] (before .out) = omega arith in
     let p = r .played room .1 in
-    let cleared : startedBy pool₀ table₀ image ≡ worldOf freshMachine (zeros (length pool₀)) (zeros 512) = rw ok in
+    let cleared : startedBy (before .pool) (before .table) image ≡ worldOf freshMachine (zeros (length (before .pool))) (zeros 512) = rw ok in
     let same = run-none (p .run) refl ∙ cleared in
-    (r .answered room, (ap (λ (w : World). w .store .pool) same, (ap (λ (w : World). w .store .table) same, p .prints)))
+    (r .answered room, λ i. record { pool = same i .store .pool; table = same i .store .table; out = p .prints i })
