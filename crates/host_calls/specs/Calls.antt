@@ -9,12 +9,13 @@ use Rattle.basics.specs.Choice.{_when_else_}
 use Rattle.interface.specs.declared.request.Request.{Request}
 use Rattle.interface.specs.declared.answer.Answer.{Answer}
 use Rattle.interface.specs.Answers.{Answered, numberOf, valueOf}
-use Rattle.interface.specs.Requests.{isCall}
+use Rattle.interface.specs.Requests.{isCall, requestOf}
 use Rattle.state.specs.World.{World, worldOf}
 use Rattle.state.specs.Start.{startAnswer, startedBy}
 use Rattle.layout.specs.Layout.{stateSize, stateBytes, stateFrom, isState}
 use Rattle.layout.specs.Claims.{machineOf}
 use Rattle.machine.specs.Step.{Outcome, Stepped}
+use Rattle.host_calls.specs.declared.Asked.{Asked}
 use Rattle.host_calls.specs.declared.Told.{Told}
 
 -- what a host hands over at each call and gets back: "Between calls the state, pool and table are handed back unaltered"
@@ -33,6 +34,10 @@ handsOf w = handed (stateBytes (machineOf w)) (w .store .pool) (w .store .table)
 -- the world that is handed over
 abbrev pub worldIn : Handed → World
 worldIn h = worldOf (stateFrom (h .state)) (h .pool) (h .table)
+
+-- the request of the numbers that a host hands over
+abbrev pub requestIn : Asked → Request
+requestIn a = requestOf (a .code) (a .sandbox) (a .p1) (a .p2) (a .p3) (a .p4) (a .p5)
 
 -- an answer's number and value
 abbrev pub toldBy : Answer → Told
