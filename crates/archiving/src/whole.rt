@@ -18,9 +18,9 @@ use segments::writes::put_writes;
 // "The answer is the number of lines". The roll is counted first, and written only where it fits: "any refusal leaves all output memory untouched".
 pub fn put_fitting(
     snapshot: Snapshot,
+    image: &[u8],
     pool: &[u8],
     table: &[u16],
-    image: &[u8],
     out: &mut [u8],
 ) -> Answer
     requires { ⌜ Readable (now image) (now pool) (now table) snapshot ⌝ }
@@ -31,7 +31,7 @@ pub fn put_fitting(
         line: 0,
         writes: false,
     };
-    let lines = put_roll(snapshot, pool, table, image, out, counting).line;
+    let lines = put_roll(snapshot, image, pool, table, out, counting).line;
     if out.len() < lines as usize * Line::BYTES {
         return Answer::Refused(Refusal::OutputTooShort);
     }
@@ -39,16 +39,16 @@ pub fn put_fitting(
         line: 0,
         writes: true,
     };
-    put_roll(snapshot, pool, table, image, out, writing);
+    put_roll(snapshot, image, pool, table, out, writing);
     Answer::Value(lines)
 }
 
 // The roll of a snapshot, segment by segment.
 fn put_roll(
     snapshot: Snapshot,
+    image: &[u8],
     pool: &[u8],
     table: &[u16],
-    image: &[u8],
     out: &mut [u8],
     to: Cursor,
 ) -> Cursor

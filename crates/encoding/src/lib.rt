@@ -32,17 +32,15 @@ pub fn decode(bytes: &[u8]) -> Machine
     requires { ⌜ length (now bytes) ≡ stateSize ⌝ }
     ensures { λ r. ⌜ r ≡ stateFrom (now (bytes .entry)) ⌝ }
 {
+    let held = decode_marks(&bytes[At::HELD..Size::STATE]);
     let mut machine = Machine::fresh();
-    let mut s: usize = 0;
-    while s < Machine::SANDBOXES {
+    machine.held = held;
+    for s in 0..Machine::SANDBOXES {
         let at = s * Size::SANDBOX;
         let end = at + Size::SANDBOX;
         let sandbox = decode_sandbox(&bytes[at..end]);
         machine.sandboxes[s] = sandbox;
-        s += 1;
     }
-    let held = decode_marks(&bytes[At::HELD..Size::STATE]);
-    machine.held = held;
     machine
 }
 
@@ -56,17 +54,15 @@ pub fn is_state(bytes: &[u8]) -> bool
     are_sandboxes(bytes)
 }
 
-fn encode_sandboxes(sandboxes: [Sandbox; 4], out: &mut [u8])
+fn encode_sandboxes(sandboxes: [Sandbox; Machine::SANDBOXES], out: &mut [u8])
     requires { ⌜ length (now out) ≡ heldAt ⌝ }
     ensures { λ r. ⌜ now (out .exit) ≡ rowBytes sandboxBytes closedSandbox 4 sandboxes ⌝ }
 {
-    let mut s: usize = 0;
-    while s < Machine::SANDBOXES {
+    for s in 0..Machine::SANDBOXES {
         let at = s * Size::SANDBOX;
         let end = at + Size::SANDBOX;
         let sandbox = sandboxes[s];
         encode_sandbox(sandbox, &mut out[at..end]);
-        s += 1;
     }
 }
 
@@ -75,12 +71,10 @@ fn are_sandboxes(bytes: &[u8]) -> bool
     ensures { λ r. ⌜ r ≡ areSandboxes (now (bytes .entry)) ⌝ }
 {
     let mut all = true;
-    let mut s: usize = 0;
-    while s < Machine::SANDBOXES {
+    for s in 0..Machine::SANDBOXES {
         let at = s * Size::SANDBOX;
         let end = at + Size::SANDBOX;
         all = all & is_sandbox(&bytes[at..end]);
-        s += 1;
     }
     all
 }

@@ -15,11 +15,11 @@ use interface::answer::Refusal;
 
 // Writes the archive roll of a sandbox's snapshot into `out`, and answers the number of its lines.
 pub fn archive_over(
-    sandbox: u16,
+    image: &[u8],
     state: &[u8],
     pool: &[u8],
     table: &[u16],
-    image: &[u8],
+    sandbox: u16,
     out: &mut [u8],
 ) -> Told
     ensures { λ r. let before = handed (now (state .entry)) (now (pool .entry)) (now (table .entry)) in

@@ -10,11 +10,11 @@ use soundness::start::start;
 
 // Starts the machine, plays the roll and says how many lines have a reply; without room for every reply it does nothing.
 pub fn play_from_start(
-    roll: &[u8],
-    image: &[u8],
     pool: &mut [u8],
     table: &mut [u16],
     out: &mut [u8],
+    image: &[u8],
+    roll: &[u8],
 ) -> usize
     ensures { λ r. let before = regions (now (pool .entry)) (now (table .entry)) (now (out .entry)) in
         let after = regions (now (pool .exit)) (now (table .exit)) (now (out .exit)) in

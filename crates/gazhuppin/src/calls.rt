@@ -34,7 +34,7 @@ pub extern "C" fn gazhuppin_start(
     ensures left { λ r. let before = handed (now (state .entry)) (now (pool .entry)) (now (table .entry)) in
         ⌜ handed (now (state .exit)) (now (pool .exit)) (now (table .exit)) ≡ startHands (now (image .entry)) before ⌝ }
 {
-    start_over(state, pool, table, image)
+    start_over(image, state, pool, table)
 }
 
 // One call: the state is read from `state`, and the next one written there. A refused call leaves every byte of state, pool and table.
@@ -50,7 +50,7 @@ pub extern "C" fn gazhuppin_call(
         let after = handed (now (state .exit)) (now (pool .exit)) (now (table .exit)) in
         ⌜ Called (now (image .entry)) before (requestIn asked) r after ⌝ }
 {
-    call_over(state, pool, table, image, asked.request())
+    call_over(image, state, pool, table, asked.request())
 }
 
 // Writes the archive roll of a sandbox's snapshot into `out`, and answers the number of its lines. State, pool, table and image are only read. A refusal leaves
@@ -67,5 +67,5 @@ pub extern "C" fn gazhuppin_archive(
     ensures { λ r. let before = handed (now (state .entry)) (now (pool .entry)) (now (table .entry)) in
         ⌜ left r (now (out .exit)) ≡ filed (now (image .entry)) before sandbox (now (out .entry)) ⌝ }
 {
-    archive_over(sandbox, state, pool, table, image, out)
+    archive_over(image, state, pool, table, sandbox, out)
 }

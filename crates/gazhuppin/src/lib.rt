@@ -34,5 +34,5 @@ pub extern "C" fn gazhuppin_play(
         let after = regions (now (pool .exit)) (now (table .exit)) (now (out .exit)) in
         ⌜ FromStart (now (image .entry)) (now (roll .entry)) before after r ⌝ }
 {
-    play_from_start(roll, image, pool, table, out)
+    play_from_start(pool, table, out, image, roll)
 }

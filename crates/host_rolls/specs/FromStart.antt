@@ -15,7 +15,7 @@ pub record Regions : Type 0 where
   pub table : List ℕ
   pub out : List ℕ
 
-abbrev pub regions : List ℕ → List ℕ → List ℕ → Regions
+abbrev pub regions : (pool table out : List ℕ) → Regions
 regions pool table out = record { pool = pool; table = table; out = out }
 
 -- "at least 19 * gazhuppin_lines(roll_bytes)": "3 fields a line, same columns" are 19 bytes with the line feed

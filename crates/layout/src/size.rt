@@ -25,10 +25,12 @@ impl Size {
     pub const STATE: usize = At::HELD + Size::MARKS;
 }
 
-// Where the parts of a sandbox stand in its bytes, and the held marks in those of a state.
+// Where the held marks stand in the bytes of a state, and the parts of a sandbox in its own.
 pub struct At;
 
 impl At {
+    pub const HELD: usize = Machine::SANDBOXES * Size::SANDBOX;
+
     pub const OPENED: usize = 0;
 
     pub const SHARE: usize = 1;
@@ -40,8 +42,6 @@ impl At {
     pub const SNAPSHOT: usize = At::PRESENT + Size::AREAS;
 
     pub const RUNS: usize = At::SNAPSHOT + Size::AREAS;
-
-    pub const HELD: usize = Machine::SANDBOXES * Size::SANDBOX;
 }
 
 // Where each byte of an area stands.

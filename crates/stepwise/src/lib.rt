@@ -17,7 +17,7 @@ use soundness::start::start;
 
 // Starts a machine: writes a fresh state and clears pool and table. Answers 0, or 3 where a length is wrong: then pool and table stay as they are, and so does
 // `state` where the wrong length is its own.
-pub fn start_over(state: &mut [u8], pool: &mut [u8], table: &mut [u16], image: &[u8]) -> u32
+pub fn start_over(image: &[u8], state: &mut [u8], pool: &mut [u8], table: &mut [u16]) -> u32
     ensures { λ r. let before = handed (now (state .entry)) (now (pool .entry)) (now (table .entry)) in
         ⌜ r ≡ startNumber (now (image .entry)) before ⌝ }
     ensures left { λ r. let before = handed (now (state .entry)) (now (pool .entry)) (now (table .entry)) in
@@ -35,10 +35,10 @@ pub fn start_over(state: &mut [u8], pool: &mut [u8], table: &mut [u16], image: &
 
 // One call: the state is read from `state`, and the next one written there. A refused call leaves every byte of state, pool and table.
 pub fn call_over(
+    image: &[u8],
     state: &mut [u8],
     pool: &mut [u8],
     table: &mut [u16],
-    image: &[u8],
     q: Request,
 ) -> Told
     ensures { λ r. let before = handed (now (state .entry)) (now (pool .entry)) (now (table .entry)) in

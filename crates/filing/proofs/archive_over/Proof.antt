@@ -12,20 +12,21 @@ use Rattle.filing.proofs.archive_over.Tie as tie
 
 -- ---- the places of the proof, and what is known at each
 
-abbrev hands : tie.Start → Handed
-hands c = handed (c .args .state .now) (c .args .pool .now) (c .args .table .now)
-
 abbrev behindNo : tie.Then1 → tie.Start
 behindNo c = c .before .before .before .before .before .before .before
-
-abbrev behindYes : tie.Else1 → tie.Start
-behindYes c = c .before .before .before .before .before .before .before
 
 fails : (c : tie.Then1) → isState (behindNo c .args .state .now) ≡ false
 fails c = let tested = c .before .is-state in fails-test (behindNo c .args .state .now) (tested .result) (tested .ensures) (c .if1 .taken)
 
+abbrev behindYes : tie.Else1 → tie.Start
+behindYes c = c .before .before .before .before .before .before .before
+
 passes : (c : tie.Else1) → isState (behindYes c .args .state .now) ≡ true
 passes c = let tested = c .before .is-state in passes-test (behindYes c .args .state .now) (tested .result) (tested .ensures) (c .if1 .left)
+
+-- what the caller handed over
+abbrev hands : tie.Start → Handed
+hands c = handed (c .args .state .now) (c .args .pool .now) (c .args .table .now)
 
 -- ---- the answers
 

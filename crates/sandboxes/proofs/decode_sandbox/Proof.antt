@@ -53,9 +53,10 @@ shared-slice-read-t21 c = search needs
 returns : tie.Need-returns
 unfolding sandboxFrom partAt
 returns c =
-    let present = c .before .before .before .before .before .before .before .decode-areas .ensures in
-    let snapshot = c .before .before .before .before .before .decode-areas2 .ensures in
-    rw (present, snapshot, c .before .before .before .decode-runs .ensures)
+    let runs = c .before .before .before in
+    let snapshot = runs .before .before in
+    let present = snapshot .before .before in
+    rw (present .decode-areas .ensures, snapshot .decode-areas2 .ensures, runs .decode-runs .ensures)
 
 pub decode-sandbox-spec : {M : Type 1} → statement M
 decode-sandbox-spec =

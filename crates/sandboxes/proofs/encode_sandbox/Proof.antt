@@ -69,16 +69,15 @@ same-length c = simp length-set (search needs)
 returns : tie.Need-returns
 unfolding sandboxBytes
 returns c =
-    let first = c .before .before .before .before .before .before .before .before .before in
-    let k = first .before .before .before .before .before .before .before .before .before in
-    let s = k .args .sandbox in
-    let present = first .before .before .before .encode-areas .ensures in
-    let snapshot = c .before .before .before .before .before .before .before .before .encode-areas2 .ensures in
-    let runs = c .before .before .before .before .encode-runs .ensures in
+    let runs = c .before .before .before .before in
+    let snapshot = runs .before .before .before .before in
+    let present = snapshot .before .before .before .before in
+    let first = present .before .before .before .before .before .before in
+    let s = first .args .sandbox in
     let bytes : List ℕ = one (s .opened) ∷ s .share ∷ one (s .taken) ∷ [] in
     let parts : List Part = part areasSize (areasBytes (s .present)) ∷ part areasSize (areasBytes (s .snapshot)) ∷ part runsSize (runsBytes (s .runs)) ∷ [] in
-    rw (c .flag2 .ensures, c .before .flag .ensures, present, snapshot, runs)
-    (laid-out bytes parts (k .args .out .now) (k .pre) (sized-sandbox s .1 .1 .1))
+    rw (c .flag2 .ensures, c .before .flag .ensures, present .encode-areas .ensures, snapshot .encode-areas2 .ensures, runs .encode-runs .ensures)
+    (laid-out bytes parts (first .args .out .now) (first .pre) (sized-sandbox s .1 .1 .1))
 
 pub encode-sandbox-spec : {M : Type 1} → statement M
 encode-sandbox-spec =

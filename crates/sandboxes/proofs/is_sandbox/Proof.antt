@@ -37,7 +37,10 @@ shared-slice-read-result-2 c = search needs
 
 returns : tie.Need-returns
 unfolding isSandbox partAt
-returns c = rw (c .before .before .before .before .is-areas .ensures, c .before .before .is-areas2 .ensures)
+returns c =
+    let snapshot = c .before .before in
+    let present = snapshot .before .before in
+    rw (present .is-areas .ensures, snapshot .is-areas2 .ensures)
 
 pub is-sandbox-spec : {M : Type 1} → statement M
 is-sandbox-spec =

@@ -107,7 +107,7 @@ returns-3 c =
     let decoding = decoded calling in
     let branch = passed decoding in
     let first = behindYes branch in
-    let bytes : Bytes (first .args .state .now) = record { at = λ i. omega (arith, branch .before .before .before .before .before .before .slice-known .given i) } in
+    let bytes : Bytes (first .args .state .now) = record { at = λ i. omega (arith, branch .before .before .before .before .before .slice-known .given i) } in
     let reply = calling .call in
     call-stepped (first .args .image .now) (hands first) (first .args .q) bytes (a-state branch)
     (decoding .decode .result) (reply .result) (c .by3 .result) (encoding .last .1 .0) (reply .last .1 .0) (reply .last .1 .1 .0)
