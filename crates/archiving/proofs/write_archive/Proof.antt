@@ -1,4 +1,4 @@
--- The archive of a sandbox: what each test shows, and from it the answer behind it.
+-- The archive of a sandbox is the definition's: what each test shows, and from it the answer behind it.
 use Prim.Native.Nat.{ℕ, _≤_}
 use mathlib.Core.Path.{_≡_, sym, _∙_}
 use mathlib.Core.Bool.{true, false}
@@ -42,7 +42,10 @@ same-sandbox c row = let l = four c in getD-any (c .args .machine .sandboxes) (c
 
 -- ---- what is known behind each test
 
-fails : (c : tie.Then1) → let start = c .before .before .before .before .before .before in soundb (imageIn start) (worldIn start) ≡ false
+abbrev behindNo : tie.Then1 → tie.Start
+behindNo c = c .before .before .before .before .before .before
+
+fails : (c : tie.Then1) → let start = behindNo c in soundb (imageIn start) (worldIn start) ≡ false
 fails c = sym (c .before .sound .ensures) ∙ not-true (c .before .sound .result) (c .if1 .taken)
 
 abbrev behindState : tie.Else1 → tie.Start
@@ -79,7 +82,7 @@ sound-requires c κs = search needs
 
 returns : tie.Need-returns
 returns c =
-    let start = c .before .before .before .before .before .before in
+    let start = behindNo c in
     refused-3 (imageIn start) (worldIn start) (start .args .sandbox) (outIn start) (fails c)
 
 returns-2 : tie.Need-returns-2
