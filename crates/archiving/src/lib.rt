@@ -48,5 +48,5 @@ pub fn write_archive(
         share: b.share,
         areas: areas,
     };
-    put_fitting(snapshot, image, pool, table, out)
+    put_fitting(out, snapshot, image, pool, table)
 }

@@ -17,11 +17,11 @@ use segments::writes::put_writes;
 
 // "The answer is the number of lines". The roll is counted first, and written only where it fits: "any refusal leaves all output memory untouched".
 pub fn put_fitting(
+    out: &mut [u8],
     snapshot: Snapshot,
     image: &[u8],
     pool: &[u8],
     table: &[u16],
-    out: &mut [u8],
 ) -> Answer
     requires { ⌜ Readable (now image) (now pool) (now table) snapshot ⌝ }
     ensures { λ r. let roll = rollOf (now (image .entry)) (now (pool .entry)) (now (table .entry)) snapshot in
@@ -31,7 +31,7 @@ pub fn put_fitting(
         line: 0,
         writes: false,
     };
-    let lines = put_roll(snapshot, image, pool, table, out, counting).line;
+    let lines = put_roll(out, counting, snapshot, image, pool, table).line;
     if out.len() < lines as usize * Line::BYTES {
         return Answer::Refused(Refusal::OutputTooShort);
     }
@@ -39,18 +39,18 @@ pub fn put_fitting(
         line: 0,
         writes: true,
     };
-    put_roll(snapshot, image, pool, table, out, writing);
+    put_roll(out, writing, snapshot, image, pool, table);
     Answer::Value(lines)
 }
 
 // The roll of a snapshot, segment by segment.
 fn put_roll(
+    out: &mut [u8],
+    to: Cursor,
     snapshot: Snapshot,
     image: &[u8],
     pool: &[u8],
     table: &[u16],
-    out: &mut [u8],
-    to: Cursor,
 ) -> Cursor
     requires { ⌜ Readable (now image) (now pool) (now table) snapshot ⌝ }
     requires { ⌜ Room to (now out) (rollOf (now image) (now pool) (now table) snapshot) ⌝ }

@@ -15,12 +15,12 @@ use interface::answer::Refusal;
 
 // Writes the archive roll of a sandbox's snapshot into `out`, and answers the number of its lines.
 pub fn archive_over(
+    out: &mut [u8],
     image: &[u8],
     state: &[u8],
     pool: &[u8],
     table: &[u16],
     sandbox: u16,
-    out: &mut [u8],
 ) -> Told
     ensures { λ r. let before = handed (now (state .entry)) (now (pool .entry)) (now (table .entry)) in
         ⌜ left r (now (out .exit)) ≡ filed (now (image .entry)) before sandbox (now (out .entry)) ⌝ }

@@ -29,10 +29,10 @@ pub extern "C" fn gazhuppin_start(
     table: &mut [u16],
     image: &[u8],
 ) -> u32
-    ensures { λ r. let before = handed (now (state .entry)) (now (pool .entry)) (now (table .entry)) in
-        ⌜ r ≡ startNumber (now (image .entry)) before ⌝ }
     ensures left { λ r. let before = handed (now (state .entry)) (now (pool .entry)) (now (table .entry)) in
         ⌜ handed (now (state .exit)) (now (pool .exit)) (now (table .exit)) ≡ startHands (now (image .entry)) before ⌝ }
+    ensures { λ r. let before = handed (now (state .entry)) (now (pool .entry)) (now (table .entry)) in
+        ⌜ r ≡ startNumber (now (image .entry)) before ⌝ }
 {
     start_over(image, state, pool, table)
 }
@@ -67,5 +67,5 @@ pub extern "C" fn gazhuppin_archive(
     ensures { λ r. let before = handed (now (state .entry)) (now (pool .entry)) (now (table .entry)) in
         ⌜ left r (now (out .exit)) ≡ filed (now (image .entry)) before sandbox (now (out .entry)) ⌝ }
 {
-    archive_over(image, state, pool, table, sandbox, out)
+    archive_over(out, image, state, pool, table, sandbox)
 }

@@ -30,9 +30,9 @@ pub extern "C" fn gazhuppin_play(
     table: &mut [u16],
     out: &mut [u8],
 ) -> usize
-    ensures { λ r. let before = regions (now (pool .entry)) (now (table .entry)) (now (out .entry)) in
-        let after = regions (now (pool .exit)) (now (table .exit)) (now (out .exit)) in
-        ⌜ FromStart (now (image .entry)) (now (roll .entry)) before after r ⌝ }
+    ensures { λ r. ⌜ FromStart (now (image .entry)) (now (roll .entry))
+        (regions (now (pool .entry)) (now (table .entry)) (now (out .entry)))
+        (regions (now (pool .exit)) (now (table .exit)) (now (out .exit))) r ⌝ }
 {
     play_from_start(pool, table, out, image, roll)
 }

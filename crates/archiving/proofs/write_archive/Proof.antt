@@ -121,7 +121,7 @@ returns-5 c =
     let start = behindRow row in
     let fitting = c .before .before .put-fitting in
     filed (imageIn start) (worldIn start) (start .args .sandbox) (outIn start) (passes (row .before)) (in-row row) (is-open (behindTaken taken))
-    (has-snapshot taken) (fitting .result) (fitting .last .1 .1 .1 .1 .0) _
+    (has-snapshot taken) (fitting .result) (fitting .last .0) _
     (rw (same row) (roll-here (imageIn start) (worldIn start) (start .args .sandbox) (passes (row .before)) (in-row row))) (fitting .ensures)
 
 put-fitting-requires : tie.Need-put-fitting-requires

@@ -45,7 +45,7 @@ returns : tie.Need-returns
 returns c =
     let start = startOf (countedNo c .before) in
     let counted = countedNo c .put-roll in
-    too-long (start .args .out .now) (counted .last .1 .1 .1 .1 .0) (counted .result) (roll start) (counted .ensures) (omega (arith, c .if1 .taken))
+    too-long (start .args .out .now) (counted .last .0) (counted .result) (roll start) (counted .ensures) (omega (arith, c .if1 .taken))
 
 put-roll-requires-2 : tie.Need-put-roll-requires-2
 put-roll-requires-2 c κs =
@@ -53,7 +53,7 @@ put-roll-requires-2 c κs =
     let start = startOf (countedYes branch .before) in
     let counted = countedYes branch .put-roll in (
       start .pre,
-      fits-room (start .args .out .now) (counted .last .1 .1 .1 .1 .0) (counted .result) (roll start) (counted .ensures)
+      fits-room (start .args .out .now) (counted .last .0) (counted .result) (roll start) (counted .ensures)
           (omega (arith, branch .if1 .left)) (most start),
     )
 
@@ -67,8 +67,8 @@ returns-2 c =
     let start = startOf (countedYes branch .before) in
     let counted = countedYes branch .put-roll in
     let written = writing .put-roll2 in
-    fits-in (start .args .out .now) (counted .last .1 .1 .1 .1 .0) (counted .result) (roll start) (counted .ensures)
-    (omega (arith, branch .if1 .left)) (written .result) (written .last .1 .1 .1 .1 .0) (written .ensures)
+    fits-in (start .args .out .now) (counted .last .0) (counted .result) (roll start) (counted .ensures)
+    (omega (arith, branch .if1 .left)) (written .result) (written .last .0) (written .ensures)
 
 pub put-fitting-spec : {M : Type 1} → statement M
 put-fitting-spec =
