@@ -80,6 +80,10 @@ class Refused(Exception):
         self.refusal = refusal
 
 
+class _Request(ctypes.Structure):
+    _fields_ = [(name, ctypes.c_uint16) for name in "code sandbox p1 p2 p3 p4 p5".split()]
+
+
 class _Told(ctypes.Structure):
     _fields_ = [("number", ctypes.c_uint32), ("value", ctypes.c_uint32)]
 
@@ -102,7 +106,7 @@ def _library():
     lent = [_BYTES, _SIZE, _BYTES, _SIZE, _ENTRIES, _SIZE, _BYTES, _SIZE]
     library.gazhuppin_start.argtypes = lent
     library.gazhuppin_start.restype = ctypes.c_uint32
-    library.gazhuppin_call.argtypes = lent + [ctypes.c_uint16] * 7
+    library.gazhuppin_call.argtypes = lent + [_Request]
     library.gazhuppin_call.restype = _Told
     library.gazhuppin_archive.argtypes = lent + [ctypes.c_uint16, _BYTES, _SIZE]
     library.gazhuppin_archive.restype = _Told
@@ -169,7 +173,7 @@ class Machine:
     def answer(self, code, sandbox, p1=0, p2=0, p3=0, p4=0, p5=0):
         """Any call, in numbers from 0 to 65535. Gives its value."""
         numbers = [_number(value) for value in (code, sandbox, p1, p2, p3, p4, p5)]
-        told = _LIBRARY.gazhuppin_call(*self._lent, *numbers)
+        told = _LIBRARY.gazhuppin_call(*self._lent, _Request(*numbers))
         if told.number != 0:
             raise Refused(Refusal(told.number))
         return told.value

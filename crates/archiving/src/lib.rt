@@ -24,17 +24,17 @@ pub fn write_archive(
     sandbox: u16,
     out: &mut [u8],
 ) -> Answer
-    ensures { λ r. ⌜ left r (now (out .exit)) ≡ written (now (image .entry)) (worldOf machine (now (pool .entry)) (now (table .entry))) sandbox
-        (now (out .entry)) ⌝ }
+    ensures { λ r. let world = worldOf machine (now (pool .entry)) (now (table .entry)) in
+        ⌜ left r (now (out .exit)) ≡ written (now (image .entry)) world sandbox (now (out .entry)) ⌝ }
 {
     if !sound(machine, pool, table, image) {
         return Answer::Refused(Refusal::Unsound);
     }
-    if 3 < sandbox {
+    let k = sandbox as usize;
+    if Machine::SANDBOXES <= k {
         return Answer::Refused(Refusal::NotOpen);
     }
     let sandboxes = machine.sandboxes;
-    let k = sandbox as usize;
     let b = sandboxes[k];
     if !b.opened {
         return Answer::Refused(Refusal::NotOpen);
@@ -48,5 +48,5 @@ pub fn write_archive(
         share: b.share,
         areas: areas,
     };
-    put_fitting(pool, table, image, snapshot, out)
+    put_fitting(out, snapshot, image, pool, table)
 }

@@ -17,21 +17,21 @@ use segments::writes::put_writes;
 
 // "The answer is the number of lines". The roll is counted first, and written only where it fits: "any refusal leaves all output memory untouched".
 pub fn put_fitting(
+    out: &mut [u8],
+    snapshot: Snapshot,
+    image: &[u8],
     pool: &[u8],
     table: &[u16],
-    image: &[u8],
-    snapshot: Snapshot,
-    out: &mut [u8],
 ) -> Answer
     requires { ⌜ Readable (now image) (now pool) (now table) snapshot ⌝ }
-    ensures { λ r. ⌜ left r (now (out .exit))
-        ≡ fitted (rollOf (now (image .entry)) (now (pool .entry)) (now (table .entry)) snapshot) (now (out .entry)) ⌝ }
+    ensures { λ r. let roll = rollOf (now (image .entry)) (now (pool .entry)) (now (table .entry)) snapshot in
+        ⌜ left r (now (out .exit)) ≡ fitted roll (now (out .entry)) ⌝ }
 {
     let counting = Cursor {
         line: 0,
         writes: false,
     };
-    let lines = put_roll(pool, table, image, snapshot, out, counting).line;
+    let lines = put_roll(out, counting, snapshot, image, pool, table).line;
     if out.len() < lines as usize * Line::BYTES {
         return Answer::Refused(Refusal::OutputTooShort);
     }
@@ -39,23 +39,23 @@ pub fn put_fitting(
         line: 0,
         writes: true,
     };
-    put_roll(pool, table, image, snapshot, out, writing);
+    put_roll(out, writing, snapshot, image, pool, table);
     Answer::Value(lines)
 }
 
 // The roll of a snapshot, segment by segment.
 fn put_roll(
-    pool: &[u8],
-    table: &[u16],
-    image: &[u8],
-    snapshot: Snapshot,
     out: &mut [u8],
     to: Cursor,
+    snapshot: Snapshot,
+    image: &[u8],
+    pool: &[u8],
+    table: &[u16],
 ) -> Cursor
     requires { ⌜ Readable (now image) (now pool) (now table) snapshot ⌝ }
     requires { ⌜ Room to (now out) (rollOf (now image) (now pool) (now table) snapshot) ⌝ }
-    ensures { λ r. ⌜ placed r (now (out .exit)) ≡ put to (now (out .entry))
-        (rollOf (now (image .entry)) (now (pool .entry)) (now (table .entry)) snapshot) ⌝ }
+    ensures { λ r. let roll = rollOf (now (image .entry)) (now (pool .entry)) (now (table .entry)) snapshot in
+        ⌜ placed r (now (out .exit)) ≡ put to (now (out .entry)) roll ⌝ }
 {
     let opening = line(Request::OPEN, snapshot.sandbox, snapshot.share);
     let closing = line(Request::SNAPSHOT, snapshot.sandbox, 0);

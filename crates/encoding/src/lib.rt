@@ -1,23 +1,20 @@
-// The state in bytes, so that a host can keep it between calls: a sandbox and the whole state written, read and tested.
+// The state in bytes, so that a host can keep it between calls: written, read and tested.
 // It promises: `encode` writes the bytes of a state, `decode` gives the state of bytes, `is_state` tells which bytes are a state's, each as the layout has it.
-// It stands on `layout` for the definitions, what they promise and the code of the least parts, on `places` for areas and runs, and on `state` for what is
-// written.
+// It stands on `layout` for the definitions and what they promise, on `sandboxes` and `fields` for the parts, and on `state` for what is written.
 ghost use mathlib.Core.Path.{_≡_};
 ghost use lib.ListN.{length};
 ghost use Rattle.layout.specs.Layout.{heldAt, stateSize, sandboxBytes, stateBytes, stateFrom, areSandboxes, isState};
 ghost use Rattle.layout.specs.Rows.{rowBytes};
 ghost use Rattle.state.specs.World.{closedSandbox};
-use crate::sandbox::decode_sandbox;
-use crate::sandbox::encode_sandbox;
-use crate::sandbox::is_sandbox;
-use layout::run::decode_marks;
-use layout::run::encode_marks;
+use fields::held::decode_marks;
+use fields::held::encode_marks;
 use layout::size::At;
 use layout::size::Size;
+use sandboxes::decode_sandbox;
+use sandboxes::encode_sandbox;
+use sandboxes::is_sandbox;
 use state::sandbox::Machine;
 use state::sandbox::Sandbox;
-
-pub mod sandbox;
 
 // Writes a state.
 pub fn encode(machine: Machine, out: &mut [u8])
@@ -35,17 +32,15 @@ pub fn decode(bytes: &[u8]) -> Machine
     requires { ⌜ length (now bytes) ≡ stateSize ⌝ }
     ensures { λ r. ⌜ r ≡ stateFrom (now (bytes .entry)) ⌝ }
 {
+    let held = decode_marks(&bytes[At::HELD..Size::STATE]);
     let mut machine = Machine::fresh();
-    let mut s: usize = 0;
-    while s < Machine::SANDBOXES {
+    machine.held = held;
+    for s in 0..Machine::SANDBOXES {
         let at = s * Size::SANDBOX;
         let end = at + Size::SANDBOX;
         let sandbox = decode_sandbox(&bytes[at..end]);
         machine.sandboxes[s] = sandbox;
-        s += 1;
     }
-    let held = decode_marks(&bytes[At::HELD..Size::STATE]);
-    machine.held = held;
     machine
 }
 
@@ -59,17 +54,15 @@ pub fn is_state(bytes: &[u8]) -> bool
     are_sandboxes(bytes)
 }
 
-fn encode_sandboxes(sandboxes: [Sandbox; 4], out: &mut [u8])
+fn encode_sandboxes(sandboxes: [Sandbox; Machine::SANDBOXES], out: &mut [u8])
     requires { ⌜ length (now out) ≡ heldAt ⌝ }
     ensures { λ r. ⌜ now (out .exit) ≡ rowBytes sandboxBytes closedSandbox 4 sandboxes ⌝ }
 {
-    let mut s: usize = 0;
-    while s < Machine::SANDBOXES {
+    for s in 0..Machine::SANDBOXES {
         let at = s * Size::SANDBOX;
         let end = at + Size::SANDBOX;
         let sandbox = sandboxes[s];
         encode_sandbox(sandbox, &mut out[at..end]);
-        s += 1;
     }
 }
 
@@ -78,12 +71,10 @@ fn are_sandboxes(bytes: &[u8]) -> bool
     ensures { λ r. ⌜ r ≡ areSandboxes (now (bytes .entry)) ⌝ }
 {
     let mut all = true;
-    let mut s: usize = 0;
-    while s < Machine::SANDBOXES {
+    for s in 0..Machine::SANDBOXES {
         let at = s * Size::SANDBOX;
         let end = at + Size::SANDBOX;
         all = all & is_sandbox(&bytes[at..end]);
-        s += 1;
     }
     all
 }

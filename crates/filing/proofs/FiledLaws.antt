@@ -12,8 +12,8 @@ use Rattle.layout.specs.Layout.{isState, stateFrom}
 use Rattle.archive.specs.Written.{writtenAs}
 use Rattle.replay.specs.Snapshot.{written}
 use Rattle.archiving.specs.Whole.{left as leaves}
-use Rattle.stepwise.specs.declared.Told.{Told}
-use Rattle.stepwise.specs.Calls.{Handed, toldBy}
+use Rattle.host_calls.specs.declared.Told.{Told}
+use Rattle.host_calls.specs.Calls.{Handed, toldBy}
 use Rattle.filing.specs.Filed.{left, filed}
 
 module _ (image : List ℕ) (h : Handed) (s : ℕ) (out : List ℕ) where

@@ -26,9 +26,9 @@ use Rattle.archive.specs.Written.{Written, writtenAs}
 use Rattle.replay.specs.Snapshot.{archiveOf, archiveNumber, written}
 use Rattle.replay.specs.Claims.{Snapped, Rebuilt, Archived}
 use Rattle.replay.proofs.Claims.{archived}
-use Rattle.stepwise.specs.Calls.{Handed, worldIn, startNumber, startHands, Calls}
-use Rattle.stepwise.specs.HostClaims.{givenBy}
-use Rattle.stepwise.proofs.HostClaims.{lent, host-claims}
+use Rattle.host_calls.specs.Calls.{Handed, worldIn, startNumber, startHands, Calls}
+use Rattle.host_calls.specs.HostClaims.{givenBy}
+use Rattle.host_calls.proofs.HostClaims.{lent, host-claims}
 use Rattle.filing.specs.Filed.{filed}
 use Rattle.filing.specs.HostArchive.{Replays, HostArchive, HostFiles}
 

@@ -5,8 +5,8 @@ use Rattle.basics.specs.Choice.{_when_else_}
 use Rattle.layout.specs.Layout.{isState}
 use Rattle.archive.specs.Written.{Written, writtenAs}
 use Rattle.replay.specs.Snapshot.{written}
-use Rattle.stepwise.specs.declared.Told.{Told}
-use Rattle.stepwise.specs.Calls.{Handed, worldIn, answerTold}
+use Rattle.host_calls.specs.declared.Told.{Told}
+use Rattle.host_calls.specs.Calls.{Handed, worldIn, answerTold}
 
 -- what a host is told, and the output memory that is left
 abbrev pub left : Told → List ℕ → Written

@@ -13,8 +13,8 @@ use Rattle.archive.specs.Segments.{AllTaken}
 use Rattle.archive.specs.Written.{plainWritten}
 use Rattle.replay.specs.Snapshot.{archiveOf}
 use Rattle.replay.specs.Claims.{Rebuilt}
-use Rattle.stepwise.specs.Calls.{Handed, worldIn, startNumber, startHands, Calls}
-use Rattle.stepwise.specs.HostClaims.{givenBy}
+use Rattle.host_calls.specs.Calls.{Handed, worldIn, startNumber, startHands, Calls}
+use Rattle.host_calls.specs.HostClaims.{givenBy}
 use Rattle.filing.specs.Filed.{filed}
 
 -- of an archive that is answered 0, where a host that started with h has l in its hands

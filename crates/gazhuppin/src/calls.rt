@@ -2,14 +2,13 @@
 // of a sandbox.
 // Nothing is asked of what is lent. A wrong length and bytes that are no state's are refusal 3 (2 where the code is no call), and nothing changes.
 ghost use mathlib.Core.Path.{_≡_};
-ghost use Rattle.interface.specs.Requests.{requestOf};
 ghost use Rattle.layout.specs.Layout.{stateSize};
-ghost use Rattle.stepwise.specs.Calls.{handed, startNumber, startHands, Called};
+ghost use Rattle.host_calls.specs.Calls.{handed, requestIn, startNumber, startHands, Called};
 ghost use Rattle.filing.specs.Filed.{left, filed};
 use filing::archive_over;
-use interface::request::Request;
+use host_calls::Asked;
+use host_calls::Told;
 use layout::size::Size;
-use stepwise::Told;
 use stepwise::call_over;
 use stepwise::start_over;
 
@@ -30,11 +29,12 @@ pub extern "C" fn gazhuppin_start(
     table: &mut [u16],
     image: &[u8],
 ) -> u32
-    ensures { λ r. ⌜ r ≡ startNumber (now (image .entry)) (handed (now (state .entry)) (now (pool .entry)) (now (table .entry))) ⌝ }
-    ensures left { λ r. ⌜ handed (now (state .exit)) (now (pool .exit)) (now (table .exit))
-        ≡ startHands (now (image .entry)) (handed (now (state .entry)) (now (pool .entry)) (now (table .entry))) ⌝ }
+    ensures left { λ r. let before = handed (now (state .entry)) (now (pool .entry)) (now (table .entry)) in
+        ⌜ handed (now (state .exit)) (now (pool .exit)) (now (table .exit)) ≡ startHands (now (image .entry)) before ⌝ }
+    ensures { λ r. let before = handed (now (state .entry)) (now (pool .entry)) (now (table .entry)) in
+        ⌜ r ≡ startNumber (now (image .entry)) before ⌝ }
 {
-    start_over(state, pool, table, image)
+    start_over(image, state, pool, table)
 }
 
 // One call: the state is read from `state`, and the next one written there. A refused call leaves every byte of state, pool and table.
@@ -44,32 +44,13 @@ pub extern "C" fn gazhuppin_call(
     pool: &mut [u8],
     table: &mut [u16],
     image: &[u8],
-    code: u16,
-    sandbox: u16,
-    p1: u16,
-    p2: u16,
-    p3: u16,
-    p4: u16,
-    p5: u16,
+    asked: Asked,
 ) -> Told
-    ensures { λ r. ⌜ Called (now (image .entry)) (handed (now (state .entry)) (now (pool .entry)) (now (table .entry)))
-        (requestOf code sandbox p1 p2 p3 p4 p5) r (handed (now (state .exit)) (now (pool .exit)) (now (table .exit))) ⌝ }
+    ensures { λ r. let before = handed (now (state .entry)) (now (pool .entry)) (now (table .entry)) in
+        let after = handed (now (state .exit)) (now (pool .exit)) (now (table .exit)) in
+        ⌜ Called (now (image .entry)) before (requestIn asked) r after ⌝ }
 {
-    call_over(
-        state,
-        pool,
-        table,
-        image,
-        Request {
-            code: code,
-            sandbox: sandbox,
-            p1: p1,
-            p2: p2,
-            p3: p3,
-            p4: p4,
-            p5: p5,
-        },
-    )
+    call_over(image, state, pool, table, asked.request())
 }
 
 // Writes the archive roll of a sandbox's snapshot into `out`, and answers the number of its lines. State, pool, table and image are only read. A refusal leaves
@@ -83,8 +64,8 @@ pub extern "C" fn gazhuppin_archive(
     sandbox: u16,
     out: &mut [u8],
 ) -> Told
-    ensures { λ r. ⌜ left r (now (out .exit)) ≡ filed (now (image .entry)) (handed (now (state .entry)) (now (pool .entry)) (now (table .entry))) sandbox
-        (now (out .entry)) ⌝ }
+    ensures { λ r. let before = handed (now (state .entry)) (now (pool .entry)) (now (table .entry)) in
+        ⌜ left r (now (out .exit)) ≡ filed (now (image .entry)) before sandbox (now (out .entry)) ⌝ }
 {
-    archive_over(state, pool, table, image, sandbox, out)
+    archive_over(out, image, state, pool, table, sandbox)
 }

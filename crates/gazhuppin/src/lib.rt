@@ -1,19 +1,15 @@
-// The library for hosts in C, Rust and Python. A roll is played from a start over lent memory, and pool and table are left for the host to look at; or a host
-// starts a machine and makes one call at a time, with the state as bytes in its own memory, and may ask for the archive roll of a sandbox (src/calls).
-// It promises that whatever is lent, a call ends. Of a roll: the replies are those of a run from the start (`Played`), and nothing is touched where they would
-// not fit (`FromStart`). From this follows all that the C header says (specs/Promised): the replies are the plain machine's, what is left in pool and table
-// is what demand 3 says, and where a lent length is wrong pool and table stay and every line is refused. Of calls one at a time: the demands (specs/HostClaims
-// of `stepwise`). Of an archive roll: it is the plain machine's, and its calls rebuild the snapshot (specs/HostArchive of `filing`).
-// It stands on `playing` for the play, on `soundness` for its start, on `stepwise` and `layout` for a call and on `filing` for an archive roll. Nothing that
-// holds an enum crosses to C.
+// The library for hosts in C, Rust and Python: its exports, each one call of what stands below. A roll is played from a start over lent memory, and pool and
+// table are left for the host to look at; or a host starts a machine and makes one call at a time, with the state as bytes in its own memory, and may ask for
+// the archive roll of a sandbox (src/calls).
+// It promises that whatever is lent, a call ends. Of a roll: `FromStart`, from which follows all that the C header says (specs/Promised of `host_rolls`). Of
+// calls one at a time: the demands (specs/HostClaims of `host_calls`). Of an archive roll: it is the plain machine's, and its calls rebuild the snapshot
+// (specs/HostArchive of `filing`).
+// It stands on `from_start` for a roll, on `stepwise` and `layout` for a call and on `filing` for an archive roll. Nothing that holds an enum crosses to C.
 ghost use mathlib.Core.Path.{_≡_};
 ghost use Rattle.lines.specs.Lines.{linesOf};
-ghost use Rattle.gazhuppin.specs.FromStart.{FromStart};
-use lines::Line;
+ghost use Rattle.host_rolls.specs.FromStart.{regions, FromStart};
+use from_start::play_from_start;
 use lines::lines_of;
-use playing::Player;
-use playing::play;
-use starting::start;
 
 pub mod calls;
 
@@ -34,18 +30,9 @@ pub extern "C" fn gazhuppin_play(
     table: &mut [u16],
     out: &mut [u8],
 ) -> usize
-    ensures { λ r. ⌜ FromStart (now (image .entry)) (now (roll .entry)) (now (pool .entry)) (now (table .entry)) (now (out .entry)) (now (pool .exit))
-        (now (table .exit)) (now (out .exit)) r ⌝ }
+    ensures { λ r. ⌜ FromStart (now (image .entry)) (now (roll .entry))
+        (regions (now (pool .entry)) (now (table .entry)) (now (out .entry)))
+        (regions (now (pool .exit)) (now (table .exit)) (now (out .exit))) r ⌝ }
 {
-    let lines = lines_of(roll.len());
-    if out.len() < lines * Line::REPLY {
-        return 0;
-    }
-    let machine = start(pool, table, image).machine;
-    let player = Player {
-        machine: machine,
-        line: 1,
-    };
-    play(player, pool, table, image, roll, out);
-    lines
+    play_from_start(pool, table, out, image, roll)
 }

@@ -6,9 +6,9 @@ ghost use Rattle.layout.specs.Layout.{placesSize, areasSize, areaBytes, areasBy
 ghost use Rattle.layout.specs.Rows.{rowBytes};
 use areas::area::Area;
 use areas::area::Areas;
-use layout::area::decode_area;
-use layout::area::encode_area;
-use layout::area::is_area;
+use fields::area::decode_area;
+use fields::area::encode_area;
+use fields::area::is_area;
 use layout::size::Size;
 
 pub fn encode_areas(areas: Areas, out: &mut [u8])
@@ -19,33 +19,17 @@ pub fn encode_areas(areas: Areas, out: &mut [u8])
     out[0] = areas.count;
 }
 
-fn encode_places(areas: Areas, out: &mut [u8])
-    requires { ⌜ length (now out) ≡ placesSize ⌝ }
-    ensures { λ r. ⌜ now (out .exit) ≡ rowBytes areaBytes none 8 (areas .list) ⌝ }
-{
-    let mut k: usize = 0;
-    while k < Area::MOST {
-        let at = k * Size::AREA;
-        let end = at + Size::AREA;
-        let area = areas.list[k];
-        encode_area(area, &mut out[at..end]);
-        k += 1;
-    }
-}
-
 pub fn decode_areas(bytes: &[u8]) -> Areas
     requires { ⌜ length (now bytes) ≡ areasSize ⌝ }
     ensures { λ r. ⌜ r ≡ areasFrom (now (bytes .entry)) ⌝ }
 {
     let mut areas = Areas::empty();
     areas.count = bytes[0];
-    let mut k: usize = 0;
-    while k < Area::MOST {
+    for k in 0..Area::MOST {
         let at = 1 + k * Size::AREA;
         let end = at + Size::AREA;
         let area = decode_area(&bytes[at..end]);
         areas.list[k] = area;
-        k += 1;
     }
     areas
 }
@@ -55,12 +39,23 @@ pub fn is_areas(bytes: &[u8]) -> bool
     ensures { λ r. ⌜ r ≡ isAreas (now (bytes .entry)) ⌝ }
 {
     let mut all = true;
-    let mut k: usize = 0;
-    while k < Area::MOST {
+    for k in 0..Area::MOST {
         let at = 1 + k * Size::AREA;
         let end = at + Size::AREA;
         all = all & is_area(&bytes[at..end]);
-        k += 1;
     }
     all
+}
+
+// The eight places, behind the count.
+fn encode_places(areas: Areas, out: &mut [u8])
+    requires { ⌜ length (now out) ≡ placesSize ⌝ }
+    ensures { λ r. ⌜ now (out .exit) ≡ rowBytes areaBytes none 8 (areas .list) ⌝ }
+{
+    for k in 0..Area::MOST {
+        let at = k * Size::AREA;
+        let end = at + Size::AREA;
+        let area = areas.list[k];
+        encode_area(area, &mut out[at..end]);
+    }
 }

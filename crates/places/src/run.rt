@@ -2,8 +2,8 @@
 ghost use mathlib.Core.Path.{_≡_};
 ghost use lib.ListN.{length};
 ghost use Rattle.layout.specs.Layout.{runsSize, runsBytes, runsFrom};
-use layout::run::decode_marks;
-use layout::run::encode_marks;
+use fields::held::decode_marks;
+use fields::held::encode_marks;
 use layout::size::Size;
 use runs::Runs;
 
@@ -11,13 +11,11 @@ pub fn encode_runs(runs: Runs, out: &mut [u8])
     requires { ⌜ length (now out) ≡ runsSize ⌝ }
     ensures { λ r. ⌜ now (out .exit) ≡ runsBytes runs ⌝ }
 {
-    let mut k: usize = 0;
-    while k < Runs::PLACES {
+    for k in 0..Runs::PLACES {
         let at = k * Size::MARKS;
         let end = at + Size::MARKS;
         let run = runs.list[k];
         encode_marks(run, &mut out[at..end]);
-        k += 1;
     }
 }
 
@@ -26,13 +24,11 @@ pub fn decode_runs(bytes: &[u8]) -> Runs
     ensures { λ r. ⌜ r ≡ runsFrom (now (bytes .entry)) ⌝ }
 {
     let mut runs = Runs::none();
-    let mut k: usize = 0;
-    while k < Runs::PLACES {
+    for k in 0..Runs::PLACES {
         let at = k * Size::MARKS;
         let end = at + Size::MARKS;
         let run = decode_marks(&bytes[at..end]);
         runs.list[k] = run;
-        k += 1;
     }
     runs
 }

@@ -1,13 +1,13 @@
 // A start, and then a call at a time, over a state that the caller keeps as bytes beside its pool and table.
 // It asks nothing of what is lent: a wrong length and bytes that are no state's are refusal 3 (2 where the code is no call), and nothing changes. It promises
-// (specs/HostClaims) that calls in turn are a run of the machine, so that each demand is true of them, in bytes.
-// It stands on `machine` for the call, on `soundness` for the start, on `layout` and `encoding` for the bytes and on `claims` and `consequences` for what is
-// promised.
+// that each does what `host_calls` says (specs/Calls there: `startHands`, `Called`).
+// It stands on `machine` for the call, on `soundness` for the start, on `layout` and `encoding` for the bytes and on `host_calls` for what is promised.
 ghost use mathlib.Core.Path.{_≡_};
-ghost use Rattle.stepwise.specs.Calls.{handed, toldBy, startNumber, startHands, Called};
+ghost use Rattle.host_calls.specs.Calls.{handed, startNumber, startHands, Called};
 use encoding::decode;
 use encoding::encode;
 use encoding::is_state;
+use host_calls::Told;
 use interface::answer::Answer;
 use interface::answer::Refusal;
 use interface::request::Request;
@@ -15,34 +15,16 @@ use layout::size::Size;
 use machine::call::call;
 use starting::start;
 
-// What a call answers, as a host sees it: the refusal's number or 0, and the value.
-#[repr(C)]
-pub struct Told {
-    pub number: u32,
-    pub value: u32,
-}
-
-impl Told {
-    // An answer's number and value.
-    pub fn by(answer: Answer) -> Told
-        ensures { λ r. ⌜ r ≡ toldBy answer ⌝ }
-    {
-        Told {
-            number: codes::number(answer) as u32,
-            value: codes::value(answer),
-        }
-    }
-}
-
 // Starts a machine: writes a fresh state and clears pool and table. Answers 0, or 3 where a length is wrong: then pool and table stay as they are, and so does
 // `state` where the wrong length is its own.
-pub fn start_over(state: &mut [u8], pool: &mut [u8], table: &mut [u16], image: &[u8]) -> u32
-    ensures { λ r. ⌜ r ≡ startNumber (now (image .entry)) (handed (now (state .entry)) (now (pool .entry)) (now (table .entry))) ⌝ }
-    ensures left { λ r. ⌜ handed (now (state .exit)) (now (pool .exit)) (now (table .exit))
-        ≡ startHands (now (image .entry)) (handed (now (state .entry)) (now (pool .entry)) (now (table .entry))) ⌝ }
+pub fn start_over(image: &[u8], state: &mut [u8], pool: &mut [u8], table: &mut [u16]) -> u32
+    ensures { λ r. let before = handed (now (state .entry)) (now (pool .entry)) (now (table .entry)) in
+        ⌜ r ≡ startNumber (now (image .entry)) before ⌝ }
+    ensures left { λ r. let before = handed (now (state .entry)) (now (pool .entry)) (now (table .entry)) in
+        ⌜ handed (now (state .exit)) (now (pool .exit)) (now (table .exit)) ≡ startHands (now (image .entry)) before ⌝ }
 {
     if state.len() != Size::STATE {
-        return 3;
+        return Told::UNSOUND;
     }
     let started = start(pool, table, image);
     let machine = started.machine;
@@ -53,14 +35,15 @@ pub fn start_over(state: &mut [u8], pool: &mut [u8], table: &mut [u16], image: &
 
 // One call: the state is read from `state`, and the next one written there. A refused call leaves every byte of state, pool and table.
 pub fn call_over(
+    image: &[u8],
     state: &mut [u8],
     pool: &mut [u8],
     table: &mut [u16],
-    image: &[u8],
     q: Request,
 ) -> Told
-    ensures { λ r. ⌜ Called (now (image .entry)) (handed (now (state .entry)) (now (pool .entry)) (now (table .entry))) q r
-        (handed (now (state .exit)) (now (pool .exit)) (now (table .exit))) ⌝ }
+    ensures { λ r. let before = handed (now (state .entry)) (now (pool .entry)) (now (table .entry)) in
+        let after = handed (now (state .exit)) (now (pool .exit)) (now (table .exit)) in
+        ⌜ Called (now (image .entry)) before q r after ⌝ }
 {
     if !is_state(state) {
         if !codes::is_call(q) {

@@ -11,7 +11,7 @@ static uint16_t table[GAZHUPPIN_TABLE_ENTRIES];
 static uint8_t roll[MOST_BYTES], replies[GAZHUPPIN_MOST_ARCHIVE_LINES * GAZHUPPIN_REPLY_BYTES];
 
 #define LENT state, sizeof state, pool, sizeof pool, table, GAZHUPPIN_TABLE_ENTRIES, image, 0
-#define CALL(...) (gazhuppin_call(LENT, __VA_ARGS__).number != 0)
+#define CALL(...) (gazhuppin_call(LENT, (struct gazhuppin_request){__VA_ARGS__}).number != 0)
 
 /* One page with a byte written, and one that may only be read. */
 static int refused(void) {

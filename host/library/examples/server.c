@@ -14,9 +14,10 @@ enum { TALLY = 5, OTHER_PAGE = 256 }; /* addresses */
 /* One call for sandbox 0. Gives its value, and ends the program where it is refused. */
 static uint32_t call(uint16_t code, uint16_t p1, uint16_t p2, uint16_t p3, uint16_t p4,
                      uint16_t p5) {
+    struct gazhuppin_request request = {code, 0, p1, p2, p3, p4, p5};
     struct gazhuppin_told told =
         gazhuppin_call(state, sizeof state, pool, sizeof pool, table, GAZHUPPIN_TABLE_ENTRIES,
-                       image, 0, code, 0, p1, p2, p3, p4, p5);
+                       image, 0, request);
     if (told.number != 0) {
         printf("call %" PRIu16 " is refused: %" PRIu32 "\n", code, told.number);
         exit(1);

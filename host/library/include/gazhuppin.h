@@ -85,6 +85,13 @@ enum gazhuppin_refusal {
     GAZHUPPIN_OUTPUT_TOO_SHORT = 15 /* out is shorter than the archive; never answered to a call */
 };
 
+/* What is asked of a machine: a call, see enum gazhuppin_code. Unused parameters must be 0. */
+struct gazhuppin_request {
+    uint16_t code;
+    uint16_t sandbox;
+    uint16_t p1, p2, p3, p4, p5;
+};
+
 /* What a call answers, or gazhuppin_archive. */
 struct gazhuppin_told {
     uint32_t number; /* 0, or the refusal's number */
@@ -119,7 +126,7 @@ uint32_t gazhuppin_start(uint8_t *state, size_t state_bytes,
  * state, pool, table, image: as at the start, and with the same rules. Between calls state, pool
  *        and table must be left exactly as the start or the last call left them (they may be
  *        read, or moved elsewhere whole), and every call gets the same image.
- * code, sandbox, p1 to p5: the call, see enum gazhuppin_code. Any numbers may be given.
+ * request: the call. Any numbers may be given.
  *
  * Returns the answer: number 0 and the call's value, or a refusal's number and value 0. A
  * refused call leaves every byte of state, pool and table as it was.
@@ -134,9 +141,7 @@ struct gazhuppin_told gazhuppin_call(uint8_t *state, size_t state_bytes,
                                      uint8_t *pool, size_t pool_bytes,
                                      uint16_t *table, size_t table_entries,
                                      const uint8_t *image, size_t image_bytes,
-                                     uint16_t code, uint16_t sandbox,
-                                     uint16_t p1, uint16_t p2, uint16_t p3,
-                                     uint16_t p4, uint16_t p5);
+                                     struct gazhuppin_request request);
 
 /* Writes the archive of a sandbox's snapshot: a roll that rebuilds it.
  *

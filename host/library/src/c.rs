@@ -1,7 +1,7 @@
 //! The functions of the proved library, as `include/gazhuppin.h` declares them: a slice crosses
-//! as a pointer and a length.
+//! as a pointer and a length, a call as a struct of seven numbers.
 
-use crate::Told;
+use crate::{Call, Told};
 
 unsafe extern "C" {
     pub fn gazhuppin_lines(roll_bytes: usize) -> usize;
@@ -37,13 +37,7 @@ unsafe extern "C" {
         table_entries: usize,
         image: *const u8,
         image_bytes: usize,
-        code: u16,
-        sandbox: u16,
-        p1: u16,
-        p2: u16,
-        p3: u16,
-        p4: u16,
-        p5: u16,
+        request: Call,
     ) -> Told;
     pub fn gazhuppin_archive(
         state: *const u8,

@@ -13,6 +13,7 @@ use std::ops::Range;
 /// assert_eq!(machine.answer(&open), Ok(0));
 /// ```
 #[derive(Clone, Copy, PartialEq, Eq, Hash, Debug)]
+#[repr(C)]
 pub struct Call {
     pub code: u16,
     pub sandbox: u16,

@@ -71,7 +71,6 @@ pub fn call(
     image: &[u8],
     call: &Call,
 ) -> Told {
-    let [p1, p2, p3, p4, p5] = call.parameters;
     // SAFETY: every pointer comes from a slice, so it is aligned, not null even for
     // length 0, and good for the length beside it; the three slices that are written
     // are borrowed as `&mut`, so they overlap nothing. The function keeps no pointer.
@@ -85,13 +84,7 @@ pub fn call(
             table.len(),
             image.as_ptr(),
             image.len(),
-            call.code,
-            call.sandbox,
-            p1,
-            p2,
-            p3,
-            p4,
-            p5,
+            *call,
         )
     }
 }

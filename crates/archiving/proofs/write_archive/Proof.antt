@@ -1,4 +1,4 @@
--- The archive of a sandbox: what each test shows, and from it the answer behind it.
+-- The archive of a sandbox is the definition's: what each test shows, and from it the answer behind it.
 use Prim.Native.Nat.{ℕ, _<_}
 use mathlib.Core.Path.{_≡_, sym, _∙_}
 use mathlib.Core.Bool.{true, false}
@@ -42,7 +42,10 @@ same-sandbox c row = let l = four c in getD-any (c .args .machine .sandboxes) (c
 
 -- ---- what is known behind each test
 
-fails : (c : tie.Then1) → let start = c .before .before .before .before .before .before in soundb (imageIn start) (worldIn start) ≡ false
+abbrev behindNo : tie.Then1 → tie.Start
+behindNo c = c .before .before .before .before .before .before
+
+fails : (c : tie.Then1) → let start = behindNo c in soundb (imageIn start) (worldIn start) ≡ false
 fails c = sym (c .before .sound .ensures) ∙ not-true (c .before .sound .result) (c .if1 .taken)
 
 abbrev behindState : tie.Else1 → tie.Start
@@ -79,7 +82,7 @@ sound-requires c κs = search needs
 
 returns : tie.Need-returns
 returns c =
-    let start = c .before .before .before .before .before .before in
+    let start = behindNo c in
     refused-3 (imageIn start) (worldIn start) (start .args .sandbox) (outIn start) (fails c)
 
 returns-2 : tie.Need-returns-2
@@ -118,7 +121,7 @@ returns-5 c =
     let start = behindRow row in
     let fitting = c .before .before .put-fitting in
     filed (imageIn start) (worldIn start) (start .args .sandbox) (outIn start) (passes (row .before)) (in-row row) (is-open (behindTaken taken))
-    (has-snapshot taken) (fitting .result) (fitting .last .1 .1 .1 .1 .0) _
+    (has-snapshot taken) (fitting .result) (fitting .last .0) _
     (rw (same row) (roll-here (imageIn start) (worldIn start) (start .args .sandbox) (passes (row .before)) (in-row row))) (fitting .ensures)
 
 put-fitting-requires : tie.Need-put-fitting-requires

@@ -1,4 +1,6 @@
-use Prim.Native.Nat.{_-_, _*_}
+-- Every sandbox's bytes pass the test, by a loop that has tested the first s of them.
+use Prim.Native.Nat.{ℕ, _-_, _*_}
+use mathlib.Core.List.{List}
 use mathlib.Core.Path.{ap, _∙_}
 use native.Mathlib.Omega.{arith}
 use Rattle.layout.specs.Rows.{partIn}
@@ -14,6 +16,10 @@ Inv-loop bytes all₀ s₀ all s = Tested (λ j. isSandbox (partIn sandboxSize b
 
 abbrev μ-loop : tie.MeasureT-loop
 μ-loop bytes all₀ s₀ all s = 4 - s
+
+-- the bytes, seen from the loop
+abbrev bytesOf : tie.At-loop Inv-loop μ-loop → List ℕ
+bytesOf c = c .before .before .args .bytes .now
 
 loop-holds : tie.Need-loop-holds Inv-loop μ-loop
 loop-holds c = let bytes = c .before .args .bytes .now in tested-none (λ j. isSandbox (partIn sandboxSize bytes j)) 4
@@ -44,16 +50,17 @@ loop-less c = search needs
 
 loop-again : tie.Need-loop-again Inv-loop μ-loop
 loop-again c =
-    let at = c .before .before .before .loop in
-    let bytes = c .before .before .before .before .before .args .bytes .now in
+    let turn = c .before .before in
+    let at = turn .before .loop in
+    let bytes = bytesOf (turn .before) in
     let got = c .is-sandbox .ensures ∙ ap isSandbox (part-lent bytes (at .s * sandboxSize) sandboxSize) in
-    tested-next (λ j. isSandbox (partIn sandboxSize bytes j)) 4 (at .all) (c .is-sandbox .result) (at .s) (at .inv) (c .before .before .loop-test .taken) got
+    tested-next (λ j. isSandbox (partIn sandboxSize bytes j)) 4 (at .all) (c .is-sandbox .result) (at .s) (at .inv) (turn .loop-test .taken) got
 
 returns : tie.Need-returns Inv-loop μ-loop
 unfolding areSandboxes
 returns c =
     let at = c .before .loop in
-    let bytes = c .before .before .before .args .bytes .now in
+    let bytes = bytesOf (c .before) in
     tested-all (λ j. isSandbox (partIn sandboxSize bytes j)) 4 (at .all) (at .s) (at .inv) (omega (arith, c .loop-test .left))
 
 pub are-sandboxes-spec : {M : Type 1} → statement M

@@ -1,3 +1,4 @@
+-- The sandboxes and the held marks, each written into its part, are the bytes of the state.
 use mathlib.Core.List.{[]}
 use Rattle.layout.specs.Layout.{stateParts, stateBytes}
 use Rattle.layout.proofs.LengthLaws.{sized-state}
@@ -36,9 +37,11 @@ same-length c = search needs
 returns : tie.Need-returns
 unfolding stateBytes
 returns c =
-    let k = c .before .before .before .before .before .before .before .before .before .before .before in
-    rw (c .before .before .before .before .before .before .encode-sandboxes .ensures, c .before .before .encode-marks .ensures)
-    (laid-out [] (stateParts (k .args .machine)) (k .args .out .now) (k .pre) (sized-state (k .args .machine)))
+    let marks = c .before .before in
+    let sandboxes = marks .before .before .before .before in
+    let first = sandboxes .before .before .before .before .before in
+    rw (sandboxes .encode-sandboxes .ensures, marks .encode-marks .ensures)
+    (laid-out [] (stateParts (first .args .machine)) (first .args .out .now) (first .pre) (sized-state (first .args .machine)))
 
 pub encode-spec : {M : Type 1} → statement M
 encode-spec =

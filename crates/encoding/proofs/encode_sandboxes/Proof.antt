@@ -1,3 +1,4 @@
+-- The sandboxes written one behind the other are the row's bytes, by a loop that has written the first s of them.
 use Prim.Native.Nat.{ℕ, _-_}
 use mathlib.Core.Path.{_≡_, ap, _∙_}
 use mathlib.Core.List.{List}
@@ -23,6 +24,13 @@ abbrev μ-loop : tie.MeasureT-loop
 
 row-of-four : (c : tie.Start Inv-loop μ-loop) → length (c .args .t1) ≡ 4
 row-of-four c = search length-mapped
+
+-- the turn and the start, seen from the end of a turn
+abbrev turnOf : tie.After-encode-sandbox Inv-loop μ-loop → tie.In-loop Inv-loop μ-loop
+turnOf c = c .before .before .before
+
+abbrev startOf : tie.At-loop Inv-loop μ-loop → tie.Start Inv-loop μ-loop
+startOf c = c .before .before
 
 loop-holds : tie.Need-loop-holds Inv-loop μ-loop
 loop-holds c = written-none (λ j. sandboxBytes (getD (c .before .args .t1) j closedSandbox)) sandboxSize 4 (c .before .args .out .now) (c .before .pre)
@@ -59,23 +67,24 @@ loop-less c = search needs
 
 loop-again : tie.Need-loop-again Inv-loop μ-loop
 loop-again c =
-    let at = c .before .before .before .before .before .before .loop in
-    let first = c .before .before .before .before .before .before .before .before in
+    let got = c .before .before in
+    let turn = turnOf got in
+    let at = turn .before .loop in
+    let first = startOf (turn .before) in
     let row : List Sandbox = first .args .t1 in
     let four = row-of-four first in
-    let more = c .before .before .before .before .before .loop-test .taken in
+    let more = turn .loop-test .taken in
     let f : ℕ → List ℕ = λ j. sandboxBytes (getD row j closedSandbox) in
     let read : getD row (at .s) zeroSandbox ≡ getD row (at .s) closedSandbox = getD-any row (at .s) zeroSandbox closedSandbox (omega (arith, more)) in
-    let got = c .before .before .encode-sandbox in
-    written-next f sandboxSize 4 (first .args .out .now) (λ j. length-sandbox (getD row j closedSandbox)) (at .out) (got .last .1 .0) (at .s) (at .inv)
-    more (got .ensures ∙ ap sandboxBytes read)
+    written-next f sandboxSize 4 (first .args .out .now) (λ j. length-sandbox (getD row j closedSandbox)) (at .out) (got .encode-sandbox .last .1 .0) (at .s)
+    (at .inv) more (got .encode-sandbox .ensures ∙ ap sandboxBytes read)
 
 same-length : tie.Need-same-length Inv-loop μ-loop
 same-length c = search needs
 
 returns : tie.Need-returns Inv-loop μ-loop
 returns c =
-    let a = c .before .before .before .args in
+    let a = startOf (c .before) .args in
     let at = c .before .loop in
     written-all (λ j. sandboxBytes (getD (a .t1) j closedSandbox)) sandboxSize 4 (a .out .now) (at .out) (at .s) (at .inv) (omega (arith, c .loop-test .left))
 

@@ -1,3 +1,4 @@
+-- The length is right and the sandboxes pass: shown by the test of the length.
 use Rattle.layout.specs.Layout.{isState, stateSize}
 use lib.ListN.{length}
 use borrow.Author.Tests.{eq-eqb, ne-eqb}
@@ -14,7 +15,9 @@ are-sandboxes-requires c κs = search needs
 
 returns-2 : tie.Need-returns-2
 unfolding isState
-returns-2 c = rw (eq-eqb (length (c .before .before .before .args .bytes .now)) stateSize (c .before .if1 .left)) (c .are-sandboxes .ensures)
+returns-2 c =
+    let branch = c .before in
+    rw (eq-eqb (length (branch .before .before .args .bytes .now)) stateSize (branch .if1 .left)) (c .are-sandboxes .ensures)
 
 pub is-state-spec : {M : Type 1} → statement M
 is-state-spec = tie.close (tie.spec returns are-sandboxes-requires returns-2)

@@ -1,36 +1,47 @@
--- A call over the bytes of a state: what each test shows, and the answer behind it.
+-- A call over the bytes of a state is the definition's: what each test shows, and the answer behind it by the law of that way out.
 use mathlib.Core.Path.{_≡_, sym, _∙_}
 use mathlib.Core.Bool.{true, false}
 use native.Mathlib.Omega.{arith}
 use borrow.Author.Tests.{not-true, not-false}
+use Rattle.layout.specs.Rows.{Bytes}
 use Rattle.layout.specs.Layout.{isState}
 use Rattle.layout.proofs.LayoutLaws.{state-long}
-use Rattle.stepwise.specs.Calls.{Handed, handed}
-use Rattle.stepwise.proofs.CallLaws.{call-two, call-three, call-stepped}
+use Rattle.host_calls.specs.Calls.{Handed, handed}
+use Rattle.host_calls.proofs.CallLaws.{fails-test, passes-test, call-two, call-three, call-stepped}
 use borrow.Author.Needs.{needs}
 use Rattle.stepwise.proofs.call_over.Statement.{statement}
 use Rattle.stepwise.proofs.call_over.Tie as tie
 
--- what the caller handed over
+-- ---- the places of the proof, and what is known at each
 
 abbrev hands : tie.Start → Handed
 hands c = handed (c .args .state .now) (c .args .pool .now) (c .args .table .now)
 
--- what the test of the bytes shows
-
 abbrev behindNo : tie.Then1 → tie.Start
 behindNo c = c .before .before .before .before .before .before .before
-
-no-state : (c : tie.Then1) → isState (behindNo c .args .state .now) ≡ false
-no-state c = let tested = c .before .is-state in sym (tested .ensures) ∙ not-true (tested .result) (c .if1 .taken)
 
 abbrev behindYes : tie.Else1 → tie.Start
 behindYes c = c .before .before .before .before .before .before .before
 
-a-state : (c : tie.Else1) → isState (behindYes c .args .state .now) ≡ true
-a-state c = let tested = c .before .is-state in sym (tested .ensures) ∙ not-false (tested .result) (c .if1 .left)
+abbrev passed : tie.After-decode → tie.Else1
+passed c = c .before .before
 
--- the answers
+abbrev decoded : tie.After-call → tie.After-decode
+decoded c = c .before .before .before
+
+abbrev called : tie.After-encode-arg → tie.After-call
+called c = c .before .before .before .before .before .before
+
+abbrev written : tie.After-by3 → tie.After-encode
+written c = c .before .before .before
+
+no-state : (c : tie.Then1) → isState (behindNo c .args .state .now) ≡ false
+no-state c = fails-test (behindNo c .args .state .now) (c .before .is-state .result) (c .before .is-state .ensures) (c .if1 .taken)
+
+a-state : (c : tie.Else1) → isState (behindYes c .args .state .now) ≡ true
+a-state c = passes-test (behindYes c .args .state .now) (c .before .is-state .result) (c .before .is-state .ensures) (c .if1 .left)
+
+-- ---- the answers
 
 is-state-requires : tie.Need-is-state-requires
 is-state-requires c κs = search needs
@@ -74,7 +85,7 @@ call-requires c κs = search needs
 
 encode-requires : tie.Need-encode-requires
 encode-requires c κs =
-    let branch = c .before .before .before .before .before .before .before .before .before .before .before in
+    let branch = passed (decoded (called c)) in
     state-long (behindYes branch .args .state .now) (a-state branch)
 
 by-requires-3 : tie.Need-by-requires-3
@@ -91,16 +102,16 @@ same-length-5 c = search needs
 
 returns-3 : tie.Need-returns-3
 returns-3 c =
-    let written = c .before .before .before .encode in
-    let calling = c .before .before .before .before .before .before .before .before .before .before in
-    let decoding = calling .before .before .before in
-    let branch = decoding .before .before in
-    let known = branch .before .before .before .before .before .before in
+    let encoding = written c .encode in
+    let calling = called (written c .before) in
+    let decoding = decoded calling in
+    let branch = passed decoding in
     let first = behindYes branch in
+    let bytes : Bytes (first .args .state .now) = record { at = λ i. omega (arith, branch .before .before .before .before .before .slice-known .given i) } in
     let reply = calling .call in
-    call-stepped (first .args .image .now) (hands first) (first .args .q) (record { at = λ i. omega (arith, known .slice-known .given i) }) (a-state branch)
-    (decoding .decode .result) (reply .result) (c .by3 .result) (written .last .1 .0) (reply .last .1 .0) (reply .last .1 .1 .0)
-    (decoding .decode .ensures) (reply .ensures) (written .ensures) (c .by3 .ensures)
+    call-stepped (first .args .image .now) (hands first) (first .args .q) bytes (a-state branch)
+    (decoding .decode .result) (reply .result) (c .by3 .result) (encoding .last .1 .0) (reply .last .1 .0) (reply .last .1 .1 .0)
+    (decoding .decode .ensures) (reply .ensures) (encoding .ensures) (c .by3 .ensures)
 
 pub call-over-spec : {M : Type 1} → statement M
 call-over-spec =

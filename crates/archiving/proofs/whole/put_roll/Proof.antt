@@ -1,4 +1,4 @@
--- The roll put: what stands in the output behind each segment, and room for the next.
+-- The roll is put segment by segment: what stands in the output behind each, and room for the next.
 use Prim.Native.Nat.{ℕ}
 use mathlib.Core.Path.{_≡_, ap, _∙_}
 use mathlib.Core.List.{List, [], _∷_, _++_}
@@ -58,58 +58,78 @@ module _ (s : tie.Start) where
   all : Room (to s) (out s) (untilProtects s ++ closing (s .args .snapshot .sandbox))
   all = room-roll (s .args .image .now) (s .args .pool .now) (s .args .table .now) (s .args .snapshot) (to s) (out s) room
 
+-- each segment, seen from before the next call, and the lines that were made first
+
+abbrev firstLine : tie.After-put-maps-arg → tie.After-put-line
+firstLine c = c .before .before .before
+
+abbrev mapLines : tie.After-put-writes-arg → tie.After-put-maps
+mapLines c = c .before .before .before
+
+abbrev writeLines : tie.After-put-protects-arg → tie.After-put-writes
+writeLines c = c .before .before .before
+
+abbrev protectLines : tie.After-put-line-arg2 → tie.After-put-protects
+protectLines c = c .before .before .before
+
+abbrev madeLines : tie.After-put-line → tie.After-line2
+madeLines c = c .before .before
+
+abbrev linesMade : tie.After-put-line-arg2 → tie.After-line2
+linesMade c = madeLines (firstLine (mapLines (writeLines (protectLines c .before) .before) .before))
+
 -- what stands behind each segment
 
 abbrev behindOpen : tie.After-put-maps-arg → tie.Start
-behindOpen c = c .before .before .before .before .before .before .before .before .before .before .before
+behindOpen c = madeLines (firstLine c) .before .before .before .before .before .before
 
 opened : (c : tie.After-put-maps-arg) → let s = behindOpen c in
-    let line = c .before .before .before .put-line in
+    let line = firstLine c .put-line in
     placed (line .result) (line .last .0) ≡ put (to s) (out s) (start s)
 opened c =
     let s = behindOpen c in
-    let first = c .before .before .before .before .before .before .line in
-    c .before .before .before .put-line .ensures ∙ ap (λ (q : Request). put (to s) (out s) (q ∷ [])) (first .ensures)
+    let first = madeLines (firstLine c) .before .line in
+    firstLine c .put-line .ensures ∙ ap (λ (q : Request). put (to s) (out s) (q ∷ [])) (first .ensures)
 
 abbrev behindMaps : tie.After-put-writes-arg → tie.Start
-behindMaps c = behindOpen (c .before .before .before .before)
+behindMaps c = behindOpen (mapLines c .before)
 
 mapped : (c : tie.After-put-writes-arg) → let s = behindMaps c in
-    let lines = c .before .before .before .put-maps in
+    let lines = mapLines c .put-maps in
     placed (lines .result) (lines .last .1 .0) ≡ put (to s) (out s) (toMaps (s .args .snapshot))
 mapped c =
-    let before = c .before .before .before .before in
+    let before = mapLines c .before in
     let s = behindMaps c in
-    let line = before .before .before .before .put-line in
-    let lines = c .before .before .before .put-maps in
+    let line = firstLine before .put-line in
+    let lines = mapLines c .put-maps in
     next-put (to s) (line .result) (out s) (line .last .0) (start s) (mapsOf (s .args .snapshot)) (maps s) (opened before)
     (lines .result) (lines .last .1 .0) (lines .ensures)
 
 abbrev behindWrites : tie.After-put-protects-arg → tie.Start
-behindWrites c = behindMaps (c .before .before .before .before)
+behindWrites c = behindMaps (writeLines c .before)
 
 wrote : (c : tie.After-put-protects-arg) → let s = behindWrites c in
-    let lines = c .before .before .before .put-writes in
+    let lines = writeLines c .put-writes in
     placed (lines .result) (lines .last .1 .1 .1 .1 .0) ≡ put (to s) (out s) (untilWrites s)
 wrote c =
-    let before = c .before .before .before .before in
+    let before = writeLines c .before in
     let s = behindWrites c in
-    let last = before .before .before .before .put-maps in
-    let lines = c .before .before .before .put-writes in
+    let last = mapLines before .put-maps in
+    let lines = writeLines c .put-writes in
     next-put (to s) (last .result) (out s) (last .last .1 .0) (toMaps (s .args .snapshot)) (writes s) (written s) (mapped before)
     (lines .result) (lines .last .1 .1 .1 .1 .0) (lines .ensures)
 
 abbrev behindProtects : tie.After-put-line-arg2 → tie.Start
-behindProtects c = behindWrites (c .before .before .before .before)
+behindProtects c = behindWrites (protectLines c .before)
 
 locked : (c : tie.After-put-line-arg2) → let s = behindProtects c in
-    let lines = c .before .before .before .put-protects in
+    let lines = protectLines c .put-protects in
     placed (lines .result) (lines .last .1 .0) ≡ put (to s) (out s) (untilProtects s)
 locked c =
-    let before = c .before .before .before .before in
+    let before = protectLines c .before in
     let s = behindProtects c in
-    let last = before .before .before .before .put-writes in
-    let lines = c .before .before .before .put-protects in
+    let last = writeLines before .put-writes in
+    let lines = protectLines c .put-protects in
     next-put (to s) (last .result) (out s) (last .last .1 .1 .1 .1 .0) (untilWrites s) (protectsOf (s .args .snapshot)) (protected s) (wrote before)
     (lines .result) (lines .last .1 .0) (lines .ensures)
 
@@ -122,32 +142,31 @@ line-requires-2 : tie.Need-line-requires-2
 line-requires-2 c κs = search needs
 
 put-line-requires : tie.Need-put-line-requires
-put-line-requires c κs = rw (c .before .before .line .ensures) (starts (c .before .before .before .before .before .before .before))
+put-line-requires c κs = let made = c .before .before in rw (made .line .ensures) (starts (made .before .before .before .before .before))
 
 put-maps-requires : tie.Need-put-maps-requires
 put-maps-requires c κs =
     let s = behindOpen c in
-    let line = c .before .before .before .put-line in
+    let line = firstLine c .put-line in
     next-room (to s) (line .result) (out s) (line .last .0) (start s) (mapsOf (s .args .snapshot)) (maps s) (opened c)
 
 put-writes-requires : tie.Need-put-writes-requires
 put-writes-requires c κs =
     let s = behindMaps c in
-    let last = c .before .before .before .put-maps in
+    let last = mapLines c .put-maps in
     (s .pre .0, next-room (to s) (last .result) (out s) (last .last .1 .0) (toMaps (s .args .snapshot)) (writes s) (written s) (mapped c))
 
 put-protects-requires : tie.Need-put-protects-requires
 put-protects-requires c κs =
     let s = behindWrites c in
-    let last = c .before .before .before .put-writes in
+    let last = writeLines c .put-writes in
     next-room (to s) (last .result) (out s) (last .last .1 .1 .1 .1 .0) (untilWrites s) (protectsOf (s .args .snapshot)) (protected s) (wrote c)
 
 put-line-requires-2 : tie.Need-put-line-requires-2
 put-line-requires-2 c κs =
     let s = behindProtects c in
-    let last = c .before .before .before .put-protects in
-    let first = c .before .before .before .before .before .before .before .before .before .before .before .before .before .before .before .before in
-    rw (first .before .line2 .ensures)
+    let last = protectLines c .put-protects in
+    rw (linesMade c .line2 .ensures)
     (next-room (to s) (last .result) (out s) (last .last .1 .0) (untilProtects s) (closing (s .args .snapshot .sandbox)) (all s) (locked c))
 
 same-length : tie.Need-same-length
@@ -157,12 +176,11 @@ returns : tie.Need-returns
 returns c =
     let before = c .before .before .before in
     let s = behindProtects before in
-    let last = before .before .before .before .put-protects in
+    let last = protectLines before .put-protects in
     let closed = c .before .before .put-line2 in
-    let first = before .before .before .before .before .before .before .before .before .before .before .before .before .before .before .before .before in
     next-put (to s) (last .result) (out s) (last .last .1 .0) (untilProtects s) (closing (s .args .snapshot .sandbox)) (all s) (locked before)
     (closed .result) (closed .last .0)
-    (closed .ensures ∙ ap (λ (q : Request). put (last .result) (last .last .1 .0) (q ∷ [])) (first .before .line2 .ensures))
+    (closed .ensures ∙ ap (λ (q : Request). put (last .result) (last .last .1 .0) (q ∷ [])) (linesMade before .line2 .ensures))
     ∙ whole (s .args .image .now) (s .args .pool .now) (s .args .table .now) (s .args .snapshot) (to s) (out s)
 
 pub put-roll-spec : {M : Type 1} → statement M

@@ -1,3 +1,4 @@
+-- The areas read are the definition's: their count, and a loop that has read the first k places.
 use Prim.Native.Nat.{ℕ, _-_, _*_}
 use mathlib.Core.Path.{_≡_, refl, ap, _∙_}
 use mathlib.Core.List.{List}
@@ -22,6 +23,10 @@ Inv-loop bytes areas₀ k₀ areas k = (areas .count ≡ getD bytes 0 0) × Fill
 
 abbrev μ-loop : tie.MeasureT-loop
 μ-loop bytes areas₀ k₀ areas k = 8 - k
+
+-- the bytes, seen from the loop
+abbrev bytesOf : tie.At-loop Inv-loop μ-loop → List ℕ
+bytesOf c = c .before .before .before .before .args .bytes .now
 
 empty-requires : tie.Need-empty-requires Inv-loop μ-loop
 empty-requires c κs = search needs
@@ -70,18 +75,19 @@ loop-less c = search needs
 
 loop-again : tie.Need-loop-again Inv-loop μ-loop
 loop-again c =
-    let at = c .before .before .before .loop in
-    let bytes = c .before .before .before .before .before .before .before .args .bytes .now in
+    let turn = c .before .before in
+    let at = turn .before .loop in
+    let bytes = bytesOf (turn .before) in
     let got : c .decode-area .result ≡ areaIn bytes (at .k)
     = c .decode-area .ensures ∙ ap areaFrom (part-lent-behind bytes 1 (at .k * areaSize) areaSize) in
-    let more = c .before .before .loop-test .taken in
+    let more = turn .loop-test .taken in
     (at .inv .0, filled-next (areaIn bytes) 8 (replicate 8 none) none (at .areas .list) (at .k) (c .decode-area .result) (omega arith) (at .inv .1) more got)
 
 returns : tie.Need-returns Inv-loop μ-loop
 unfolding areasFrom
 returns c =
     let at = c .before .loop in
-    let bytes = c .before .before .before .before .before .args .bytes .now in
+    let bytes = bytesOf (c .before) in
     let all = filled-all (areaIn bytes) 8 (replicate 8 none) (at .areas .list) (at .k) refl (at .inv .1) (omega (arith, c .loop-test .left)) in
     λ i. record { count = at .inv .0 i; list = all i }
 

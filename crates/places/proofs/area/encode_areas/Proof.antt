@@ -1,3 +1,4 @@
+-- The count and the places behind it are the bytes of the areas.
 use mathlib.Core.List.{[], _∷_}
 use Rattle.areas.specs.Areas.{none}
 use Rattle.layout.specs.Rows.{part, rowBytes}
@@ -29,10 +30,11 @@ same-length c = search needs
 returns : tie.Need-returns
 unfolding areasBytes
 returns c =
-    let k = c .before .before .before .before .before in
-    let s = k .args .areas in
-    rw (c .before .before .encode-places .ensures)
-    (laid-out (s .count ∷ []) (part placesSize (rowBytes areaBytes none 8 (s .list)) ∷ []) (k .args .out .now) (k .pre) (length-places (s .list), tt))
+    let written = c .before .before in
+    let first = written .before .before .before in
+    let s = first .args .areas in
+    rw (written .encode-places .ensures)
+    (laid-out (s .count ∷ []) (part placesSize (rowBytes areaBytes none 8 (s .list)) ∷ []) (first .args .out .now) (first .pre) (length-places (s .list), tt))
 
 pub encode-areas-spec : {M : Type 1} → statement M
 encode-areas-spec =

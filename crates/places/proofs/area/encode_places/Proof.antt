@@ -1,3 +1,4 @@
+-- The places written one behind the other are the row's bytes, by a loop that has written the first k of them.
 use Prim.Native.Nat.{ℕ, _-_}
 use mathlib.Core.List.{List}
 use native.Mathlib.Omega.{arith}
@@ -15,6 +16,13 @@ Inv-loop out₀ areas k₀ out k = Written (λ j. areaBytes (getD (areas .list) 
 
 abbrev μ-loop : tie.MeasureT-loop
 μ-loop out₀ areas k₀ out k = 8 - k
+
+-- the turn and the start, seen from the end of a turn
+abbrev turnOf : tie.After-encode-area Inv-loop μ-loop → tie.In-loop Inv-loop μ-loop
+turnOf c = c .before .before .before
+
+abbrev startOf : tie.At-loop Inv-loop μ-loop → tie.Start Inv-loop μ-loop
+startOf c = c .before .before
 
 loop-holds : tie.Need-loop-holds Inv-loop μ-loop
 loop-holds c = written-none (λ j. areaBytes (getD (c .before .args .t1 .list) j none)) areaSize 8 (c .before .args .out .now) (c .before .pre)
@@ -51,19 +59,20 @@ loop-less c = search needs
 
 loop-again : tie.Need-loop-again Inv-loop μ-loop
 loop-again c =
-    let at = c .before .before .before .before .before .before .loop in
-    let a = c .before .before .before .before .before .before .before .before .args in
+    let got = c .before .before in
+    let turn = turnOf got in
+    let at = turn .before .loop in
+    let a = startOf (turn .before) .args in
     let f : ℕ → List ℕ = λ j. areaBytes (getD (a .t1 .list) j none) in
-    let got = c .before .before .encode-area in
-    written-next f areaSize 8 (a .out .now) (λ j. length-area (getD (a .t1 .list) j none)) (at .out) (got .last .1 .0) (at .k) (at .inv)
-    (c .before .before .before .before .before .loop-test .taken) (got .ensures)
+    written-next f areaSize 8 (a .out .now) (λ j. length-area (getD (a .t1 .list) j none)) (at .out) (got .encode-area .last .1 .0) (at .k) (at .inv)
+    (turn .loop-test .taken) (got .encode-area .ensures)
 
 same-length : tie.Need-same-length Inv-loop μ-loop
 same-length c = search needs
 
 returns : tie.Need-returns Inv-loop μ-loop
 returns c =
-    let a = c .before .before .before .args in
+    let a = startOf (c .before) .args in
     let at = c .before .loop in
     written-all (λ j. areaBytes (getD (a .t1 .list) j none)) areaSize 8 (a .out .now) (at .out) (at .k) (at .inv) (omega (arith, c .loop-test .left))
 

@@ -1,4 +1,6 @@
-use Prim.Native.Nat.{_-_, _*_}
+-- Every place's bytes pass the test, by a loop that has tested the first k of them.
+use Prim.Native.Nat.{ℕ, _-_, _*_}
+use mathlib.Core.List.{List}
 use mathlib.Core.Path.{ap, _∙_}
 use native.Mathlib.Omega.{arith}
 use lib.ListN.{drop}
@@ -15,6 +17,10 @@ Inv-loop bytes all₀ k₀ all k = Tested (λ j. isArea (partIn areaSize (drop 1
 
 abbrev μ-loop : tie.MeasureT-loop
 μ-loop bytes all₀ k₀ all k = 8 - k
+
+-- the bytes, seen from the loop
+abbrev bytesOf : tie.At-loop Inv-loop μ-loop → List ℕ
+bytesOf c = c .before .before .args .bytes .now
 
 loop-holds : tie.Need-loop-holds Inv-loop μ-loop
 loop-holds c = let bytes = c .before .args .bytes .now in tested-none (λ j. isArea (partIn areaSize (drop 1 bytes) j)) 8
@@ -48,16 +54,17 @@ loop-less c = search needs
 
 loop-again : tie.Need-loop-again Inv-loop μ-loop
 loop-again c =
-    let at = c .before .before .before .loop in
-    let bytes = c .before .before .before .before .before .args .bytes .now in
+    let turn = c .before .before in
+    let at = turn .before .loop in
+    let bytes = bytesOf (turn .before) in
     let got = c .is-area .ensures ∙ ap isArea (part-lent-behind bytes 1 (at .k * areaSize) areaSize) in
-    tested-next (λ j. isArea (partIn areaSize (drop 1 bytes) j)) 8 (at .all) (c .is-area .result) (at .k) (at .inv) (c .before .before .loop-test .taken) got
+    tested-next (λ j. isArea (partIn areaSize (drop 1 bytes) j)) 8 (at .all) (c .is-area .result) (at .k) (at .inv) (turn .loop-test .taken) got
 
 returns : tie.Need-returns Inv-loop μ-loop
 unfolding isAreas
 returns c =
     let at = c .before .loop in
-    let bytes = c .before .before .before .args .bytes .now in
+    let bytes = bytesOf (c .before) in
     tested-all (λ j. isArea (partIn areaSize (drop 1 bytes) j)) 8 (at .all) (at .k) (at .inv) (omega (arith, c .loop-test .left))
 
 pub is-areas-spec : {M : Type 1} → statement M

@@ -1,3 +1,4 @@
+-- The runs read are the definition's, by a loop that has read the first k of them.
 use Prim.Native.Nat.{ℕ, _-_, _*_}
 use mathlib.Core.Path.{refl, ap, _∙_}
 use mathlib.Core.List.{List}
@@ -22,6 +23,10 @@ Inv-loop bytes runs₀ k₀ runs k = Filled (runIn bytes) 8 (replicate 8 noneHel
 
 abbrev μ-loop : tie.MeasureT-loop
 μ-loop bytes runs₀ k₀ runs k = 8 - k
+
+-- the bytes, seen from the loop
+abbrev bytesOf : tie.At-loop Inv-loop μ-loop → List ℕ
+bytesOf c = c .before .before .before .args .bytes .now
 
 none-requires : tie.Need-none-requires Inv-loop μ-loop
 none-requires c κs = search needs
@@ -62,17 +67,18 @@ loop-less c = search needs
 
 loop-again : tie.Need-loop-again Inv-loop μ-loop
 loop-again c =
-    let at = c .before .before .before .loop in
-    let bytes = c .before .before .before .before .before .before .args .bytes .now in
+    let turn = c .before .before in
+    let at = turn .before .loop in
+    let bytes = bytesOf (turn .before) in
     let got = c .decode-marks .ensures ∙ ap marksFrom (part-lent bytes (at .k * marksSize) marksSize) in
-    let more = c .before .before .loop-test .taken in
+    let more = turn .loop-test .taken in
     filled-next (runIn bytes) 8 (replicate 8 noneHeld) noneHeld (at .runs .list) (at .k) (c .decode-marks .result) (omega arith) (at .inv) more got
 
 returns : tie.Need-returns Inv-loop μ-loop
 unfolding runsFrom
 returns c =
     let at = c .before .loop in
-    let bytes = c .before .before .before .before .args .bytes .now in
+    let bytes = bytesOf (c .before) in
     let all = filled-all (runIn bytes) 8 (replicate 8 noneHeld) (at .runs .list) (at .k) refl (at .inv) (omega (arith, c .loop-test .left)) in
     λ i. record { list = all i }
 

@@ -1,3 +1,4 @@
+-- The runs written one behind the other are the row's bytes, by a loop that has written the first k of them.
 use Prim.Native.Nat.{ℕ, _-_}
 use mathlib.Core.List.{List}
 use native.Mathlib.Omega.{arith}
@@ -14,6 +15,13 @@ Inv-loop out₀ runs k₀ out k = Written (λ j. marksBytes (row runs j)) marksS
 
 abbrev μ-loop : tie.MeasureT-loop
 μ-loop out₀ runs k₀ out k = 8 - k
+
+-- the turn and the start, seen from the end of a turn
+abbrev turnOf : tie.After-encode-marks Inv-loop μ-loop → tie.In-loop Inv-loop μ-loop
+turnOf c = c .before .before .before
+
+abbrev startOf : tie.At-loop Inv-loop μ-loop → tie.Start Inv-loop μ-loop
+startOf c = c .before .before
 
 loop-holds : tie.Need-loop-holds Inv-loop μ-loop
 loop-holds c = written-none (λ j. marksBytes (row (c .before .args .t1) j)) marksSize 8 (c .before .args .out .now) (c .before .pre)
@@ -50,12 +58,13 @@ loop-less c = search needs
 
 loop-again : tie.Need-loop-again Inv-loop μ-loop
 loop-again c =
-    let at = c .before .before .before .before .before .before .loop in
-    let a = c .before .before .before .before .before .before .before .before .args in
+    let got = c .before .before in
+    let turn = turnOf got in
+    let at = turn .before .loop in
+    let a = startOf (turn .before) .args in
     let f : ℕ → List ℕ = λ j. marksBytes (row (a .t1) j) in
-    let got = c .before .before .encode-marks in
-    written-next f marksSize 8 (a .out .now) (λ j. length-marks (row (a .t1) j)) (at .out) (got .last .1 .0) (at .k) (at .inv)
-    (c .before .before .before .before .before .loop-test .taken) (got .ensures)
+    written-next f marksSize 8 (a .out .now) (λ j. length-marks (row (a .t1) j)) (at .out) (got .encode-marks .last .1 .0) (at .k) (at .inv)
+    (turn .loop-test .taken) (got .encode-marks .ensures)
 
 same-length : tie.Need-same-length Inv-loop μ-loop
 same-length c = search needs
@@ -63,7 +72,7 @@ same-length c = search needs
 returns : tie.Need-returns Inv-loop μ-loop
 unfolding runsBytes
 returns c =
-    let a = c .before .before .before .args in
+    let a = startOf (c .before) .args in
     let at = c .before .loop in
     written-all (λ j. marksBytes (row (a .t1) j)) marksSize 8 (a .out .now) (at .out) (at .k) (at .inv) (omega (arith, c .loop-test .left))
 

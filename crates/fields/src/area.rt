@@ -1,0 +1,77 @@
+// An area in bytes.
+ghost use mathlib.Core.Path.{_≡_};
+ghost use lib.ListN.{length};
+ghost use mathlib.Core.List.{[], _∷_};
+ghost use Rattle.interface.specs.Slots.{startOf};
+ghost use Rattle.layout.specs.Layout.{areaSize, kindOf, areaBytes, backingFrom, areaFrom, isArea};
+use crate::word::flag;
+use areas::area::Area;
+use interface::page::Backing;
+use interface::page::ImagePageNo;
+use interface::page::PageNo;
+use layout::size::AreaAt;
+
+// The kinds of a backing.
+struct Kind;
+
+impl Kind {
+    const ANONYMOUS: u8 = 0;
+
+    const IMAGE: u8 = 1;
+}
+
+// The last two bytes of an area: the kind of its backing, and the first image page, 0 of an anonymous one.
+fn backing_bytes(backing: Backing) -> [u8; 2]
+    ensures { λ r. ⌜ r ≡ kindOf backing ∷ startOf backing ∷ [] ⌝ }
+{
+    match backing {
+        Backing::Anonymous => [Kind::ANONYMOUS, 0],
+        Backing::Image(first) => [Kind::IMAGE, first.0],
+    }
+}
+
+fn backing_from(kind: u8, page: u8) -> Backing
+    ensures { λ r. ⌜ r ≡ backingFrom kind page ⌝ }
+{
+    if kind == Kind::IMAGE {
+        Backing::Image(ImagePageNo(page))
+    } else {
+        Backing::Anonymous
+    }
+}
+
+pub fn encode_area(area: Area, out: &mut [u8])
+    requires { ⌜ length (now out) ≡ areaSize ⌝ }
+    ensures { λ r. ⌜ now (out .exit) ≡ areaBytes area ⌝ }
+{
+    let backing = area.backing;
+    let last = backing_bytes(backing);
+    out[AreaAt::FIRST] = area.first.0;
+    out[AreaAt::PAGES] = area.pages;
+    out[AreaAt::RIGHTS] = area.rights;
+    out[AreaAt::MARK] = flag(area.committed);
+    out[AreaAt::KIND] = last[0];
+    out[AreaAt::IMAGE_PAGE] = last[1];
+}
+
+pub fn decode_area(bytes: &[u8]) -> Area
+    requires { ⌜ length (now bytes) ≡ areaSize ⌝ }
+    ensures { λ r. ⌜ r ≡ areaFrom (now (bytes .entry)) ⌝ }
+{
+    Area {
+        first: PageNo(bytes[AreaAt::FIRST]),
+        pages: bytes[AreaAt::PAGES],
+        rights: bytes[AreaAt::RIGHTS],
+        committed: bytes[AreaAt::MARK] == 1,
+        backing: backing_from(bytes[AreaAt::KIND], bytes[AreaAt::IMAGE_PAGE]),
+    }
+}
+
+pub fn is_area(bytes: &[u8]) -> bool
+    requires { ⌜ length (now bytes) ≡ areaSize ⌝ }
+    ensures { λ r. ⌜ r ≡ isArea (now (bytes .entry)) ⌝ }
+{
+    let kind = bytes[AreaAt::KIND];
+    let canonical = (kind == Kind::IMAGE) | (bytes[AreaAt::IMAGE_PAGE] == 0);
+    (bytes[AreaAt::MARK] <= 1) & ((kind <= Kind::IMAGE) & canonical)
+}

@@ -1,0 +1,30 @@
+// A roll played from a start over lent memory.
+// It promises: whatever is lent it ends; the replies are those of a run from the start, and nothing is touched where they would not fit (`FromStart`,
+// specs/FromStart of `host_rolls`).
+// It stands on `playing` for the play, on `soundness` for its start, and on `host_rolls` for what is promised.
+ghost use Rattle.host_rolls.specs.FromStart.{regions, FromStart};
+use lines::Line;
+use lines::lines_of;
+use playing::play;
+use starting::start;
+
+// Starts the machine, plays the roll and says how many lines have a reply; without room for every reply it does nothing.
+pub fn play_from_start(
+    pool: &mut [u8],
+    table: &mut [u16],
+    out: &mut [u8],
+    image: &[u8],
+    roll: &[u8],
+) -> usize
+    ensures { λ r. let before = regions (now (pool .entry)) (now (table .entry)) (now (out .entry)) in
+        let after = regions (now (pool .exit)) (now (table .exit)) (now (out .exit)) in
+        ⌜ FromStart (now (image .entry)) (now (roll .entry)) before after r ⌝ }
+{
+    let lines = lines_of(roll.len());
+    if out.len() < lines * Line::REPLY {
+        return 0;
+    }
+    let machine = start(pool, table, image).machine;
+    play(machine, pool, table, image, roll, 1, out);
+    lines
+}

@@ -1,4 +1,0 @@
-pub mod RoomLaws
-pub mod RepliesLaws
-pub mod LeftBehind
-pub mod PromisedLaws

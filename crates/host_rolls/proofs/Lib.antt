@@ -1,0 +1,3 @@
+pub mod RepliesLaws
+pub mod LeftBehind
+pub mod PromisedLaws
