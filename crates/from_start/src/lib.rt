@@ -1,10 +1,11 @@
 // A roll played from a start over lent memory.
 // It promises: whatever is lent it ends; the replies are those of a run from the start, and nothing is touched where they would not fit (`FromStart`,
 // specs/FromStart of `host_rolls`).
-// It stands on `playing` for the play, on `soundness` for its start, and on `host_rolls` for what is promised.
+// It stands on `playing` for the play, on `starting` for its start, and on `host_rolls` for what is promised.
 ghost use Rattle.host_rolls.specs.FromStart.{regions, FromStart};
 use lines::Line;
 use lines::lines_of;
+use playing::Player;
 use playing::play;
 use starting::start;
 
@@ -25,6 +26,10 @@ pub fn play_from_start(
         return 0;
     }
     let machine = start(pool, table, image).machine;
-    play(machine, pool, table, image, roll, 1, out);
+    let player = Player {
+        machine: machine,
+        line: 1,
+    };
+    play(player, pool, table, image, roll, out);
     lines
 }
