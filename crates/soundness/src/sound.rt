@@ -11,7 +11,7 @@ ghost use Rattle.state.specs.World.{World, worldOf, sandboxAt};
 ghost use Rattle.soundness.specs.Test.{recordOk, sandboxOk, runsOkAt, soundb};
 use crate::spare::runs_ok;
 use crate::spare::spare_ok;
-use packing::formed::well_formed;
+use area_soundness::well_formed;
 use page_soundness::pages_ok;
 use pages::Page;
 use state::lengths::lengths_ok;

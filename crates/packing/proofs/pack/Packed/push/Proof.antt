@@ -43,7 +43,7 @@ cast-if2 : tie.Need-cast-if2
 cast-if2 c = omega arith
 
 added-requires : tie.Need-added-requires
-added-requires c κs = c .if2 .taken
+added-requires c κs = omega (arith, c .if2 .taken)
 
 abbrev continues-of-struct-known : tie.After-struct-known → tie.After-continues
 continues-of-struct-known c = c .before .before
@@ -63,12 +63,14 @@ at-else1 c = c .before .before .before
 returns-3 : tie.Need-returns-3
 returns-3 c =
     let more = continues-of-added c .continues in
-    push-adds _ _ _ _ (slot-of-added c .slot .given .1) (more .result) (more .ensures) (at-else1 c .if1 .left) (c .before .if2 .taken) _ (c .added .ensures)
+    push-adds _ _ _ _ (slot-of-added c .slot .given .1) (more .result) (more .ensures) (at-else1 c .if1 .left) (omega (arith, c .before .if2 .taken)) _
+    (c .added .ensures)
 
 returns-4 : tie.Need-returns-4
 returns-4 c =
     let more = continues-of-struct-known (c .before) .continues in
-    push-full _ _ _ _ (slot-of-struct-known (c .before) .slot .given .1) (more .result) (more .ensures) (c .before .before .if1 .left) (c .if2 .left)
+    push-full _ _ _ _ (slot-of-struct-known (c .before) .slot .given .1) (more .result) (more .ensures) (c .before .before .if1 .left)
+    (omega (arith, c .if2 .left))
 
 pub push-spec : {M : Type 1} → statement M
 push-spec =

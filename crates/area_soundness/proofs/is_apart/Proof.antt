@@ -1,8 +1,8 @@
 -- The test is the definition, each part computed by its own call.
 use native.Mathlib.Omega.{arith}
 use Rattle.areas.specs.Formed.{isApart}
-use Rattle.packing.proofs.formed.is_apart.Statement.{statement}
-use Rattle.packing.proofs.formed.is_apart.Tie as tie
+use Rattle.area_soundness.proofs.is_apart.Statement.{statement}
+use Rattle.area_soundness.proofs.is_apart.Tie as tie
 
 cast-behind : tie.Need-cast-behind
 cast-behind c = omega arith

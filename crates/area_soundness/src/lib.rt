@@ -1,4 +1,6 @@
-// Well formed areas: "at most 8, with rights 1 or 3, lie in 0 to 63, ordered, apart and longest; image pages exist".
+// The areas of a sandbox, tested: "at most 8, with rights 1 or 3, lie in 0 to 63, ordered, apart and longest; image pages exist".
+// It promises: the test of areas/specs/Formed, place by place, whatever numbers the areas hold; areas/proofs/FormedLaws says what it shows.
+// It stands on `areas`, whose runs it tests.
 ghost use mathlib.Core.Path.{_≡_};
 ghost use Prim.Native.Nat.{_<_};
 ghost use lib.ListN.{length};

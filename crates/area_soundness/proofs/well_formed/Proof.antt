@@ -8,8 +8,8 @@ use Rattle.basics.proofs.LoopLaws.{every-next, every-stop, every-end}
 use Rattle.basics.proofs.TestLaws.{length-mapped}
 use Rattle.basics.specs.Ranges.{every}
 use Rattle.areas.specs.Formed.{placeOk, wellFormed}
-use Rattle.packing.proofs.formed.well_formed.Statement.{statement}
-use Rattle.packing.proofs.formed.well_formed.Tie as tie
+use Rattle.area_soundness.proofs.well_formed.Statement.{statement}
+use Rattle.area_soundness.proofs.well_formed.Tie as tie
 
 abbrev Inv-loop : tie.InvT-loop
 Inv-loop areas images k₀ k = (k ≤ 8) × (every (placeOk images areas) 0 8 ≡ every (placeOk images areas) k (8 - k))

@@ -3,8 +3,8 @@ use mathlib.Core.Path.{sym, _∙_}
 use native.Mathlib.Omega.{arith}
 use borrow.Author.Tests.{lt-ltb, le-ltb, not-true, not-false}
 use Rattle.areas.specs.Formed.{placeOk}
-use Rattle.packing.proofs.formed.place_ok.Statement.{statement}
-use Rattle.packing.proofs.formed.place_ok.Tie as tie
+use Rattle.area_soundness.proofs.place_ok.Statement.{statement}
+use Rattle.area_soundness.proofs.place_ok.Tie as tie
 
 mul-area : tie.Need-mul-area
 mul-area c = omega arith

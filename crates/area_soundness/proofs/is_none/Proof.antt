@@ -1,7 +1,7 @@
 -- The test is the definition, field by field.
 use Rattle.areas.specs.Formed.{isNone}
-use Rattle.packing.proofs.formed.is_none.Statement.{statement}
-use Rattle.packing.proofs.formed.is_none.Tie as tie
+use Rattle.area_soundness.proofs.is_none.Statement.{statement}
+use Rattle.area_soundness.proofs.is_none.Tie as tie
 
 is-anonymous-requires : tie.Need-is-anonymous-requires
 is-anonymous-requires c κs = tt
