@@ -21,6 +21,9 @@ abbrev μ-loop : tie.MeasureT-loop
 abbrev lines : tie.Start Inv-loop μ-loop → ℕ → List Request
 lines c = let a = c .args in byteLine (a .image .now) (a .page .sandbox) (a .page .number .0) (a .page .slot) (frame 256 (a .pool .now) (a .f .0))
 
+abbrev startOf : tie.At-loop Inv-loop μ-loop → tie.Start Inv-loop μ-loop
+startOf c = c .before .before .before .before .before
+
 backing-at-requires : tie.Need-backing-at-requires Inv-loop μ-loop
 backing-at-requires c κs = search needs
 
@@ -49,7 +52,7 @@ put-if-requires c κs =
     let turn = c .before .before .before .before in
     let l = turn .before .loop in
     let backing = turn .before .before .backing-at in
-    let start = turn .before .before .before .before .before .before in
+    let start = startOf (turn .before) in
     let a = start .args in
     turn-room (a .to) (a .out .now) (lines start) 256 (start .pre .1 .1) (l .next) (l .out) (l .j) (l .inv) (omega (arith, turn .loop-test .taken)) _
     (byte-line (a .image .now) (a .page .sandbox) (a .page .number .0) (a .page .slot) (frame 256 (a .pool .now) (a .f .0)) (l .j)
@@ -70,7 +73,7 @@ loop-again c =
     let turn = c .before .before .before .before .before .before .before in
     let l = turn .before .loop in
     let backing = turn .before .before .backing-at in
-    let start = turn .before .before .before .before .before .before in
+    let start = startOf (turn .before) in
     let a = start .args in
     turn-next (a .to) (a .out .now) (lines start) 256 (start .pre .1 .1) (l .next) (l .out) (l .j) (l .inv) (omega (arith, turn .loop-test .taken)) _
     (byte-line (a .image .now) (a .page .sandbox) (a .page .number .0) (a .page .slot) (frame 256 (a .pool .now) (a .f .0)) (l .j)
@@ -82,7 +85,7 @@ same-length c = search needs
 
 returns : tie.Need-returns Inv-loop μ-loop
 returns c =
-    let start = c .before .before .before .before .before .before in
+    let start = startOf (c .before) in
     let l = c .before .loop in
     turn-last (start .args .to) (start .args .out .now) (lines start) 256 (l .next) (l .out) (l .j) (l .inv) (omega (arith, c .loop-test .left))
 

@@ -22,10 +22,13 @@ lines c =
     let a = c .args in
     pageLines (a .image .now) (a .pool .now) (a .table .now) (a .page .sandbox) (a .page .number .0) (a .page .slot)
 
--- behind the two tests
+-- where the page's back has been looked up, and behind the two tests
+
+abbrev startOf : tie.After-back → tie.Start
+startOf c = c .before .before .before .before .before .before
 
 abbrev behind : tie.Else2 → tie.Start
-behind c = c .before .before .before .before .before .before .before .before .before
+behind c = startOf (c .before .before .before)
 
 mapped : (c : tie.Else2) → isMapped (behind c .args .page .slot) ≡ true
 mapped c = let tested = c .before .is-mapped in sym (tested .ensures) ∙ not-false (tested .result) (c .if2 .left)
@@ -44,7 +47,7 @@ back-requires c κs = search needs
 
 returns : tie.Need-returns
 returns c =
-    let start = c .before .before .before .before .before .before .before in
+    let start = startOf (c .before) in
     let a = start .args in
     put-nothing (a .to) (a .out .now) (lines start)
     (unbacked-none (a .image .now) (a .pool .now) (a .table .now) (a .page .sandbox) (a .page .number .0) (a .page .slot)
@@ -55,7 +58,7 @@ is-mapped-requires c κs = search needs
 
 returns-2 : tie.Need-returns-2
 returns-2 c =
-    let start = c .before .before .before .before .before .before .before .before .before in
+    let start = startOf (c .before .before .before) in
     let a = start .args in
     let tested = c .before .is-mapped in
     put-nothing (a .to) (a .out .now) (lines start)

@@ -19,6 +19,9 @@ abbrev μ-loop : tie.MeasureT-loop
 abbrev lines : tie.Start Inv-loop μ-loop → ℕ → List Request
 lines c = let a = c .args in writesAt (a .image .now) (a .pool .now) (a .table .now) (a .snapshot)
 
+abbrev startOf : tie.At-loop Inv-loop μ-loop → tie.Start Inv-loop μ-loop
+startOf c = c .before .before .before .before .before .before
+
 loop-holds : tie.Need-loop-holds Inv-loop μ-loop
 loop-holds c = let start = c .before .before .before .before .before in turn-first (start .args .to) (start .args .out .now) (lines start) 64
 
@@ -29,7 +32,7 @@ put-page-requires : tie.Need-put-page-requires Inv-loop μ-loop
 put-page-requires c κs =
     let turn = c .before .before in
     let l = turn .before .loop in
-    let start = turn .before .before .before .before .before .before .before in
+    let start = startOf (turn .before) in
     let a = start .args in
     let asked = start .pre .0 in
     let e = c .before .slot .ensures in (
@@ -57,7 +60,7 @@ loop-again c =
     let page = c .before .before .put-page in
     let turn = c .before .before .before .before .before in
     let l = turn .before .loop in
-    let start = turn .before .before .before .before .before .before .before in
+    let start = startOf (turn .before) in
     let a = start .args in
     turn-next (a .to) (a .out .now) (lines start) 64 (start .pre .1) (l .next) (l .out) (l .i) (l .inv) (turn .loop-test .taken) _
     (ap (pageLines (a .image .now) (a .pool .now) (a .table .now) (a .snapshot .sandbox) (l .i)) (c .before .before .before .before .slot .ensures))
@@ -68,7 +71,7 @@ same-length c = search needs
 
 returns : tie.Need-returns Inv-loop μ-loop
 returns c =
-    let start = c .before .before .before .before .before .before .before in
+    let start = startOf (c .before) in
     let l = c .before .loop in
     turn-last (start .args .to) (start .args .out .now) (lines start) 64 (l .next) (l .out) (l .i) (l .inv) (c .loop-test .left)
 
