@@ -77,11 +77,15 @@ fill-frame-requires c κs =
     let front = tested (backed back .before) in
     let s = behind back in
     let ranged = s .pre .0 in
-    let page = s .args .page in (
-      omega (arith, c .before .frame-of .ensures, front .front .ensures, ranged .room (frontAt page)),
+    let page = s .args .page in
+    let few-front = ranged .few (frontAt page) in
+    let few-back = ranged .few (backAt page) in
+    let room-front = ranged .room (frontAt page) in
+    let room-back = ranged .room (backAt page) in (
+      omega (arith, c .before .frame-of .ensures, front .front .ensures, room-front),
       (
-        omega (arith, back .back .ensures, ranged .few (backAt page)),
-        (omega (arith, back .back .ensures, ranged .room (backAt page)), rw (c .backing-at .ensures) (s .pre .1 .backed)),
+        omega (arith, front .front .ensures, back .back .ensures, few-front, few-back),
+        (omega (arith, front .front .ensures, back .back .ensures, room-front, room-back), rw (c .backing-at .ensures) (s .pre .1 .backed)),
       ),
     )
 

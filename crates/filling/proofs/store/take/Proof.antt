@@ -7,7 +7,7 @@ use lib.ListN.{getD}
 use Rattle.basics.specs.Choice.{_when_else_}
 use Rattle.interface.specs.Slots.{isCommitted, backingAt}
 use Rattle.table.specs.Store.{kept, put, take}
-use Rattle.table.specs.Backing.{backingPage}
+use Rattle.table.specs.Backing.{backingPage, backingEnd}
 use Rattle.table.specs.Virtual.{backAt}
 use Rattle.table.proofs.PageLaws.{few-if, room-if, under-if}
 use Rattle.filling.proofs.store.take.Statement.{statement}
@@ -49,7 +49,7 @@ fill-frame-requires c κs =
         rw (under-is under) (few-if 256 _ _ ranged _ (committed s)),
         (
           rw (under-is under) (room-if 256 _ _ ranged _ (committed s)),
-          rw (under .before .before .before .backing-at .ensures) (s .pre .0 .backed),
+          omega (arith, ap backingEnd (under .before .before .before .backing-at .ensures), s .pre .0 .backed),
         ),
       ),
     )
