@@ -1,6 +1,6 @@
 -- The call of `reply` in a turn of `play_lines`: the three slices are lent again for the call, and come back (`Again.antt`), and one line more is played.
 -- Assumes `Given`.
-use mathlib.Core.Path.{_≡_, refl, _∙_, ap, subst}
+use mathlib.Core.Path.{_≡_, _∙_, ap, subst}
 use Prim.Native.Nat.{ℕ, _+_, _*_, _<_}
 use native.Mathlib.Omega.{arith}
 use mathlib.Core.List.{List, [], _∷_}
