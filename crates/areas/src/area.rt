@@ -1,6 +1,7 @@
 // An area, a sandbox's areas, and what stands at a page as they say it.
 ghost use mathlib.Core.Path.{_≡_};
 ghost use Prim.Native.Nat.{_≤_, _<_};
+ghost use Rattle.interface.specs.Numbers.{PageCount};
 ghost use Rattle.interface.specs.Slots.{startOf};
 ghost use Rattle.areas.specs.Areas.{none, empty, attributesOf, covers, slotOf, slots, Near};
 ghost use Rattle.areas.specs.Formed.{goesOn};
@@ -46,7 +47,7 @@ impl Areas {
     // What stands at a page.
     pub fn slot(self, page: PageNo) -> Slot
         requires { ⌜ Near (self .list) ⌝ }
-        requires { ⌜ page .0 < 64 ⌝ }
+        requires { ⌜ page .0 < PageCount ⌝ }
         ensures { λ r. ⌜ r ≡ slots self (page .0) ⌝ }
     {
         for k in 0..Area::MOST {
@@ -110,8 +111,8 @@ impl Area {
 
     // What stands at a page of the area.
     pub(crate) fn slot(self, page: PageNo) -> Slot
-        requires { ⌜ startOf (self .backing) ≤ 64 ⌝ }
-        requires { ⌜ page .0 < 64 ⌝ }
+        requires { ⌜ startOf (self .backing) ≤ PageCount ⌝ }
+        requires { ⌜ page .0 < PageCount ⌝ }
         requires { ⌜ self .first .0 ≤ page .0 ⌝ }
         ensures { λ r. ⌜ r ≡ slotOf self (page .0) ⌝ }
     {

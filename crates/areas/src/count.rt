@@ -1,6 +1,7 @@
 // Pages counted: "The charge of a sandbox is its mapped pages", or "the uncommitted mapped pages" among them. Areas stand apart, so each page is counted
 // with its area.
 ghost use mathlib.Core.Path.{_≡_};
+ghost use Rattle.interface.specs.Numbers.{PageCount};
 ghost use Rattle.basics.specs.Ranges.{count};
 ghost use Rattle.interface.specs.Slots.{mappedPages, uncommittedPages};
 ghost use Rattle.areas.specs.Areas.{slots, counts};
@@ -28,7 +29,7 @@ impl Areas {
     // How many pages are mapped, the committed ones among them or not.
     fn pages(self, committed: bool) -> u8
         requires { ⌜ Formed self ⌝ }
-        ensures { λ r. ⌜ r ≡ count (λ i. counts committed (slots self i)) 64 ⌝ }
+        ensures { λ r. ⌜ r ≡ count (λ i. counts committed (slots self i)) PageCount ⌝ }
     {
         let mut n: u8 = 0;
         for k in 0..Area::MOST {

@@ -1,6 +1,7 @@
 // Tests of pages in turn: whether all are mapped or unmapped, and the lowest gap.
 ghost use mathlib.Core.Path.{_≡_};
 ghost use Prim.Native.Nat.{_+_, _≤_};
+ghost use Rattle.interface.specs.Numbers.{PageCount};
 ghost use Rattle.interface.specs.Slots.{allAre, gapAt, lowestGap};
 ghost use Rattle.areas.specs.Areas.{slots, Near};
 use crate::area::Areas;
@@ -12,7 +13,7 @@ impl Areas {
     // Whether the n pages from first on are all mapped (or, with false, all unmapped).
     pub fn all_are(self, mapped: bool, first: PageNo, n: u8) -> bool
         requires { ⌜ Near (self .list) ⌝ }
-        requires { ⌜ first .0 + n ≤ 64 ⌝ }
+        requires { ⌜ first .0 + n ≤ PageCount ⌝ }
         ensures { λ r. ⌜ r ≡ allAre mapped (slots self) (first .0) n ⌝ }
     {
         for i in first.0..first.0 + n {
@@ -39,7 +40,7 @@ impl Areas {
     // Whether n unmapped pages run from this page on.
     fn is_gap(self, n: u8, first: PageNo) -> bool
         requires { ⌜ Near (self .list) ⌝ }
-        requires { ⌜ first .0 ≤ 64 ⌝ }
+        requires { ⌜ first .0 ≤ PageCount ⌝ }
         ensures { λ r. ⌜ r ≡ gapAt (slots self) n (first .0) ⌝ }
     {
         n <= Areas::PAGES - first.0 && self.all_are(false, first, n)

@@ -3,6 +3,7 @@ ghost use mathlib.Core.Path.{_≡_};
 ghost use mathlib.Core.Bool.{_&&_};
 ghost use Prim.Native.Nat.{_+_, _≤_, _<_};
 ghost use lib.Dec.{leb, ltb};
+ghost use Rattle.interface.specs.Numbers.{PageCount};
 ghost use Rattle.interface.specs.Slots.{startOf};
 ghost use Rattle.areas.specs.Walk.{slotHere};
 use crate::area::Area;
@@ -21,8 +22,8 @@ impl Area {
 
     // What stands at the page as this area says it.
     pub fn slot_here(self, page: PageNo) -> Slot
-        requires { ⌜ startOf (self .backing) ≤ 64 ⌝ }
-        requires { ⌜ page .0 < 64 ⌝ }
+        requires { ⌜ startOf (self .backing) ≤ PageCount ⌝ }
+        requires { ⌜ page .0 < PageCount ⌝ }
         ensures { λ r. ⌜ r ≡ slotHere self (page .0) ⌝ }
     {
         if self.covers(page) {

@@ -3,6 +3,7 @@ ghost use mathlib.Core.Path.{_≡_};
 ghost use mathlib.Core.Bool.{true};
 ghost use Prim.Native.Nat.{_*_, _≤_, _<_};
 ghost use lib.ListN.{length};
+ghost use Rattle.interface.specs.Numbers.{PageBytes, Sandboxes};
 ghost use Rattle.interface.specs.Slots.{isCommitted, backingAt};
 ghost use Rattle.interface.specs.Compare.{agree};
 ghost use Rattle.frames.specs.declared.Held.{Held as Words};
@@ -33,9 +34,9 @@ impl Difference {
 
 // Page by page, up to the first page that differs. Where every area stands in the snapshot as it is, a page without a front is not even looked up.
 pub fn lowest_difference(pool: &[u8], table: &[u16], image: &[u8], b: Sandbox, s: u8) -> u8
-    requires { ⌜ s < 4 ⌝ }
+    requires { ⌜ s < Sandboxes ⌝ }
     requires { ⌜ Ready (pagesIn (length (now image))) b ⌝ }
-    requires { ⌜ Ranged 256 (now pool) (now table) ⌝ }
+    requires { ⌜ Ranged PageBytes (now pool) (now table) ⌝ }
     ensures { λ r. ⌜ ((h : Words) → let before = kept h (now (pool .entry)) (now (table .entry)) in
         r ≡ differing (now (image .entry)) before b s) ⌝ }
 {
@@ -88,17 +89,17 @@ fn stays(area: Area, copied: Area) -> bool
 // Whether a page agrees with the snapshot's in being mapped, in rights and in bytes, from what stands there in both and from its front and back entries.
 fn agrees(pool: &[u8], image: &[u8], present: Slot, snapshot: Slot, front: u16, back: u16) -> bool
     requires { ⌜ front ≤ 128 ⌝ }
-    requires { ⌜ front * 256 ≤ length (now pool) ⌝ }
+    requires { ⌜ front * PageBytes ≤ length (now pool) ⌝ }
     requires { ⌜ back ≤ 128 ⌝ }
-    requires { ⌜ back * 256 ≤ length (now pool) ⌝ }
-    requires { ⌜ backingEnd (backingAt present) * 256 ≤ length (now image) ⌝ }
-    requires { ⌜ backingEnd (backingAt snapshot) * 256 ≤ length (now image) ⌝ }
+    requires { ⌜ back * PageBytes ≤ length (now pool) ⌝ }
+    requires { ⌜ backingEnd (backingAt present) * PageBytes ≤ length (now image) ⌝ }
+    requires { ⌜ backingEnd (backingAt snapshot) * PageBytes ≤ length (now image) ⌝ }
     requires { ⌜ (isCommitted present ≡ true → backingAt present ≡ backingAt snapshot) ⌝ }
-    ensures { λ r. ⌜ r ≡ agree present snapshot
-        (sameBytes 256
-        (pageFrom (underFront (isCommitted present) (backingPage (now (image .entry)) (backingAt present)) (pageIn 256 (now (pool .entry)) back))
-        (pageIn 256 (now (pool .entry)) front))
-        (pageFrom (backingPage (now (image .entry)) (backingAt snapshot)) (pageIn 256 (now (pool .entry)) back))) ⌝ }
+    ensures { λ r. ⌜ (let now-front = pageIn PageBytes (now (pool .entry)) front in
+        let now-back = pageIn PageBytes (now (pool .entry)) back in
+        let own = underFront (isCommitted present) (backingPage (now (image .entry)) (backingAt present)) now-back in
+        let copied = pageFrom (backingPage (now (image .entry)) (backingAt snapshot)) now-back in
+        r ≡ agree present snapshot (sameBytes PageBytes (pageFrom own now-front) copied)) ⌝ }
 {
     if !is_mapped(present) {
         return !is_mapped(snapshot);

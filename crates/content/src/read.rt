@@ -2,6 +2,7 @@
 ghost use mathlib.Core.Path.{_≡_};
 ghost use Prim.Native.Nat.{_<_};
 ghost use lib.ListN.{length, getD};
+ghost use Rattle.interface.specs.Numbers.{PageBytes, Sandboxes};
 ghost use Rattle.frames.specs.declared.Held.{Held as Words};
 ghost use Rattle.interface.specs.Requests.{Read, pageOf, offsetOf};
 ghost use Rattle.table.specs.Store.{kept, Ranged};
@@ -16,10 +17,10 @@ use table::page::VirtualPage;
 // The byte that a page reads.
 pub fn read(pool: &[u8], table: &[u16], image: &[u8], b: Sandbox, q: Request) -> u8
     requires { ⌜ q .code ≡ Read ⌝ }
-    requires { ⌜ q .sandbox < 4 ⌝ }
+    requires { ⌜ q .sandbox < Sandboxes ⌝ }
     requires { ⌜ Fit q ⌝ }
     requires { ⌜ Ready (pagesIn (length (now image))) b ⌝ }
-    requires { ⌜ Ranged 256 (now pool) (now table) ⌝ }
+    requires { ⌜ Ranged PageBytes (now pool) (now table) ⌝ }
     ensures { λ r. ⌜ ((h : Words) → let before = kept h (now (pool .entry)) (now (table .entry)) in
         r ≡ getD (pageRead (now (image .entry)) before b (q .sandbox) (pageOf q)) (offsetOf q) 0) ⌝ }
 {

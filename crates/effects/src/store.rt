@@ -2,6 +2,7 @@
 ghost use mathlib.Core.Path.{_≡_};
 ghost use Prim.Native.Nat.{_<_};
 ghost use lib.ListN.{length};
+ghost use Rattle.interface.specs.Numbers.{PageBytes, Sandboxes};
 ghost use Rattle.interface.specs.Requests.{Map, Write};
 ghost use Rattle.table.specs.Store.{kept, Ranged};
 ghost use Rattle.state.specs.World.{worldOf, pagesIn};
@@ -59,10 +60,10 @@ fn without_frames(
 ) -> Left
     requires { ⌜ (q .code ≡ Map → ⊥) ⌝ }
     requires { ⌜ (q .code ≡ Write → ⊥) ⌝ }
-    requires { ⌜ q .sandbox < 4 ⌝ }
+    requires { ⌜ q .sandbox < Sandboxes ⌝ }
     requires { ⌜ Fit q ⌝ }
     requires { ⌜ Ready (pagesIn (length (now image))) b ⌝ }
-    requires { ⌜ Ranged 256 (now pool) (now table) ⌝ }
+    requires { ⌜ Ranged PageBytes (now pool) (now table) ⌝ }
     ensures { λ r. ⌜ (let before = kept held (now (pool .entry)) (now (table .entry)) in
         LeftBy (now (image .entry)) q b before (kept (r .held) (now (pool .exit)) (now (table .exit))) (r .runs)) ⌝ }
 {
@@ -70,7 +71,7 @@ fn without_frames(
     let s = q.sandbox as u8;
     let runs = b.runs;
     match code {
-        3 => {
+        Request::UNMAP => {
             let h = free_range(held, pool, table, s, PageNo(q.p1 as u8), q.p2 as u8);
             Left {
                 held: h,
@@ -84,7 +85,7 @@ fn without_frames(
                 runs: runs,
             }
         }
-        8 => {
+        Request::REWIND => {
             let present = b.present;
             let left = gathered(table, present, runs, s);
             let h = rewind(held, pool, table, image, b, s);

@@ -2,6 +2,7 @@
 ghost use mathlib.Core.Path.{_≡_};
 ghost use Prim.Native.Nat.{_+_, _*_, _≤_};
 ghost use lib.ListN.{length};
+ghost use Rattle.interface.specs.Numbers.{PageBytes};
 ghost use Rattle.pages.specs.Parts.{setFrame};
 ghost use Rattle.table.specs.Backing.{backingPage, backingEnd};
 use frames::FrameNo;
@@ -10,10 +11,10 @@ use pages::Page;
 
 // A frame gets the backing's bytes.
 pub(crate) fn fill_frame(pool: &mut [u8], f: FrameNo, image: &[u8], backing: Backing)
-    requires { ⌜ f .0 * 256 + 256 ≤ length (now pool) ⌝ }
-    requires { ⌜ backingEnd backing * 256 ≤ length (now image) ⌝ }
+    requires { ⌜ f .0 * PageBytes + PageBytes ≤ length (now pool) ⌝ }
+    requires { ⌜ backingEnd backing * PageBytes ≤ length (now image) ⌝ }
     ensures { λ r. ⌜ (let bytes = backingPage (now (image .entry)) backing in
-        now (pool .exit) ≡ setFrame 256 (now (pool .entry)) (f .0) bytes) ⌝ }
+        now (pool .exit) ≡ setFrame PageBytes (now (pool .entry)) (f .0) bytes) ⌝ }
 {
     match backing {
         Backing::Anonymous => pool::clear_frame(pool, f),

@@ -2,6 +2,7 @@
 ghost use mathlib.Core.Path.{_≡_};
 ghost use Prim.Native.Nat.{_+_, _*_, _≤_, _<_};
 ghost use lib.ListN.{length};
+ghost use Rattle.interface.specs.Numbers.{PageBytes, PageCount, Sandboxes};
 ghost use Rattle.interface.specs.Slots.{isCommitted, backingAt};
 ghost use Rattle.frames.specs.declared.Held.{Held as Words};
 ghost use Rattle.pages.specs.Parts.{setFrame};
@@ -24,12 +25,13 @@ use table::page::VirtualPage;
 
 // One byte of a page's front frame, if it has one, is stored.
 pub fn store_byte(pool: &mut [u8], table: &[u16], sandbox: u8, page: PageNo, offset: u8, byte: u8)
-    requires { ⌜ sandbox < 4 ⌝ }
-    requires { ⌜ page .0 < 64 ⌝ }
-    requires { ⌜ Ranged 256 (now pool) (now table) ⌝ }
+    requires { ⌜ sandbox < Sandboxes ⌝ }
+    requires { ⌜ page .0 < PageCount ⌝ }
+    requires { ⌜ Ranged PageBytes (now pool) (now table) ⌝ }
     ensures { λ r. ⌜
         ((h : Words) → kept h (now (pool .exit)) (now (table .entry))
-        ≡ storeByte 256 (frontOf sandbox (page .0)) offset byte (kept h (now (pool .entry)) (now (table .entry)))) ⌝ }
+        ≡ storeByte PageBytes (frontOf sandbox (page .0)) offset byte
+        (kept h (now (pool .entry)) (now (table .entry)))) ⌝ }
 {
     let front = front(table, sandbox, page);
     if front == 0 {
@@ -48,12 +50,12 @@ pub fn take(
     f: FrameNo,
 ) -> Held
     requires { ⌜ Placed (now image) page ⌝ }
-    requires { ⌜ Ranged 256 (now pool) (now table) ⌝ }
+    requires { ⌜ Ranged PageBytes (now pool) (now table) ⌝ }
     requires { ⌜ f .0 < 128 ⌝ }
-    requires { ⌜ f .0 * 256 + 256 ≤ length (now pool) ⌝ }
+    requires { ⌜ f .0 * PageBytes + PageBytes ≤ length (now pool) ⌝ }
     ensures { λ r. ⌜ (let before = kept held (now (pool .entry)) (now (table .entry)) in
         kept r (now (pool .exit)) (now (table .exit))
-        ≡ take 256 (frontAt page) (f .0) (bytesUnder (now (image .entry)) before page) before) ⌝ }
+        ≡ take PageBytes (frontAt page) (f .0) (bytesUnder (now (image .entry)) before page) before) ⌝ }
 {
     let number = page.number;
     let slot = page.slot;
@@ -74,11 +76,11 @@ pub fn restore_page(
     image: &[u8],
     page: VirtualPage,
 ) -> Held
-    requires { ⌜ Ranged 256 (now pool) (now table) ⌝ }
+    requires { ⌜ Ranged PageBytes (now pool) (now table) ⌝ }
     requires { ⌜ Placed (now image) page ⌝ }
     ensures { λ r. ⌜ (let before = kept held (now (pool .entry)) (now (table .entry)) in
         kept r (now (pool .exit)) (now (table .exit))
-        ≡ rewindPage 256 (frontAt page) (backAt page) (isCommitted (page .slot))
+        ≡ rewindPage PageBytes (frontAt page) (backAt page) (isCommitted (page .slot))
         (backingPage (now (image .entry)) (backingAt (page .slot))) before) ⌝ }
 {
     let number = page.number;
@@ -97,12 +99,12 @@ pub fn restore_page(
 
 // Frame `f` gets the bytes of the frame that an entry names, or the backing's where it names none.
 fn fill_frame(pool: &mut [u8], f: FrameNo, entry: u16, image: &[u8], backing: Backing)
-    requires { ⌜ f .0 * 256 + 256 ≤ length (now pool) ⌝ }
+    requires { ⌜ f .0 * PageBytes + PageBytes ≤ length (now pool) ⌝ }
     requires { ⌜ entry ≤ 128 ⌝ }
-    requires { ⌜ entry * 256 ≤ length (now pool) ⌝ }
-    requires { ⌜ backingEnd backing * 256 ≤ length (now image) ⌝ }
-    ensures { λ r. ⌜ now (pool .exit) ≡ setFrame 256 (now (pool .entry)) (f .0)
-        (pageFrom (backingPage (now (image .entry)) backing) (pageIn 256 (now (pool .entry)) entry)) ⌝ }
+    requires { ⌜ entry * PageBytes ≤ length (now pool) ⌝ }
+    requires { ⌜ backingEnd backing * PageBytes ≤ length (now image) ⌝ }
+    ensures { λ r. ⌜ now (pool .exit) ≡ setFrame PageBytes (now (pool .entry)) (f .0)
+        (pageFrom (backingPage (now (image .entry)) backing) (pageIn PageBytes (now (pool .entry)) entry)) ⌝ }
 {
     if entry == 0 {
         crate::backing::fill_frame(pool, f, image, backing);

@@ -2,6 +2,7 @@
 ghost use mathlib.Core.Path.{_≡_};
 ghost use Prim.Native.Nat.{_+_, _≤_, _<_};
 ghost use lib.ListN.{length};
+ghost use Rattle.interface.specs.Numbers.{PageBytes, PageCount, Sandboxes, TableEntries};
 ghost use Rattle.pages.specs.Parts.{zeros};
 ghost use Rattle.table.specs.Store.{kept, frontOf, Ranged, free, freeTo, cleared};
 use frames::FrameNo;
@@ -12,7 +13,7 @@ use table::entry::front_index;
 
 // No frame is held, and pool and table are cleared.
 pub fn start(pool: &mut [u8], table: &mut [u16]) -> Held
-    requires { ⌜ length (now table) ≡ 512 ⌝ }
+    requires { ⌜ length (now table) ≡ TableEntries ⌝ }
     ensures { λ r. ⌜ kept r (now (pool .exit)) (now (table .exit)) ≡ cleared (length (now (pool .entry))) ⌝ }
 {
     pool::clear_pool(pool);
@@ -22,10 +23,10 @@ pub fn start(pool: &mut [u8], table: &mut [u16]) -> Held
 
 // A page's front, if it has one, is freed: its frame is cleared and no longer held.
 pub fn free_front(held: Held, pool: &mut [u8], table: &mut [u16], sandbox: u8, page: PageNo) -> Held
-    requires { ⌜ sandbox < 4 ⌝ }
-    requires { ⌜ page .0 < 64 ⌝ }
-    requires { ⌜ Ranged 256 (now pool) (now table) ⌝ }
-    ensures { λ r. ⌜ kept r (now (pool .exit)) (now (table .exit)) ≡ free 256 (frontOf sandbox (page .0))
+    requires { ⌜ sandbox < Sandboxes ⌝ }
+    requires { ⌜ page .0 < PageCount ⌝ }
+    requires { ⌜ Ranged PageBytes (now pool) (now table) ⌝ }
+    ensures { λ r. ⌜ kept r (now (pool .exit)) (now (table .exit)) ≡ free PageBytes (frontOf sandbox (page .0))
         (kept held (now (pool .entry)) (now (table .entry))) ⌝ }
 {
     let at = front_index(sandbox, page);
@@ -48,10 +49,10 @@ pub fn free_range(
     first: PageNo,
     n: u8,
 ) -> Held
-    requires { ⌜ sandbox < 4 ⌝ }
-    requires { ⌜ first .0 + n ≤ 64 ⌝ }
-    requires { ⌜ Ranged 256 (now pool) (now table) ⌝ }
-    ensures { λ r. ⌜ kept r (now (pool .exit)) (now (table .exit)) ≡ freeTo 256 (frontOf sandbox (first .0))
+    requires { ⌜ sandbox < Sandboxes ⌝ }
+    requires { ⌜ first .0 + n ≤ PageCount ⌝ }
+    requires { ⌜ Ranged PageBytes (now pool) (now table) ⌝ }
+    ensures { λ r. ⌜ kept r (now (pool .exit)) (now (table .exit)) ≡ freeTo PageBytes (frontOf sandbox (first .0))
         (kept held (now (pool .entry)) (now (table .entry))) n ⌝ }
 {
     let mut h = held;

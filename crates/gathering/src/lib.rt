@@ -6,6 +6,7 @@ ghost use mathlib.Core.Path.{_≡_};
 ghost use mathlib.Core.List.{List};
 ghost use Prim.Native.Nat.{ℕ, _+_, _≤_, _<_};
 ghost use lib.ListN.{length, getD};
+ghost use Rattle.interface.specs.Numbers.{PageCount, Sandboxes, TableEntries};
 ghost use Rattle.interface.specs.Runs.{isSpared};
 ghost use Rattle.interface.specs.declared.page.Slot.the-variants.{Mapped};
 ghost use Rattle.frames.specs.declared.Held.{Held as Words};
@@ -26,9 +27,9 @@ use table::entry::front;
 
 // "the frames of each uncommitted anonymous area, if any, are .. kept as one run": the runs with those of the areas, the lower page the older.
 pub fn gathered(table: &[u16], present: Areas, runs: Runs, sandbox: u8) -> Runs
-    requires { ⌜ sandbox < 4 ⌝ }
+    requires { ⌜ sandbox < Sandboxes ⌝ }
     requires { ⌜ Formed present ⌝ }
-    requires { ⌜ length (now table) ≡ 512 ⌝ }
+    requires { ⌜ length (now table) ≡ TableEntries ⌝ }
     requires { ⌜ ((k : ℕ) → getD (now table) k 0 ≤ 128) ⌝ }
     ensures { λ r. ⌜ ((h : Words) (pool : List ℕ) →
         r ≡ tabled (rowRewound (storeOf h pool (now (table .entry))) sandbox (slots present) (row runs))) ⌝ }
@@ -44,9 +45,9 @@ pub fn gathered(table: &[u16], present: Areas, runs: Runs, sandbox: u8) -> Runs
 
 // The run of one area more. An area without a front makes a run of none, which changes nothing.
 fn push_area(table: &[u16], area: Area, runs: Runs, sandbox: u8) -> Runs
-    requires { ⌜ sandbox < 4 ⌝ }
-    requires { ⌜ area .first .0 + area .pages ≤ 64 ⌝ }
-    requires { ⌜ length (now table) ≡ 512 ⌝ }
+    requires { ⌜ sandbox < Sandboxes ⌝ }
+    requires { ⌜ area .first .0 + area .pages ≤ PageCount ⌝ }
+    requires { ⌜ length (now table) ≡ TableEntries ⌝ }
     requires { ⌜ ((k : ℕ) → getD (now table) k 0 ≤ 128) ⌝ }
     ensures { λ r. ⌜ r ≡ pushed runs (runOf (now (table .entry)) sandbox area) ⌝ }
 {
@@ -68,9 +69,9 @@ fn is_spared(area: Area) -> bool
 
 // The frames of the fronts of so many pages.
 fn fronts(table: &[u16], sandbox: u8, first: PageNo, pages: u8) -> Held
-    requires { ⌜ sandbox < 4 ⌝ }
-    requires { ⌜ first .0 + pages ≤ 64 ⌝ }
-    requires { ⌜ length (now table) ≡ 512 ⌝ }
+    requires { ⌜ sandbox < Sandboxes ⌝ }
+    requires { ⌜ first .0 + pages ≤ PageCount ⌝ }
+    requires { ⌜ length (now table) ≡ TableEntries ⌝ }
     requires { ⌜ ((k : ℕ) → getD (now table) k 0 ≤ 128) ⌝ }
     ensures { λ r. ⌜ r ≡ frontsTo (now (table .entry)) sandbox (first .0) pages ⌝ }
 {

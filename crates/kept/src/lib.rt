@@ -8,6 +8,7 @@ ghost use mathlib.Core.List.{List};
 ghost use Prim.Native.Nat.{ℕ, _+_, _*_, _≤_, _<_};
 ghost use lib.Dec.{eqb, ltb};
 ghost use lib.ListN.{length, getD, set};
+ghost use Rattle.interface.specs.Numbers.{PageBytes};
 ghost use Rattle.basics.specs.Ranges.{every};
 ghost use Rattle.frames.specs.Frames.{mark, countHeld, leastHeld};
 ghost use Rattle.table.specs.Store.{kept as storeOf};
@@ -48,7 +49,7 @@ fn add_run(found: Marks, run: Held) -> Marks
 // Whether every kept frame is one of the pool, and zero: each is looked at, the smallest first, and no other.
 pub fn frames_ok(kept: Held, pool: &[u8], frames: u8) -> bool
     requires { ⌜ frames ≤ 128 ⌝ }
-    requires { ⌜ length (now pool) ≡ frames * 256 ⌝ }
+    requires { ⌜ length (now pool) ≡ frames * PageBytes ⌝ }
     ensures { λ r. ⌜ r ≡ every (frameOk frames (now (pool .entry)) kept) 0 128 ⌝ }
 {
     let mut rest = kept;
@@ -66,7 +67,7 @@ pub fn frames_ok(kept: Held, pool: &[u8], frames: u8) -> bool
 
 // Whether a frame is one of the pool, and zero.
 fn frame_ok(pool: &[u8], frames: u8, f: FrameNo) -> bool
-    requires { ⌜ length (now pool) ≡ frames * 256 ⌝ }
+    requires { ⌜ length (now pool) ≡ frames * PageBytes ⌝ }
     ensures { λ r. ⌜ r ≡ (ltb (f .0) frames && blankb (now (pool .entry)) (f .0)) ⌝ }
 {
     if frames <= f.0 {
@@ -77,7 +78,7 @@ fn frame_ok(pool: &[u8], frames: u8, f: FrameNo) -> bool
 
 // Whether a frame is zero.
 fn is_blank(pool: &[u8], f: FrameNo) -> bool
-    requires { ⌜ f .0 * 256 + 256 ≤ length (now pool) ⌝ }
+    requires { ⌜ f .0 * PageBytes + PageBytes ≤ length (now pool) ⌝ }
     ensures { λ r. ⌜ r ≡ blankb (now (pool .entry)) (f .0) ⌝ }
 {
     let start = f.0 as usize * Page::SIZE;
@@ -86,8 +87,8 @@ fn is_blank(pool: &[u8], f: FrameNo) -> bool
 
 // Whether all bytes are zero. All are looked at, which takes no branch.
 fn is_zero(page: &[u8]) -> bool
-    requires { ⌜ length (now page) ≡ 256 ⌝ }
-    ensures { λ r. ⌜ r ≡ every (λ o. eqb (getD (now (page .entry)) o 0) 0) 0 256 ⌝ }
+    requires { ⌜ length (now page) ≡ PageBytes ⌝ }
+    ensures { λ r. ⌜ r ≡ every (λ o. eqb (getD (now (page .entry)) o 0) 0) 0 PageBytes ⌝ }
 {
     let mut zero = true;
     for i in 0..Page::SIZE {

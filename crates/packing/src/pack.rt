@@ -1,6 +1,7 @@
 // Areas packed anew: what stands at each page is changed, and the pages are pushed from left to right.
 ghost use mathlib.Core.Path.{_≡_};
 ghost use Prim.Native.Nat.{_≤_, _<_};
+ghost use Rattle.interface.specs.Numbers.{PageCount};
 ghost use Rattle.areas.specs.Areas.{slots};
 ghost use Rattle.areas.specs.Walk.{Formed};
 ghost use Rattle.packing.specs.Pack.{single, longer, start, last, continues, extended, added, push, pack};
@@ -33,7 +34,7 @@ pub struct Packed {
 // The areas after a change of n pages from first on.
 pub fn repack(areas: Areas, first: PageNo, n: u8, change: Change) -> Packed
     requires { ⌜ Formed areas ⌝ }
-    requires { ⌜ changeStart change ≤ 64 ⌝ }
+    requires { ⌜ changeStart change ≤ PageCount ⌝ }
     ensures { λ r. ⌜ r ≡ pack (changed (slots areas) (first .0) n change) ⌝ }
 {
     let mut packed = Packed::start();
@@ -71,7 +72,7 @@ fn continues(areas: Areas, page: PageNo, t: Attributes) -> bool
 fn extended(mut areas: Areas) -> Areas
     requires { ⌜ 0 < areas .count ⌝ }
     requires { ⌜ areas .count ≤ 8 ⌝ }
-    requires { ⌜ last areas .pages < 64 ⌝ }
+    requires { ⌜ last areas .pages < PageCount ⌝ }
     ensures { λ r. ⌜ r ≡ extended areas ⌝ }
 {
     let k = areas.count as usize - 1;
@@ -106,7 +107,7 @@ impl Packed {
     // One page more.
     fn push(self, page: PageNo, slot: Slot) -> Self
         requires { ⌜ self .areas .count ≤ 8 ⌝ }
-        requires { ⌜ page .0 < 64 ⌝ }
+        requires { ⌜ page .0 < PageCount ⌝ }
         ensures { λ r. ⌜ r ≡ push self (page .0) slot ⌝ }
     {
         let Slot::Mapped(t) = slot else {
@@ -135,8 +136,8 @@ impl Packed {
 impl Change {
     // What the change makes of a page.
     fn slot(self, first: PageNo, n: u8, page: PageNo, old: Slot) -> Slot
-        requires { ⌜ changeStart self ≤ 64 ⌝ }
-        requires { ⌜ page .0 < 64 ⌝ }
+        requires { ⌜ changeStart self ≤ PageCount ⌝ }
+        requires { ⌜ page .0 < PageCount ⌝ }
         ensures { λ r. ⌜ r ≡ changeTo (first .0) n self (page .0) old ⌝ }
     {
         if is_inside(first, n, page) {
@@ -148,8 +149,8 @@ impl Change {
 
     // What the change makes of a page that is so many pages after its first.
     fn at(self, pages: u8, old: Slot) -> Slot
-        requires { ⌜ changeStart self ≤ 64 ⌝ }
-        requires { ⌜ pages < 64 ⌝ }
+        requires { ⌜ changeStart self ≤ PageCount ⌝ }
+        requires { ⌜ pages < PageCount ⌝ }
         ensures { λ r. ⌜ r ≡ changeAt self pages old ⌝ }
     {
         match self {
@@ -177,7 +178,7 @@ fn single(page: PageNo, t: Attributes) -> Area
 
 // The area with one page more at its end.
 fn longer(area: Area) -> Area
-    requires { ⌜ area .pages < 64 ⌝ }
+    requires { ⌜ area .pages < PageCount ⌝ }
     ensures { λ r. ⌜ r ≡ longer area ⌝ }
 {
     let first = area.first;

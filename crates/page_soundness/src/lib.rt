@@ -5,6 +5,7 @@ ghost use mathlib.Core.Path.{_≡_};
 ghost use mathlib.Core.List.{List};
 ghost use Prim.Native.Nat.{ℕ, _<_};
 ghost use lib.ListN.{length};
+ghost use Rattle.interface.specs.Numbers.{PageCount, Sandboxes, TableEntries};
 ghost use Rattle.basics.specs.Ranges.{every};
 ghost use Rattle.frames.specs.declared.Held.{Held as Words};
 ghost use Rattle.table.specs.Store.{kept};
@@ -20,8 +21,8 @@ use interface::page::Slot;
 
 // Whether each page is as a sound state asks. Without areas no page is looked at, only the entries.
 pub fn pages_ok(present: Areas, snapshot: Areas, table: &[u16], s: u8) -> bool
-    requires { ⌜ s < 4 ⌝ }
-    requires { ⌜ length (now table) ≡ 512 ⌝ }
+    requires { ⌜ s < Sandboxes ⌝ }
+    requires { ⌜ length (now table) ≡ TableEntries ⌝ }
     requires { ⌜ Formed present ⌝ }
     requires { ⌜ Formed snapshot ⌝ }
     ensures { λ r. ⌜ ((h : Words) (pool : List ℕ) →
@@ -56,9 +57,10 @@ pub fn pages_ok(present: Areas, snapshot: Areas, table: &[u16], s: u8) -> bool
 
 // Whether no entry of the sandbox names a frame. All are looked at, which takes no branch.
 fn names_none(table: &[u16], s: u8) -> bool
-    requires { ⌜ s < 4 ⌝ }
-    requires { ⌜ length (now table) ≡ 512 ⌝ }
-    ensures { λ r. ⌜ ((h : Words) (pool : List ℕ) → r ≡ every (namesNone (kept h pool (now (table .entry))) s) 0 64) ⌝ }
+    requires { ⌜ s < Sandboxes ⌝ }
+    requires { ⌜ length (now table) ≡ TableEntries ⌝ }
+    ensures { λ r. ⌜ ((h : Words) (pool : List ℕ)
+        → r ≡ every (namesNone (kept h pool (now (table .entry))) s) 0 PageCount) ⌝ }
 {
     let mut none = true;
     for i in 0..Areas::PAGES {

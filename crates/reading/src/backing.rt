@@ -2,13 +2,14 @@
 ghost use mathlib.Core.Path.{_≡_};
 ghost use Prim.Native.Nat.{_*_, _≤_};
 ghost use lib.ListN.{length, getD};
+ghost use Rattle.interface.specs.Numbers.{PageBytes};
 ghost use Rattle.table.specs.Backing.{backingPage, backingEnd};
 use interface::page::Backing;
 use pages::Page;
 
 // One of the backing's bytes.
 pub(crate) fn read_byte(image: &[u8], backing: Backing, offset: u8) -> u8
-    requires { ⌜ backingEnd backing * 256 ≤ length (now image) ⌝ }
+    requires { ⌜ backingEnd backing * PageBytes ≤ length (now image) ⌝ }
     ensures { λ r. ⌜ r ≡ getD (backingPage (now (image .entry)) backing) offset 0 ⌝ }
 {
     match backing {

@@ -2,6 +2,7 @@
 ghost use mathlib.Core.Path.{_≡_};
 ghost use Prim.Native.Nat.{_*_, _≤_};
 ghost use lib.ListN.{length};
+ghost use Rattle.interface.specs.Numbers.{PageBytes};
 ghost use Rattle.pages.specs.Parts.{sameBytes};
 ghost use Rattle.table.specs.Store.{pageIn, pageFrom};
 ghost use Rattle.table.specs.Backing.{backingPage, backingEnd};
@@ -19,14 +20,14 @@ pub fn same_pages(
     twin: Backing,
 ) -> bool
     requires { ⌜ entry ≤ 128 ⌝ }
-    requires { ⌜ entry * 256 ≤ length (now pool) ⌝ }
-    requires { ⌜ backingEnd backing * 256 ≤ length (now image) ⌝ }
+    requires { ⌜ entry * PageBytes ≤ length (now pool) ⌝ }
+    requires { ⌜ backingEnd backing * PageBytes ≤ length (now image) ⌝ }
     requires { ⌜ other ≤ 128 ⌝ }
-    requires { ⌜ other * 256 ≤ length (now pool) ⌝ }
-    requires { ⌜ backingEnd twin * 256 ≤ length (now image) ⌝ }
-    ensures { λ r. ⌜ r ≡ sameBytes 256
-        (pageFrom (backingPage (now (image .entry)) backing) (pageIn 256 (now (pool .entry)) entry))
-        (pageFrom (backingPage (now (image .entry)) twin) (pageIn 256 (now (pool .entry)) other)) ⌝ }
+    requires { ⌜ other * PageBytes ≤ length (now pool) ⌝ }
+    requires { ⌜ backingEnd twin * PageBytes ≤ length (now image) ⌝ }
+    ensures { λ r. ⌜ r ≡ sameBytes PageBytes
+        (pageFrom (backingPage (now (image .entry)) backing) (pageIn PageBytes (now (pool .entry)) entry))
+        (pageFrom (backingPage (now (image .entry)) twin) (pageIn PageBytes (now (pool .entry)) other)) ⌝ }
 {
     if entry != 0 {
         let start = frame_of(entry).0 as usize * Page::SIZE;
@@ -48,12 +49,12 @@ pub fn same_pages(
 
 // Whether a part, one page long, has the bytes of a page: those of the frame that the entry names, or else its backing's.
 fn has_page(part: &[u8], pool: &[u8], image: &[u8], entry: u16, backing: Backing) -> bool
-    requires { ⌜ length (now part) ≡ 256 ⌝ }
+    requires { ⌜ length (now part) ≡ PageBytes ⌝ }
     requires { ⌜ entry ≤ 128 ⌝ }
-    requires { ⌜ entry * 256 ≤ length (now pool) ⌝ }
-    requires { ⌜ backingEnd backing * 256 ≤ length (now image) ⌝ }
-    ensures { λ r. ⌜ r ≡ sameBytes 256 (now (part .entry))
-        (pageFrom (backingPage (now (image .entry)) backing) (pageIn 256 (now (pool .entry)) entry)) ⌝ }
+    requires { ⌜ entry * PageBytes ≤ length (now pool) ⌝ }
+    requires { ⌜ backingEnd backing * PageBytes ≤ length (now image) ⌝ }
+    ensures { λ r. ⌜ r ≡ sameBytes PageBytes (now (part .entry))
+        (pageFrom (backingPage (now (image .entry)) backing) (pageIn PageBytes (now (pool .entry)) entry)) ⌝ }
 {
     if entry != 0 {
         let start = frame_of(entry).0 as usize * Page::SIZE;

@@ -1,6 +1,7 @@
 // A byte of a page, read where it stands.
 ghost use mathlib.Core.Path.{_≡_};
 ghost use lib.ListN.{getD};
+ghost use Rattle.interface.specs.Numbers.{PageBytes};
 ghost use Rattle.frames.specs.declared.Held.{Held as Words};
 ghost use Rattle.table.specs.Store.{kept, Ranged};
 ghost use Rattle.table.specs.Virtual.{bytesRead, Placed};
@@ -14,7 +15,7 @@ use table::page::VirtualPage;
 // One byte of a page: "A page reads its front frame; else, if committed, its back frame; else zero bytes or its image page."
 pub fn read_byte(pool: &[u8], table: &[u16], image: &[u8], page: VirtualPage, offset: u8) -> u8
     requires { ⌜ Placed (now image) page ⌝ }
-    requires { ⌜ Ranged 256 (now pool) (now table) ⌝ }
+    requires { ⌜ Ranged PageBytes (now pool) (now table) ⌝ }
     ensures { λ r. ⌜ ((h : Words) → let before = kept h (now (pool .entry)) (now (table .entry)) in
         r ≡ getD (bytesRead (now (image .entry)) before page) offset 0) ⌝ }
 {

@@ -7,6 +7,7 @@ ghost use mathlib.Core.List.{List};
 ghost use Prim.Native.Nat.{ℕ, _+_, _*_, _≤_, _<_};
 ghost use lib.Dec.{leb, ltb};
 ghost use lib.ListN.{length};
+ghost use Rattle.interface.specs.Numbers.{PageCount, Sandboxes, TableEntries};
 ghost use Rattle.basics.specs.Choice.{_when_else_};
 ghost use Rattle.interface.specs.Requests.{Map};
 ghost use Rattle.interface.specs.Outcome.{firstOf};
@@ -39,11 +40,11 @@ pub struct Left {
 // fronts, smallest frame number first; a surplus stays kept with its age." Kept frames are zero: no byte of the pool is touched, and no pool is lent.
 pub fn map(held: Held, table: &mut [u16], b: Sandbox, q: Request) -> Left
     requires { ⌜ q .code ≡ Map ⌝ }
-    requires { ⌜ q .sandbox < 4 ⌝ }
+    requires { ⌜ q .sandbox < Sandboxes ⌝ }
     requires { ⌜ Fit q ⌝ }
     requires { ⌜ ((images : ℕ) × Ready images b) ⌝ }
-    requires { ⌜ firstOf (slots (b .present)) q + q .p2 ≤ 64 ⌝ }
-    requires { ⌜ length (now table) ≡ 512 ⌝ }
+    requires { ⌜ firstOf (slots (b .present)) q + q .p2 ≤ PageCount ⌝ }
+    requires { ⌜ length (now table) ≡ TableEntries ⌝ }
     ensures { λ r. ⌜ ((pool : List ℕ) → let before = storeOf held pool (now (table .entry)) in
         storeOf (r .held) pool (now (table .exit)) ≡ mapAdopts q b before) ⌝ }
     ensures runs { λ r. ⌜ r .runs ≡ mapRuns q b ⌝ }
@@ -92,8 +93,8 @@ pub struct Given {
 // "When a write would bring fronts, backs and kept frames above the share, one frame of the longest run is given up first": the smallest. Without the runs
 // there is room for one more, so where nothing is kept nothing is counted.
 pub fn give_up(table: &[u16], runs: Runs, kept: Held, share: u8, sandbox: u8) -> Given
-    requires { ⌜ sandbox < 4 ⌝ }
-    requires { ⌜ length (now table) ≡ 512 ⌝ }
+    requires { ⌜ sandbox < Sandboxes ⌝ }
+    requires { ⌜ length (now table) ≡ TableEntries ⌝ }
     requires { ⌜ usedBelow (from (sandbox * 128) (now table)) 128 < share ⌝ }
     ensures { λ r. ⌜ (let named = usedBelow (from (sandbox * 128) (now (table .entry))) 128 in
         GaveUp (ltb share (named + keptBy (row runs) + 1)) runs kept r) ⌝ }

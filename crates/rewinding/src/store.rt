@@ -3,6 +3,7 @@ ghost use mathlib.Core.Path.{_≡_};
 ghost use Prim.Native.Nat.{_*_, _<_};
 ghost use lib.Dec.{eqb};
 ghost use lib.ListN.{length, getD};
+ghost use Rattle.interface.specs.Numbers.{PageBytes, PageCount, Sandboxes, TableEntries};
 ghost use Rattle.basics.specs.Choice.{_when_else_};
 ghost use Rattle.table.specs.Store.{kept, frontOf, Ranged, rewindTo};
 ghost use Rattle.areas.specs.Areas.{slots, Near};
@@ -28,12 +29,12 @@ pub fn rewind(
     b: Sandbox,
     s: u8,
 ) -> Held
-    requires { ⌜ s < 4 ⌝ }
+    requires { ⌜ s < Sandboxes ⌝ }
     requires { ⌜ Ready (pagesIn (length (now image))) b ⌝ }
-    requires { ⌜ Ranged 256 (now pool) (now table) ⌝ }
+    requires { ⌜ Ranged PageBytes (now pool) (now table) ⌝ }
     ensures { λ r. ⌜ (let before = kept held (now (pool .entry)) (now (table .entry)) in
         kept r (now (pool .exit)) (now (table .exit))
-        ≡ rewindTo 256 (s * 128) (keepsFront b) (copyPage (now (image .entry)) b) before 64) ⌝ }
+        ≡ rewindTo PageBytes (s * 128) (keepsFront b) (copyPage (now (image .entry)) b) before PageCount) ⌝ }
 {
     let present = b.present;
     let mut h = held;
@@ -46,9 +47,9 @@ pub fn rewind(
 
 // A page with what stands there. Without a front there is nothing to restore, and nothing is looked up.
 fn page_of(table: &[u16], present: Areas, s: u8, number: PageNo) -> VirtualPage
-    requires { ⌜ s < 4 ⌝ }
-    requires { ⌜ number .0 < 64 ⌝ }
-    requires { ⌜ length (now table) ≡ 512 ⌝ }
+    requires { ⌜ s < Sandboxes ⌝ }
+    requires { ⌜ number .0 < PageCount ⌝ }
+    requires { ⌜ length (now table) ≡ TableEntries ⌝ }
     requires { ⌜ Near (present .list) ⌝ }
     ensures { λ r. ⌜ (let front = getD (now (table .entry)) (frontOf s (number .0)) 0 in
         let slot = Slot.Unmapped when eqb front 0 else slots present (number .0) in

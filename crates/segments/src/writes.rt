@@ -2,6 +2,7 @@
 ghost use mathlib.Core.Path.{_≡_};
 ghost use Prim.Native.Nat.{_+_, _*_, _≤_, _<_};
 ghost use lib.ListN.{length};
+ghost use Rattle.interface.specs.Numbers.{PageBytes, PageCount, Sandboxes};
 ghost use Rattle.interface.specs.Requests.{requestOf, Write};
 ghost use Rattle.interface.specs.Slots.{backingAt};
 ghost use Rattle.pages.specs.Parts.{frame};
@@ -61,10 +62,10 @@ fn put_page(
     out: &mut [u8],
     to: Cursor,
 ) -> Cursor
-    requires { ⌜ page .sandbox < 4 ⌝ }
-    requires { ⌜ page .number .0 < 64 ⌝ }
-    requires { ⌜ Ranged 256 (now pool) (now table) ⌝ }
-    requires { ⌜ backingEnd (backingAt (page .slot)) * 256 ≤ length (now image) ⌝ }
+    requires { ⌜ page .sandbox < Sandboxes ⌝ }
+    requires { ⌜ page .number .0 < PageCount ⌝ }
+    requires { ⌜ Ranged PageBytes (now pool) (now table) ⌝ }
+    requires { ⌜ backingEnd (backingAt (page .slot)) * PageBytes ≤ length (now image) ⌝ }
     requires { ⌜ Room to (now out)
         (pageLines (now image) (now pool) (now table) (page .sandbox) (page .number .0) (page .slot)) ⌝ }
     ensures { λ r. ⌜ placed r (now (out .exit)) ≡ put to (now (out .entry))
@@ -92,13 +93,13 @@ fn put_bytes(
     out: &mut [u8],
     to: Cursor,
 ) -> Cursor
-    requires { ⌜ f .0 * 256 + 256 ≤ length (now pool) ⌝ }
-    requires { ⌜ backingEnd (backingAt (page .slot)) * 256 ≤ length (now image) ⌝ }
+    requires { ⌜ f .0 * PageBytes + PageBytes ≤ length (now pool) ⌝ }
+    requires { ⌜ backingEnd (backingAt (page .slot)) * PageBytes ≤ length (now image) ⌝ }
     requires { ⌜ Room to (now out)
-        (bytesOf (now image) (page .sandbox) (page .number .0) (page .slot) (frame 256 (now pool) (f .0))) ⌝ }
+        (bytesOf (now image) (page .sandbox) (page .number .0) (page .slot) (frame PageBytes (now pool) (f .0))) ⌝ }
     ensures { λ r. ⌜ placed r (now (out .exit)) ≡ put to (now (out .entry))
         (bytesOf (now (image .entry)) (page .sandbox) (page .number .0) (page .slot)
-        (frame 256 (now (pool .entry)) (f .0))) ⌝ }
+        (frame PageBytes (now (pool .entry)) (f .0))) ⌝ }
 {
     let slot = page.slot;
     let backing = backing_at(slot);
@@ -114,7 +115,7 @@ fn put_bytes(
 
 // The write of one byte of a page.
 fn write_line(page: VirtualPage, offset: u8, byte: u8) -> Request
-    ensures { λ r. ⌜ r ≡ requestOf Write (page .sandbox) (page .number .0 * 256 + offset) byte 0 0 0 ⌝ }
+    ensures { λ r. ⌜ r ≡ requestOf Write (page .sandbox) (page .number .0 * PageBytes + offset) byte 0 0 0 ⌝ }
 {
     Request {
         code: Request::WRITE,
@@ -129,7 +130,7 @@ fn write_line(page: VirtualPage, offset: u8, byte: u8) -> Request
 
 // "its page's zero or image byte"
 fn backing_byte(image: &[u8], backing: Backing, offset: u8) -> u8
-    requires { ⌜ backingEnd backing * 256 ≤ length (now image) ⌝ }
+    requires { ⌜ backingEnd backing * PageBytes ≤ length (now image) ⌝ }
     ensures { λ r. ⌜ r ≡ backingByte (now (image .entry)) backing offset ⌝ }
 {
     match backing {

@@ -4,6 +4,7 @@ ghost use mathlib.Core.Bool.{_&&_};
 ghost use mathlib.Core.List.{List};
 ghost use Prim.Native.Nat.{ℕ, _≤_, _<_};
 ghost use lib.ListN.{length};
+ghost use Rattle.interface.specs.Numbers.{MostImagePages, Sandboxes, TableEntries};
 ghost use Rattle.basics.specs.Ranges.{every};
 ghost use Rattle.frames.specs.declared.Held.{Held as Words};
 ghost use Rattle.table.specs.Store.{kept};
@@ -44,8 +45,8 @@ pub fn sound(m: Machine, pool: &[u8], table: &[u16], image: &[u8]) -> bool
 
 // Each sandbox, then its runs.
 fn sandboxes_ok(sandboxes: [Sandbox; Machine::SANDBOXES], table: &[u16], images: u8) -> bool
-    requires { ⌜ images ≤ 64 ⌝ }
-    requires { ⌜ length (now table) ≡ 512 ⌝ }
+    requires { ⌜ images ≤ MostImagePages ⌝ }
+    requires { ⌜ length (now table) ≡ TableEntries ⌝ }
     ensures { λ r. ⌜ ((h : Words) (pool : List ℕ) →
         let w : World = record { sandboxes = sandboxes; store = kept h pool (now (table .entry)) } in
         r ≡ every (λ s. sandboxOk images (w .store) s (sandboxAt w s) && runsOkAt w s) 0 4) ⌝ }
@@ -65,9 +66,9 @@ fn sandboxes_ok(sandboxes: [Sandbox; Machine::SANDBOXES], table: &[u16], images:
 }
 
 fn sandbox_ok(b: Sandbox, table: &[u16], s: u8, images: u8) -> bool
-    requires { ⌜ s < 4 ⌝ }
-    requires { ⌜ images ≤ 64 ⌝ }
-    requires { ⌜ length (now table) ≡ 512 ⌝ }
+    requires { ⌜ s < Sandboxes ⌝ }
+    requires { ⌜ images ≤ MostImagePages ⌝ }
+    requires { ⌜ length (now table) ≡ TableEntries ⌝ }
     ensures { λ r. ⌜ ((h : Words) (pool : List ℕ) → r ≡ sandboxOk images (kept h pool (now (table .entry))) s b) ⌝ }
 {
     let present = b.present;

@@ -3,6 +3,7 @@ ghost use mathlib.Core.Path.{_≡_};
 ghost use mathlib.Core.List.{List};
 ghost use Prim.Native.Nat.{ℕ, _*_, _≤_, _<_};
 ghost use lib.ListN.{length, getD};
+ghost use Rattle.interface.specs.Numbers.{PageBytes, Sandboxes, TableEntries};
 ghost use Rattle.frames.specs.declared.Held.{Held as Words};
 ghost use Rattle.marks.specs.Named.{usedBelow};
 ghost use Rattle.marks.specs.Marks.{from};
@@ -26,7 +27,7 @@ pub(crate) fn spare_ok(
     frames: u8,
 ) -> bool
     requires { ⌜ frames ≤ 128 ⌝ }
-    requires { ⌜ length (now pool) ≡ frames * 256 ⌝ }
+    requires { ⌜ length (now pool) ≡ frames * PageBytes ⌝ }
     ensures { λ r. ⌜ ((table : List ℕ) → let rows : Rows = λ s. row (getD sandboxes s closedSandbox .runs) in
         r ≡ spareb frames (storeOf held (now (pool .entry)) table) rows) ⌝ }
 {
@@ -44,8 +45,8 @@ pub(crate) fn spare_ok(
 // Whether the runs of a sandbox are within its share with its fronts and backs, which alone are; and a closed one keeps none.
 // Where no frame is kept, no entry is looked at.
 pub(crate) fn runs_ok(runs: Runs, table: &[u16], s: u8, opened: bool, share: u8) -> bool
-    requires { ⌜ s < 4 ⌝ }
-    requires { ⌜ length (now table) ≡ 512 ⌝ }
+    requires { ⌜ s < Sandboxes ⌝ }
+    requires { ⌜ length (now table) ≡ TableEntries ⌝ }
     requires { ⌜ usedBelow (from (s * 128) (now table)) 128 ≤ share ⌝ }
     ensures { λ r. ⌜ ((h : Words) (pool : List ℕ) →
         r ≡ runsOk (storeOf h pool (now (table .entry))) s opened share runs) ⌝ }

@@ -3,6 +3,7 @@ ghost use mathlib.Core.Path.{_≡_};
 ghost use mathlib.Core.List.{List};
 ghost use Prim.Native.Nat.{ℕ, _+_, _-_, _*_, _≤_, _<_};
 ghost use lib.ListN.{length, getD};
+ghost use Rattle.interface.specs.Numbers.{PageCount, Sandboxes, TableEntries};
 ghost use Rattle.basics.specs.Choice.{_when_else_};
 ghost use Rattle.frames.specs.declared.Held.{Held as Words};
 ghost use Rattle.table.specs.Store.{kept, frontOf, backOf, move, moveTo};
@@ -12,9 +13,9 @@ use marks::Marks;
 
 // The front entry of a page: "0 for none, else a frame number plus one".
 pub fn front(table: &[u16], sandbox: u8, page: PageNo) -> u16
-    requires { ⌜ sandbox < 4 ⌝ }
-    requires { ⌜ page .0 < 64 ⌝ }
-    requires { ⌜ length (now table) ≡ 512 ⌝ }
+    requires { ⌜ sandbox < Sandboxes ⌝ }
+    requires { ⌜ page .0 < PageCount ⌝ }
+    requires { ⌜ length (now table) ≡ TableEntries ⌝ }
     ensures { λ r. ⌜ r ≡ getD (now (table .entry)) (frontOf sandbox (page .0)) 0 ⌝ }
 {
     let at = front_index(sandbox, page);
@@ -23,9 +24,9 @@ pub fn front(table: &[u16], sandbox: u8, page: PageNo) -> u16
 
 // The back entry of a page.
 pub fn back(table: &[u16], sandbox: u8, page: PageNo) -> u16
-    requires { ⌜ sandbox < 4 ⌝ }
-    requires { ⌜ page .0 < 64 ⌝ }
-    requires { ⌜ length (now table) ≡ 512 ⌝ }
+    requires { ⌜ sandbox < Sandboxes ⌝ }
+    requires { ⌜ page .0 < PageCount ⌝ }
+    requires { ⌜ length (now table) ≡ TableEntries ⌝ }
     ensures { λ r. ⌜ r ≡ getD (now (table .entry)) (backOf sandbox (page .0)) 0 ⌝ }
 {
     let at = front_index(sandbox, page) + PageNo::COUNT;
@@ -34,9 +35,9 @@ pub fn back(table: &[u16], sandbox: u8, page: PageNo) -> u16
 
 // The back entry of a committed page; none of one that is not.
 pub fn back_if(table: &[u16], sandbox: u8, page: PageNo, committed: bool) -> u16
-    requires { ⌜ sandbox < 4 ⌝ }
-    requires { ⌜ page .0 < 64 ⌝ }
-    requires { ⌜ length (now table) ≡ 512 ⌝ }
+    requires { ⌜ sandbox < Sandboxes ⌝ }
+    requires { ⌜ page .0 < PageCount ⌝ }
+    requires { ⌜ length (now table) ≡ TableEntries ⌝ }
     ensures { λ r. ⌜ r ≡ (getD (now (table .entry)) (backOf sandbox (page .0)) 0 when committed else 0) ⌝ }
 {
     if committed {
@@ -47,10 +48,10 @@ pub fn back_if(table: &[u16], sandbox: u8, page: PageNo, committed: bool) -> u16
 
 // The fronts of all pages of a sandbox become its backs.
 pub fn move_fronts(table: &mut [u16], sandbox: u8)
-    requires { ⌜ sandbox < 4 ⌝ }
-    requires { ⌜ length (now table) ≡ 512 ⌝ }
+    requires { ⌜ sandbox < Sandboxes ⌝ }
+    requires { ⌜ length (now table) ≡ TableEntries ⌝ }
     ensures { λ r. ⌜ ((h : Words) (pool : List ℕ) → let before = kept h pool (now (table .entry)) in
-        kept h pool (now (table .exit)) ≡ moveTo (sandbox * 128) before 64) ⌝ }
+        kept h pool (now (table .exit)) ≡ moveTo (sandbox * 128) before PageCount) ⌝ }
 {
     for i in 0..PageNo::COUNT as u8 {
         move_front(table, sandbox, PageNo(i));
@@ -59,9 +60,9 @@ pub fn move_fronts(table: &mut [u16], sandbox: u8)
 
 // The front of a page becomes its back.
 fn move_front(table: &mut [u16], sandbox: u8, page: PageNo)
-    requires { ⌜ sandbox < 4 ⌝ }
-    requires { ⌜ page .0 < 64 ⌝ }
-    requires { ⌜ length (now table) ≡ 512 ⌝ }
+    requires { ⌜ sandbox < Sandboxes ⌝ }
+    requires { ⌜ page .0 < PageCount ⌝ }
+    requires { ⌜ length (now table) ≡ TableEntries ⌝ }
     ensures { λ r. ⌜ ((h : Words) (pool : List ℕ) → let before = kept h pool (now (table .entry)) in
         kept h pool (now (table .exit)) ≡ move (frontOf sandbox (page .0)) (backOf sandbox (page .0)) before) ⌝ }
 {
@@ -74,8 +75,8 @@ fn move_front(table: &mut [u16], sandbox: u8, page: PageNo)
 
 // Where a page's front entry stands; its back entry stands 64 further on.
 pub fn front_index(sandbox: u8, page: PageNo) -> usize
-    requires { ⌜ sandbox < 4 ⌝ }
-    requires { ⌜ page .0 < 64 ⌝ }
+    requires { ⌜ sandbox < Sandboxes ⌝ }
+    requires { ⌜ page .0 < PageCount ⌝ }
     ensures { λ r. ⌜ r ≡ frontOf sandbox (page .0) ⌝ }
 {
     sandbox as usize * Marks::SANDBOX_ENTRIES + page.0 as usize
