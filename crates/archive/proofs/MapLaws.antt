@@ -186,7 +186,8 @@ module _ (g : Given) (s share : ℕ) (row : s < 4) (d : Pages) (h : IsSnapshot (
     map-accepted : refusal (viewOf g 0 (built share (mappedTo i) (blankTo i))) q ≡ 0
     unfolding copyAfter
     map-accepted =
-        map-taken (viewOf g 0 (built share (mappedTo i) (blankTo i))) refl s row refl i (pagesFrom f i) (kindOf (backingAt (f i))) (firstImage (backingAt (f i)))
+        map-taken (viewOf g 0 (built share (mappedTo i) (blankTo i))) refl s row refl i (pagesFrom f i)
+        (kindOf (backingAt (f i))) (firstImage (backingAt (f i)))
         l (start-some f i l starts) (start-inside f i l starts)
         (backing-ok s i (pagesFrom f i) (length (g .image) / 256) (backingAt (f i)) (start-some f i l starts) last-image) map-free
         (rw map-slots (mapped-charge (i + pagesFrom f i))) (rw map-slots (mapped-areas (i + pagesFrom f i)))

@@ -39,7 +39,8 @@ module _ (g : Given) (s share : ℕ) (row : s < 4) (least : 1 ≤ share) (most :
   pub open-accepted : numberAt g fresh first ≡ 0
   unfolding slotsAfter copyAfter chargeOf sum
   open-accepted =
-      open-taken (viewOf g (shares fresh) (fresh s .core)) refl s row share refl least most (omega arith) (omega (arith, mapped-none)) (omega (arith, areas-none))
+      open-taken (viewOf g (shares fresh) (fresh s .core)) refl s row share refl least most (omega arith)
+      (omega (arith, mapped-none)) (omega (arith, areas-none))
 
   pub open-leaves : after g fresh first s .core ≡ built share (λ i. Unmapped) (λ i j. 0)
   unfolding slotsAfter copyAfter bytesAfter

@@ -9,9 +9,9 @@ ghost use Rattle.areas.specs.Formed.{imagesExist, proper, isApart, isNone, plac
 use areas::area::Area;
 use areas::area::Areas;
 use interface::page::Attributes;
-use slots::is_anonymous;
 use interface::page::Backing;
 use interface::page::PageNo;
+use slots::is_anonymous;
 
 // Whether the areas are well formed, over an image of so many pages.
 pub fn well_formed(areas: Areas, images: u8) -> bool

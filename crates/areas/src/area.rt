@@ -7,12 +7,12 @@ ghost use Rattle.areas.specs.Areas.{none, empty, attributesOf, covers, s
 ghost use Rattle.areas.specs.Formed.{goesOn};
 use crate::basic::is_inside;
 use crate::basic::is_same;
-use slots::follows;
-use slots::page_on;
 use interface::page::Attributes;
 use interface::page::Backing;
 use interface::page::PageNo;
 use interface::page::Slot;
+use slots::follows;
+use slots::page_on;
 
 // "Each area has a backing: anonymous, or image with its first image page. It has rights .. and a mark"
 pub struct Area {

@@ -6,8 +6,8 @@ ghost use Rattle.interface.specs.Slots.{allAre, gapAt, lowestGap};
 ghost use Rattle.areas.specs.Areas.{slots, Near};
 use crate::area::Areas;
 use crate::basic::is_same;
-use slots::is_mapped;
 use interface::page::PageNo;
+use slots::is_mapped;
 
 impl Areas {
     // Whether the n pages from first on are all mapped (or, with false, all unmapped).

@@ -229,7 +229,8 @@ over-gaps image w q o S u t =
     let good : Good image (q .sandbox) (u .row) w = record { sound = S; opened = u .opened } in
     record {
       answered =
-          told ∙ rw (unmap-hole _ q (sound-of image w S) v u (slots-inside _ (sandboxAt w (q .sandbox) .present) (own image (q .sandbox) (u .row) w good .present)))
+          told ∙ rw (unmap-hole _ q (sound-of image w S) v u
+          (slots-inside _ (sandboxAt w (q .sandbox) .present) (own image (q .sandbox) (u .row) w good .present)))
           (by-cases (eqb (areas f) 8 && isHole f (q .p1) (q .p2)) (λ e. rw e) (λ e. rw e));
       gap = λ i b m. told ∙ rw (unmap-over-gap _ q (sound-of image w S) v u i b m);
       nothing = λ clear.

@@ -16,12 +16,12 @@ ghost use Rattle.content.specs.Content.{differing};
 ghost use Rattle.content.specs.Unchanged.{stays, unchanged};
 use areas::area::Area;
 use areas::area::Areas;
+use interface::page::PageNo;
+use interface::page::Slot;
 use slots::backing_at;
 use slots::is_committed;
 use slots::is_mapped;
 use slots::rights_at;
-use interface::page::PageNo;
-use interface::page::Slot;
 use state::sandbox::Sandbox;
 
 // Where a sandbox and its snapshot differ.

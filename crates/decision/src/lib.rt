@@ -43,7 +43,12 @@ pub struct Decision {
 }
 
 // What becomes of a call in a sound state, over so many `frames` of the pool and pages of the image.
-pub fn decide(sandboxes: [Sandbox; Request::SANDBOXES], frames: u8, images: u8, q: Request) -> Decision
+pub fn decide(
+    sandboxes: [Sandbox; Request::SANDBOXES],
+    frames: u8,
+    images: u8,
+    q: Request,
+) -> Decision
     requires { ⌜ isCall q ≡ true ⌝ }
     requires { ⌜ (q .sandbox < Sandboxes → Ready images (sandboxIn sandboxes (q .sandbox))) ⌝ }
     requires { ⌜ (q .sandbox < Sandboxes

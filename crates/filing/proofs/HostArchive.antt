@@ -34,7 +34,6 @@ use Rattle.filing.specs.HostArchive.{Replays, HostArchive, HostFiles}
 
 -- ---- what is not refused
 
-
 taken-of : (w : World) (s : ℕ) → isTaken (copyOf (sandboxAt w s)) ≡ true → sandboxAt w s .taken ≡ true
 taken-of w s h = by-cases (sandboxAt w s .taken) (λ e. e) (λ e. absurd (false≢true (rw e at h)))
 

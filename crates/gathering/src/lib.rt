@@ -18,10 +18,10 @@ ghost use Rattle.areas.specs.Walk.{Formed};
 ghost use Rattle.gathering.specs.AreaRun.{withEntry, frontsTo, runOf};
 use areas::area::Area;
 use areas::area::Areas;
-use slots::is_anonymous;
 use frames::Held;
 use interface::page::PageNo;
 use runs::Runs;
+use slots::is_anonymous;
 use table::entry::frame_of;
 use table::entry::front;
 

@@ -9,13 +9,13 @@ ghost use Rattle.packing.specs.Pack.{changeAt, changeTo, changed, change
 use areas::area::Area;
 use areas::area::Areas;
 use areas::basic::is_inside;
+use interface::page::Attributes;
+use interface::page::PageNo;
+use interface::page::Slot;
 use slots::is_mapped;
 use slots::page_on;
 use slots::with_committed;
 use slots::with_rights;
-use interface::page::Attributes;
-use interface::page::PageNo;
-use interface::page::Slot;
 
 // A change of some pages: they become mapped from a first page with these attributes on, or unmapped, or get rights, or become committed.
 pub enum Change {

@@ -12,12 +12,12 @@ ghost use Rattle.table.specs.Store.{kept};
 ghost use Rattle.areas.specs.Walk.{Formed};
 ghost use Rattle.page_soundness.specs.Pages.{namesNone, pageOk, pagesOk};
 use areas::area::Areas;
+use interface::page::PageNo;
+use interface::page::Slot;
 use slots::backing_at;
 use slots::follows;
 use slots::is_committed;
 use slots::is_mapped;
-use interface::page::PageNo;
-use interface::page::Slot;
 
 // Whether each page is as a sound state asks. Without areas no page is looked at, only the entries.
 pub fn pages_ok(present: Areas, snapshot: Areas, table: &[u16], s: u8) -> bool

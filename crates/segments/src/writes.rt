@@ -13,14 +13,14 @@ ghost use Rattle.printing.specs.Put.{placed, put, Room};
 ghost use Rattle.segments.specs.ByPages.{bytesOf, pageLines, writesOf, Readable};
 use crate::Snapshot;
 use areas::area::Areas;
-use slots::backing_at;
-use slots::is_mapped;
 use frames::FrameNo;
 use interface::page::Backing;
 use interface::page::PageNo;
 use interface::request::Request;
 use printing::Cursor;
 use printing::put_if;
+use slots::backing_at;
+use slots::is_mapped;
 use table::entry::frame_of;
 use table::page::VirtualPage;
 

@@ -70,7 +70,8 @@ module _ (image : List ℕ) (w : World) (q : Request) (o : Outcome) (s : Stepped
       let k : Kept = keptFor image (w .store) (q .sandbox) b in
       let A = kept-agrees given (w .store) (T .filed) (q .sandbox) b own in
       let tidy : Tidy (λ f. ⊥) 256 (framesOf w) (w .store) = record { filed = T .filed; clean = λ f c. absurd c } in
-      let a : Accepted (viewOf given (sharesOf w) (k .core)) q = rw (view-at given w (sharesOf w) (q .sandbox) k (was-sound image w q number) refl refl A) at met in
+      let same = view-at given w (sharesOf w) (q .sandbox) k (was-sound image w q number) refl refl A in
+      let a : Accepted (viewOf given (sharesOf w) (k .core)) q = rw same at met in
       stored-after given (lent-of image w T) q (w .store) tidy b k (met .inRow)
       (kept-keeps given (w .store) (T .filed) (q .sandbox) b own) (kept-reads given (w .store) (T .filed) (q .sandbox) b own) A
       (sharesOf w) a (s .frame) (kind q) (rowsOf w) (T .spare) refl (λ e z. let x = free e z in (x .0, x .1 .0))

@@ -63,8 +63,8 @@ unfolding applies refusal
 past-four v q s r = rw (s, r)
 
 -- a sandbox that agrees gives the view that the plain machine has
-pub view-at : (g : Given) (w : World) (total s : ℕ) (k : Kept) → soundb (g .image) w ≡ true → framesOf w ≡ g .frames → sharesOf w ≡ total → AgreesAt g (w .store) s (sandboxAt w s) k
-    → viewAt (g .image) w s ≡ viewOf g total (k .core)
+pub view-at : (g : Given) (w : World) (total s : ℕ) (k : Kept) → soundb (g .image) w ≡ true → framesOf w ≡ g .frames → sharesOf w ≡ total
+    → AgreesAt g (w .store) s (sandboxAt w s) k → viewAt (g .image) w s ≡ viewOf g total (k .core)
 view-at g w total s k sound frames total-is A =
     λ i. record {
       sound = sound i;

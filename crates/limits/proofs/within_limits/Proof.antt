@@ -81,8 +81,15 @@ returns-7 : tie.Need-returns-7
 unfolding within
 returns-7 c =
     let no = c .before .match .rest in
-    rw (c .uses-none .ensures, ne-eqb _ _ (no .0 .0 .0 .0 .0 .1), ne-eqb _ _ (no .0 .0 .0 .0 .1), ne-eqb _ _ (no .0 .0 .0 .1), ne-eqb _ _ (no .0 .0 .1),
-    ne-eqb _ _ (no .0 .1), ne-eqb _ _ (no .1))
+    rw (
+      c .uses-none .ensures,
+      ne-eqb _ _ (no .0 .0 .0 .0 .0 .1),
+      ne-eqb _ _ (no .0 .0 .0 .0 .1),
+      ne-eqb _ _ (no .0 .0 .0 .1),
+      ne-eqb _ _ (no .0 .0 .1),
+      ne-eqb _ _ (no .0 .1),
+      ne-eqb _ _ (no .1),
+    )
 
 pub within-limits-spec : {M : Type 1} → statement M
 within-limits-spec =

@@ -1,3 +1,4 @@
+-- A backing so many pages on, by its two cases; the image page is a byte by what is required.
 use mathlib.Core.Path.{ap}
 use native.Mathlib.Omega.{arith}
 use borrow.Author.Needs.{needs}

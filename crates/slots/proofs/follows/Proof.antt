@@ -1,3 +1,4 @@
+-- Whether one backing goes on with another, by the cases of both.
 use native.Mathlib.Omega.{arith}
 use borrow.Author.Needs.{needs}
 use Rattle.interface.specs.Slots.{follows}

@@ -1,3 +1,4 @@
+-- A page of an area: its backing is that of the first page, so many pages on.
 use Rattle.slots.proofs.page_on.Statement.{statement}
 use Rattle.slots.proofs.page_on.Tie as tie
 

@@ -1,3 +1,4 @@
+-- The slot committed, by its two cases.
 use borrow.Author.Needs.{needs}
 use Rattle.slots.proofs.with_committed.Statement.{statement}
 use Rattle.slots.proofs.with_committed.Tie as tie

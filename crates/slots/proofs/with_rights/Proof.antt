@@ -1,3 +1,4 @@
+-- The slot with other rights, by its two cases.
 use borrow.Author.Needs.{needs}
 use Rattle.slots.proofs.with_rights.Statement.{statement}
 use Rattle.slots.proofs.with_rights.Tie as tie

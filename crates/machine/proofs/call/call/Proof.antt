@@ -127,10 +127,13 @@ decide-requires c κs =
     let start = behindState tested in
     let w = worldIn start in
     let s = start .args .q .sandbox in
-    let call = a-call (tested .before .before .before .before) in
-    (call, (
-    (λ row. ready (imageIn start) w (start .args .q) (is-sound tested) row),
-    (λ row. settled-at (pagesIn (length (imageIn start))) (w .store) s (sandboxAt w s) (is-sound tested .each s row) true _ _ _)))
+    let call = a-call (tested .before .before .before .before) in (
+      call,
+      (
+        (λ row. ready (imageIn start) w (start .args .q) (is-sound tested) row),
+        (λ row. settled-at (pagesIn (length (imageIn start))) (w .store) s (sandboxAt w s) (is-sound tested .each s row) true _ _ _),
+      ),
+    )
 
 enum-known-verdict : tie.Need-enum-known-verdict
 enum-known-verdict c = search needs

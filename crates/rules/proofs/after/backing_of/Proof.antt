@@ -1,3 +1,4 @@
+-- The backing that a map names, by its kind; the image page is a byte by the limits.
 use borrow.Author.Tests.{eq-eqb, ne-eqb}
 use native.Mathlib.Omega.{arith}
 use Rattle.rules.proofs.after.backing_of.Statement.{statement}

@@ -1,3 +1,4 @@
+-- The first page of a map: the lowest gap, or the page that it names.
 use borrow.Author.Tests.{eq-eqb, ne-eqb}
 use native.Mathlib.Omega.{arith}
 use Rattle.interface.specs.Outcome.{firstOf}

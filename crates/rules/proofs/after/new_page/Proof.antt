@@ -1,3 +1,4 @@
+-- What a map makes of its first page; the rights are a byte by the limits.
 use native.Mathlib.Omega.{arith}
 use borrow.Author.Needs.{needs}
 use Rattle.rules.proofs.after.new_page.Statement.{statement}

@@ -1,3 +1,4 @@
+-- The share after a request: only an open stores one, and it is a byte by the limits.
 use borrow.Author.Tests.{eq-eqb, ne-eqb}
 use native.Mathlib.Omega.{arith}
 use Rattle.rules.proofs.after.share_after.Statement.{statement}

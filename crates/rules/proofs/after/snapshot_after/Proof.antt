@@ -1,3 +1,4 @@
+-- The areas of the snapshot after a request: only a snapshot changes them.
 use borrow.Author.Tests.{eq-eqb, ne-eqb}
 use Rattle.rules.specs.After.{snapshotAfter}
 use Rattle.rules.proofs.after.snapshot_after.Statement.{statement}

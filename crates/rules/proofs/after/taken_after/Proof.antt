@@ -1,3 +1,4 @@
+-- Whether a snapshot is taken after a request: only a snapshot takes one.
 use borrow.Author.Tests.{eq-eqb, ne-eqb}
 use Rattle.rules.specs.After.{takenAfter}
 use Rattle.rules.proofs.after.taken_after.Statement.{statement}
