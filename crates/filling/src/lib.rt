@@ -5,3 +5,7 @@
 // on `frames` for the held marks, and on `areas` and `interface` for what stands at a page.
 mod backing;
 pub mod store;
+
+pub use store::restore_page;
+pub use store::store_byte;
+pub use store::take;

@@ -3,3 +3,7 @@
 // It stands on `table` for entries and the store, on `pool` and `pages` for the bytes of a frame, on `frames` for the held marks, and on `interface`
 // for the number of a page.
 pub mod store;
+
+pub use store::free_front;
+pub use store::free_range;
+pub use store::start;

@@ -4,3 +4,5 @@
 // It stands on `decision` for what is refused, on `rules` for what becomes of a sandbox, on `soundness` for the test of a state, and on `memory` for what a
 // request makes of the lent memory.
 pub mod call;
+
+pub use call::Reply;

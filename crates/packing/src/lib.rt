@@ -4,3 +4,7 @@
 // change, and well formed areas packed again are the same (proofs/KeptLaws).
 // It stands on `areas`, whose runs it makes, and on `basics` and `interface`.
 pub mod pack;
+
+pub use pack::Change;
+pub use pack::Packed;
+pub use pack::repack;

@@ -4,3 +4,5 @@
 // It stands on `filling` for the fronts, on `memory` for the definitions and their laws, on `content` for the bytes of a page without a back, and on
 // `rules` for what well formed areas are asked.
 pub mod store;
+
+pub use store::rewind;

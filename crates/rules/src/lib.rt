@@ -4,3 +4,16 @@
 // It stands on `state`, `areas`, `packing` and `interface`.
 pub mod after;
 pub mod rows;
+
+pub use after::first_of;
+pub use after::packed_after;
+pub use after::sandbox_after;
+pub use rows::already_mapped;
+pub use rows::already_open;
+pub use rows::no_gap;
+pub use rows::no_snapshot;
+pub use rows::not_mapped;
+pub use rows::not_open;
+pub use rows::not_writable;
+pub use rows::share_exceeded;
+pub use rows::snapshot_taken;
