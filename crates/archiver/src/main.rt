@@ -15,7 +15,7 @@ use archiving::write_archive;
 use image_file::Found;
 use image_file::image_bytes;
 use image_file::load;
-use interface::answer::Answer;
+use interface::Answer;
 use lines::Line;
 use marks::Marks;
 use playing::Player;

@@ -8,9 +8,9 @@ ghost use Rattle.interface.specs.Limits.{rightsOk};
 ghost use Rattle.areas.specs.Formed.{imagesExist, proper, isApart, isNone, placeOk, wellFormed};
 use areas::area::Area;
 use areas::area::Areas;
-use interface::page::Attributes;
-use interface::page::Backing;
-use interface::page::PageNo;
+use interface::Attributes;
+use interface::Backing;
+use interface::PageNo;
 use slots::is_anonymous;
 
 // Whether the areas are well formed, over an image of so many pages.

@@ -7,10 +7,10 @@ ghost use Rattle.areas.specs.Areas.{none, empty, attributesOf, covers, s
 ghost use Rattle.areas.specs.Formed.{goesOn};
 use crate::basic::is_inside;
 use crate::basic::is_same;
-use interface::page::Attributes;
-use interface::page::Backing;
-use interface::page::PageNo;
-use interface::page::Slot;
+use interface::Attributes;
+use interface::Backing;
+use interface::PageNo;
+use interface::Slot;
 use slots::follows;
 use slots::page_on;
 

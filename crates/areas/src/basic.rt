@@ -2,7 +2,7 @@
 ghost use mathlib.Core.Path.{_≡_};
 ghost use Rattle.basics.specs.Choice.{same};
 ghost use Rattle.basics.specs.Ranges.{inside};
-use interface::page::PageNo;
+use interface::PageNo;
 
 // Whether two tests have the same outcome.
 pub(crate) fn is_same(a: bool, b: bool) -> bool

@@ -6,7 +6,7 @@ ghost use Rattle.interface.specs.Slots.{allAre, gapAt, lowestGap};
 ghost use Rattle.areas.specs.Areas.{slots, Near};
 use crate::area::Areas;
 use crate::basic::is_same;
-use interface::page::PageNo;
+use interface::PageNo;
 use slots::is_mapped;
 
 impl Areas {

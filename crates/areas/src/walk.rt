@@ -7,8 +7,8 @@ ghost use Rattle.interface.specs.Numbers.{PageCount};
 ghost use Rattle.interface.specs.Slots.{startOf};
 ghost use Rattle.areas.specs.Walk.{slotHere};
 use crate::area::Area;
-use interface::page::PageNo;
-use interface::page::Slot;
+use interface::PageNo;
+use interface::Slot;
 
 impl Area {
     // Whether the walk leaves this area at the page: it has ended, and it is not the last of so many.

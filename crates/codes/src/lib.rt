@@ -4,9 +4,9 @@
 ghost use mathlib.Core.Path.{_≡_};
 ghost use Rattle.interface.specs.Answers.{refusalNumber, numberOf, valueOf};
 ghost use Rattle.interface.specs.Requests.{isCall, needsSnapshot};
-use interface::answer::Answer;
-use interface::answer::Refusal;
-use interface::request::Request;
+use interface::Answer;
+use interface::Refusal;
+use interface::Request;
 
 // Whether its code is that of a call: else row 2, "call code not 1 to 10".
 pub fn is_call(q: Request) -> bool

@@ -9,8 +9,8 @@ ghost use Rattle.table.specs.Store.{kept, Ranged};
 ghost use Rattle.state.specs.World.{pagesIn};
 ghost use Rattle.rules.specs.Ready.{Fit, Ready};
 ghost use Rattle.content.specs.Content.{pageRead};
-use interface::page::PageNo;
-use interface::request::Request;
+use interface::PageNo;
+use interface::Request;
 use state::sandbox::Sandbox;
 use table::page::VirtualPage;
 

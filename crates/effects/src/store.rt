@@ -11,8 +11,8 @@ ghost use Rattle.memory.specs.Parts.{Asked, LeftBy, StoreStepped, TouchStepped}
 use frames::Held;
 use freeing::store::free_range;
 use gathering::gathered;
-use interface::page::PageNo;
-use interface::request::Request;
+use interface::PageNo;
+use interface::Request;
 use pages::Page;
 use reuse::Left;
 use reuse::give_up;

@@ -10,9 +10,9 @@ ghost use Rattle.rules.specs.Ready.{Fit, Ready};
 ghost use Rattle.memory.specs.Memory.{valueAt};
 use content::compare::lowest_difference;
 use content::read::read;
-use interface::request::Request;
+use interface::Request;
 use pages::Page;
-use rules::after::first_of;
+use rules::first_of;
 use state::sandbox::Sandbox;
 
 // map: "Value: first page"; read: "Value: the byte"; snapshot: "Value: pages committed"; report: "Value: frames held, fronts plus backs", and kept

@@ -6,9 +6,9 @@ ghost use Rattle.interface.specs.Slots.{startOf};
 ghost use Rattle.layout.specs.Layout.{areaSize, kindOf, areaBytes, backingFrom, areaFrom, isArea};
 use crate::word::flag;
 use areas::area::Area;
-use interface::page::Backing;
-use interface::page::ImagePageNo;
-use interface::page::PageNo;
+use interface::Backing;
+use interface::ImagePageNo;
+use interface::PageNo;
 use layout::size::AreaAt;
 
 // The kinds of a backing.

@@ -10,8 +10,8 @@ use archiving::write_archive;
 use encoding::decode;
 use encoding::is_state;
 use host_calls::Told;
-use interface::answer::Answer;
-use interface::answer::Refusal;
+use interface::Answer;
+use interface::Refusal;
 
 // Writes the archive roll of a sandbox's snapshot into `out`, and answers the number of its lines.
 pub fn archive_over(

@@ -6,7 +6,7 @@ ghost use Rattle.interface.specs.Numbers.{PageBytes};
 ghost use Rattle.pages.specs.Parts.{setFrame};
 ghost use Rattle.table.specs.Backing.{backingPage, backingEnd};
 use frames::FrameNo;
-use interface::page::Backing;
+use interface::Backing;
 use pages::Page;
 
 // A frame gets the backing's bytes.

@@ -7,7 +7,7 @@ ghost use Rattle.pages.specs.Parts.{zeros};
 ghost use Rattle.table.specs.Store.{kept, frontOf, Ranged, free, freeTo, cleared};
 use frames::FrameNo;
 use frames::Held;
-use interface::page::PageNo;
+use interface::PageNo;
 use table::entry::frame_of;
 use table::entry::front_index;
 

@@ -19,7 +19,7 @@ ghost use Rattle.gathering.specs.AreaRun.{withEntry, frontsTo, runOf};
 use areas::area::Area;
 use areas::area::Areas;
 use frames::Held;
-use interface::page::PageNo;
+use interface::PageNo;
 use runs::Runs;
 use slots::is_anonymous;
 use table::entry::frame_of;

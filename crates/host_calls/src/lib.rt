@@ -4,8 +4,8 @@
 // It stands on `machine` for the step, on `layout` for the bytes, on `codes` for numbers, and on `claims` and `consequences` for what is promised.
 ghost use mathlib.Core.Path.{_≡_};
 ghost use Rattle.host_calls.specs.Calls.{toldBy, requestIn};
-use interface::answer::Answer;
-use interface::request::Request;
+use interface::Answer;
+use interface::Request;
 
 // What a host asks: the seven numbers of a line.
 #[repr(C)]

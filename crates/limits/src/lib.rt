@@ -7,9 +7,9 @@ ghost use lib.Dec.{ltb};
 ghost use Rattle.interface.specs.Numbers.{PageCount, Addresses, ByteValues};
 ghost use Rattle.interface.specs.Limits.{between, rightsOk, pagesOk, placeOk, backingOk};
 ghost use Rattle.interface.specs.Limits.{usesThree, usesTwo, usesOne, usesNone, within};
-use interface::page::Attributes;
-use interface::page::PageNo;
-use interface::request::Request;
+use interface::Attributes;
+use interface::PageNo;
+use interface::Request;
 
 // Whether every parameter of the request is within its limits; `images` is the number of the image's pages.
 pub fn within_limits(q: Request, images: u8) -> bool

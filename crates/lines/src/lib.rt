@@ -7,7 +7,7 @@ ghost use Prim.Native.Nat.{_+_, _*_, _≤_, _<_};
 ghost use lib.ListN.{length};
 ghost use Rattle.lines.specs.Fields.{withDigit, withColumn, fieldOf, isNumber, numberIn};
 ghost use Rattle.lines.specs.Lines.{fieldAt, parsed, linesOf, lineAt};
-use interface::request::Request;
+use interface::Request;
 
 // What a line of the roll says: a call, or nothing.
 pub enum Line {

@@ -10,11 +10,11 @@ use decision::Verdict;
 use decision::decide;
 use effects::store::store_after;
 use effects::value::value_of;
-use interface::answer::Answer;
-use interface::answer::Refusal;
-use interface::page::PageNo;
-use interface::request::Request;
-use rules::after::sandbox_after;
+use interface::Answer;
+use interface::PageNo;
+use interface::Refusal;
+use interface::Request;
+use rules::sandbox_after;
 use soundness::sound::sound;
 use state::sandbox::Machine;
 

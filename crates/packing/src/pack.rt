@@ -9,9 +9,9 @@ ghost use Rattle.packing.specs.Pack.{changeAt, changeTo, changed, change
 use areas::area::Area;
 use areas::area::Areas;
 use areas::basic::is_inside;
-use interface::page::Attributes;
-use interface::page::PageNo;
-use interface::page::Slot;
+use interface::Attributes;
+use interface::PageNo;
+use interface::Slot;
 use slots::is_mapped;
 use slots::page_on;
 use slots::with_committed;

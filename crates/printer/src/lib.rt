@@ -6,7 +6,7 @@ ghost use Prim.Native.Nat.{_+_, _*_, _≤_};
 ghost use lib.ListN.{length};
 ghost use Rattle.pages.specs.Parts.{setPart};
 ghost use Rattle.lines.specs.Prints.{lastDigit, column, printedField, printedRequest, printedReply};
-use interface::request::Request;
+use interface::Request;
 use lines::Line;
 
 // Prints a reply, "line number from 1, refusal number or 0, value", and a line feed, into 19 bytes.

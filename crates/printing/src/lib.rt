@@ -6,7 +6,7 @@ ghost use mathlib.Core.List.{[], _∷_};
 ghost use Prim.Native.Nat.{_+_, _<_};
 ghost use Rattle.archive.specs.Archive.{only};
 ghost use Rattle.printing.specs.Put.{placed, put, Room};
-use interface::request::Request;
+use interface::Request;
 use lines::Line;
 use printer::print_request;
 

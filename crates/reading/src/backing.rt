@@ -4,7 +4,7 @@ ghost use Prim.Native.Nat.{_*_, _≤_};
 ghost use lib.ListN.{length, getD};
 ghost use Rattle.interface.specs.Numbers.{PageBytes};
 ghost use Rattle.table.specs.Backing.{backingPage, backingEnd};
-use interface::page::Backing;
+use interface::Backing;
 use pages::Page;
 
 // One of the backing's bytes.

@@ -6,7 +6,7 @@ ghost use Rattle.interface.specs.Numbers.{PageBytes};
 ghost use Rattle.pages.specs.Parts.{sameBytes};
 ghost use Rattle.table.specs.Store.{pageIn, pageFrom};
 ghost use Rattle.table.specs.Backing.{backingPage, backingEnd};
-use interface::page::Backing;
+use interface::Backing;
 use pages::Page;
 use table::entry::frame_of;
 

@@ -23,10 +23,10 @@ ghost use Rattle.reuse.specs.Reuse.{mapAdopts, mapRuns, GaveUp};
 use frames::FrameNo;
 use frames::Free;
 use frames::Held;
-use interface::request::Request;
+use interface::Request;
 use kept::grant;
 use marks::Marks;
-use rules::after::first_of;
+use rules::first_of;
 use runs::Runs;
 use state::sandbox::Sandbox;
 

@@ -14,8 +14,8 @@ ghost use Rattle.memory.specs.Memory.{keepsFront};
 use areas::area::Areas;
 use filling::store::restore_page;
 use frames::Held;
-use interface::page::PageNo;
-use interface::page::Slot;
+use interface::PageNo;
+use interface::Slot;
 use state::sandbox::Sandbox;
 use table::page::VirtualPage;
 

@@ -5,9 +5,9 @@ ghost use Rattle.printing.specs.Put.{placed, put, Room};
 ghost use Rattle.segments.specs.ByAreas.{isTold, lineOf, mapOf, protectOf, linesAt};
 use crate::Snapshot;
 use areas::area::Area;
-use interface::page::Attributes;
-use interface::page::Backing;
-use interface::request::Request;
+use interface::Attributes;
+use interface::Backing;
+use interface::Request;
 use printing::Cursor;
 use printing::put_if;
 

@@ -14,9 +14,9 @@ ghost use Rattle.segments.specs.ByPages.{bytesOf, pageLines, writesOf, R
 use crate::Snapshot;
 use areas::area::Areas;
 use frames::FrameNo;
-use interface::page::Backing;
-use interface::page::PageNo;
-use interface::request::Request;
+use interface::Backing;
+use interface::PageNo;
+use interface::Request;
 use printing::Cursor;
 use printing::put_if;
 use slots::backing_at;

@@ -7,10 +7,10 @@ ghost use Rattle.interface.specs.Slots.{isMapped, isCommitted, isUncommitted, r
 ghost use Rattle.interface.specs.Slots.{withRights, withCommitted, advance, startOf, follows};
 ghost use Rattle.interface.specs.Runs.{isAnonymous};
 ghost use Rattle.interface.specs.Outcome.{pageOn};
-use interface::page::Attributes;
-use interface::page::Backing;
-use interface::page::ImagePageNo;
-use interface::page::Slot;
+use interface::Attributes;
+use interface::Backing;
+use interface::ImagePageNo;
+use interface::Slot;
 
 // Whether the page is mapped.
 pub fn is_mapped(slot: Slot) -> bool

@@ -4,8 +4,8 @@
 ghost use mathlib.Core.Path.{_≡_};
 ghost use Rattle.state.specs.World.{worldOf};
 ghost use Rattle.state.specs.Start.{startedBy, startAnswer};
-use interface::answer::Answer;
-use interface::answer::Refusal;
+use interface::Answer;
+use interface::Refusal;
 use state::lengths::lengths_ok;
 use state::sandbox::Machine;
 

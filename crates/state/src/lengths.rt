@@ -2,7 +2,7 @@
 ghost use mathlib.Core.Path.{_≡_};
 ghost use Rattle.state.specs.World.{wholePages, lengthsOk};
 use frames::FrameNo;
-use interface::page::ImagePageNo;
+use interface::ImagePageNo;
 use marks::Marks;
 use pages::Page;
 

@@ -7,7 +7,7 @@ ghost use Rattle.state.specs.World.{closedSandbox, freshMachine, copyOf}
 ghost use Rattle.state.specs.World.{withOpened, withShare, withPresent, withTaken, withSnapshot, withRuns};
 use areas::area::Areas;
 use frames::Held;
-use interface::request::Request;
+use interface::Request;
 use runs::Runs;
 
 // What is kept for a sandbox: whether it is open, its share, its areas, whether a snapshot was taken, the snapshot's areas, and the runs of kept frames.

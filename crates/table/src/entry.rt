@@ -8,7 +8,7 @@ ghost use Rattle.basics.specs.Choice.{_when_else_};
 ghost use Rattle.frames.specs.declared.Held.{Held as Words};
 ghost use Rattle.table.specs.Store.{kept, frontOf, backOf, move, moveTo};
 use frames::FrameNo;
-use interface::page::PageNo;
+use interface::PageNo;
 use marks::Marks;
 
 // The front entry of a page: "0 for none, else a frame number plus one".

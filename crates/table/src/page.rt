@@ -1,6 +1,6 @@
 // A page of a sandbox, as it is handed to what reads, fills and restores it.
-use interface::page::PageNo;
-use interface::page::Slot;
+use interface::PageNo;
+use interface::Slot;
 
 // Whose page it is, its number, and what stands there.
 pub struct VirtualPage {
