@@ -15,8 +15,6 @@ use state::sandbox::Machine;
 
 pub mod whole;
 
-pub use whole::put_fitting;
-
 // "The answer is the number of lines; output memory past them is untouched. .. any refusal leaves all output memory untouched."
 pub fn write_archive(
     machine: Machine,
