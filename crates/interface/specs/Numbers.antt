@@ -1,5 +1,5 @@
--- The numbers of document 01, each under its sentence; the codes of the calls stand in Requests. The code has them under the same names (src/request.rt,
--- src/page.rt).
+-- The numbers of document 01, each under its sentence; the codes of the calls stand in Requests. The code has a constant for each, beside the type that it is
+-- about: `PageNo::COUNT` for `PageCount`.
 use Prim.Native.Nat.{ℕ}
 
 -- "Four sandboxes stand in a row, numbered 0 to 3."
