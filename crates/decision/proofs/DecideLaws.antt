@@ -22,8 +22,8 @@ use Rattle.interface.proofs.RowLaws.{row-14}
 use Rattle.areas.specs.Areas.{slots, empty}
 use Rattle.packing.specs.declared.pack.Packed.{Packed}
 use Rattle.packing.proofs.PackLaws.{pack-fits}
-use Rattle.state.specs.declared.sandbox.Sandbox.{Sandbox}
-use Rattle.state.specs.World.{copyOf, viewFrom}
+use Rattle.records.specs.declared.Record.{Record}
+use Rattle.records.specs.Record.{copyOf, viewFrom}
 use Rattle.decision.specs.declared.Verdict.the-variants.{Accepted, Refused}
 use Rattle.decision.specs.declared.Decision.{Decision}
 use Rattle.rules.specs.After.{changes, packedAfter}
@@ -91,7 +91,7 @@ module _ (v : View) (q : Request) where
 
   -- ---- decisions
 
-  module _ (b : Sandbox) where
+  module _ (b : Record) where
     -- the first row that applies is answered, and no areas
     pub refused : (why : Refusal) (r : Decision) → r ≡ record { verdict = Refused why; areas = empty } → Behind why → applies v q why ≡ true → Decided v q b r
     unfolding refusal
@@ -118,18 +118,18 @@ past-the-row v q h = rw (le-ltb (q .sandbox) 4 h)
 
 -- ---- row 14
 
-unpacked : (q : Request) (b : Sandbox) → changes q ≡ false → packedAfter q b .fits ≡ true
+unpacked : (q : Request) (b : Record) → changes q ≡ false → packedAfter q b .fits ≡ true
 unfolding packedAfter
 unpacked q b e = by-cases (q is Rewind) (λ t. rw (e, t)) (λ t. rw (e, t))
 
-packed : (q : Request) (b : Sandbox) → changes q ≡ true → packedAfter q b .fits ≡ leb (areas (slotsAfter q (slots (b .present)) (copyOf b))) 8
+packed : (q : Request) (b : Record) → changes q ≡ true → packedAfter q b .fits ≡ leb (areas (slotsAfter q (slots (b .present)) (copyOf b))) 8
 unfolding packedAfter
 packed q b e = rw e (pack-fits (slotsAfter q (slots (b .present)) (copyOf b)))
 
 more-than : (n : ℕ) → ltb 8 n ≡ not (leb n 8)
 more-than n = by-cases (leb n 8) (λ e. rw e (le-ltb 8 n (leb-true n 8 e))) (λ e. rw e (lt-ltb 8 n (leb-false n 8 e)))
 
-module _ (frames images shares : ℕ) (b : Sandbox) (q : Request) where
+module _ (frames images shares : ℕ) (b : Record) (q : Request) where
   abbrev view : View
   view = viewFrom true frames images shares b
 

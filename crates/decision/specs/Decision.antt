@@ -8,7 +8,7 @@ use Rattle.interface.specs.Answers.{refusalNumber}
 use Rattle.interface.specs.Refusals.{View, refusal}
 use Rattle.areas.specs.declared.area.Areas.{Areas}
 use Rattle.areas.specs.Areas.{empty}
-use Rattle.state.specs.declared.sandbox.Sandbox.{Sandbox}
+use Rattle.records.specs.declared.Record.{Record}
 use Rattle.decision.specs.declared.Verdict.{Verdict}
 use Rattle.decision.specs.declared.Verdict.the-variants.{Accepted, Refused}
 use Rattle.decision.specs.declared.Decision.{Decision}
@@ -20,10 +20,10 @@ verdictNumber Accepted = 0
 verdictNumber (Refused why) = refusalNumber why
 
 -- the areas afterwards: those that result where the request is accepted, none where it is refused
-abbrev pub areasLeft : View → Request → Sandbox → Areas
+abbrev pub areasLeft : View → Request → Record → Areas
 areasLeft v q b = presentAfter q b when eqb (refusal v q) 0 else empty
 
 -- the verdict is that of the table, and the areas are those afterwards
-pub record Decided (v : View) (q : Request) (b : Sandbox) (r : Decision) : Type 0 where
+pub record Decided (v : View) (q : Request) (b : Record) (r : Decision) : Type 0 where
   pub number : verdictNumber (r .verdict) ≡ refusal v q
   pub areas : r .areas ≡ areasLeft v q b

@@ -1,6 +1,6 @@
 // The decision: the rows of "Turned back" from 4 on, in their order. No lent memory is touched here.
-// It promises: `decide` gives the number of `interface`'s one table of refusals, for any call of a sound state, and the areas afterwards.
-// It stands on `rules` for the tests of the rows and for what results, on `limits` for row 6, and on `totals` for the shares together.
+// It promises: `decide` gives the number of `interface`'s one table of refusals, for any call on a sandbox with a sound record, and the areas afterwards.
+// It stands on `rows` for the tests of the rows, on `rules` for what results, and on `limits` for row 6.
 ghost use mathlib.Core.Path.{_≡_};
 ghost use mathlib.Core.Bool.{true, false};
 ghost use Prim.Native.Nat.{_<_};
@@ -8,27 +8,25 @@ ghost use Rattle.interface.specs.Numbers.{Sandboxes};
 ghost use Rattle.interface.specs.Requests.{isCall};
 ghost use Rattle.interface.specs.declared.answer.Refusal.the-variants.{NotOpen};
 ghost use Rattle.interface.specs.Refusals.{applies};
-ghost use Rattle.interface.specs.Settled.{Settled};
 ghost use Rattle.areas.specs.Areas.{empty};
-ghost use Rattle.state.specs.World.{sandboxIn, sharesIn, viewFrom};
+ghost use Rattle.records.specs.Record.{viewFrom};
 ghost use Rattle.rules.specs.Ready.{Ready};
 ghost use Rattle.decision.specs.Decision.{Decided};
 use areas::area::Areas;
 use interface::Refusal;
 use interface::Request;
 use limits::within_limits;
-use rules::already_mapped;
-use rules::already_open;
-use rules::no_gap;
-use rules::no_snapshot;
-use rules::not_mapped;
-use rules::not_open;
-use rules::not_writable;
+use records::Record;
+use rows::already_mapped;
+use rows::already_open;
+use rows::no_gap;
+use rows::no_snapshot;
+use rows::not_mapped;
+use rows::not_open;
+use rows::not_writable;
+use rows::share_exceeded;
+use rows::snapshot_taken;
 use rules::packed_after;
-use rules::share_exceeded;
-use rules::snapshot_taken;
-use state::sandbox::Sandbox;
-use totals::shares;
 
 // Whether a request is accepted, or why it is refused.
 pub enum Verdict {
@@ -42,37 +40,24 @@ pub struct Decision {
     pub areas: Areas,
 }
 
-// What becomes of a call in a sound state, over so many `frames` of the pool and pages of the image.
-pub fn decide(
-    sandboxes: [Sandbox; Request::SANDBOXES],
-    frames: u8,
-    images: u8,
-    q: Request,
-) -> Decision
+// What becomes of a call on a sandbox with this record, over so many `frames` of the pool and pages of the image, where the shares together are these.
+pub fn decide(b: Record, frames: u8, images: u8, shares: u16, q: Request) -> Decision
     requires { ⌜ isCall q ≡ true ⌝ }
-    requires { ⌜ (q .sandbox < Sandboxes → Ready images (sandboxIn sandboxes (q .sandbox))) ⌝ }
-    requires { ⌜ (q .sandbox < Sandboxes
-        → Settled (viewFrom true frames images (sharesIn sandboxes) (sandboxIn sandboxes (q .sandbox)))) ⌝ }
-    ensures { λ r. ⌜ (let b = sandboxIn sandboxes (q .sandbox) in
-        Decided (viewFrom true frames images (sharesIn sandboxes) b) q b r) ⌝ }
+    requires { ⌜ q .sandbox < Sandboxes ⌝ }
+    requires { ⌜ Ready images b ⌝ }
+    ensures { λ r. ⌜ Decided (viewFrom true frames images shares b) q b r ⌝ }
 {
-    if q.sandbox as usize >= Request::SANDBOXES {
-        return refuse(Refusal::NotOpen);
-    }
-    let k = q.sandbox as usize;
-    let b = sandboxes[k];
     if not_open(b.opened, q) {
         return refuse(Refusal::NotOpen);
     }
-    decide_further(b, frames, images, shares(sandboxes), q)
+    decide_further(b, frames, images, shares, q)
 }
 
-// The rows from 5 on, of the sandbox that the call names; row 4 does not apply.
-fn decide_further(b: Sandbox, frames: u8, images: u8, shares: u16, q: Request) -> Decision
+// The rows from 5 on; row 4 does not apply.
+fn decide_further(b: Record, frames: u8, images: u8, shares: u16, q: Request) -> Decision
     requires { ⌜ isCall q ≡ true ⌝ }
     requires { ⌜ applies (viewFrom true frames images shares b) q NotOpen ≡ false ⌝ }
     requires { ⌜ Ready images b ⌝ }
-    requires { ⌜ Settled (viewFrom true frames images shares b) ⌝ }
     ensures { λ r. ⌜ Decided (viewFrom true frames images shares b) q b r ⌝ }
 {
     let present = b.present;
@@ -115,7 +100,7 @@ fn decide_further(b: Sandbox, frames: u8, images: u8, shares: u16, q: Request) -
 }
 
 // A refusal, and no areas.
-fn refuse(why: Refusal) -> Decision
+pub fn refuse(why: Refusal) -> Decision
     ensures { λ r. ⌜ r ≡ record { verdict = Verdict.Refused why; areas = empty } ⌝ }
 {
     let areas = Areas::empty();

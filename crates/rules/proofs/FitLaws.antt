@@ -10,9 +10,6 @@ use Rattle.interface.specs.declared.request.Request.{Request}
 use Rattle.interface.specs.Requests.{_is_, Map, Protect, Read, Write, backingOf}
 use Rattle.interface.specs.Limits.{between, rightsOk, pagesOk, placeOk, backingOk, usesOne, usesTwo, usesThree, within}
 use Rattle.interface.specs.Slots.{startOf}
-use Rattle.interface.specs.Refusals.{isTaken}
-use Rattle.state.specs.declared.sandbox.Sandbox.{Sandbox}
-use Rattle.state.specs.World.{copyOf}
 use Rattle.rules.specs.Ready.{Fit}
 
 rights-small : (r : ℕ) → rightsOk r ≡ true → r ≤ 3
@@ -89,7 +86,3 @@ page-small address h = omega arith
 pub start-small : (q : Request) → Fit q → q .code ≡ Map → startOf (backingOf q) ≤ 64
 start-small q f e =
     by-cases (eqb (q .p3) 0) (λ t. rw t (omega arith)) (λ t. rw t (f .image e (eqb-false (q .p3) 0 t)))
-
--- whether there is a snapshot
-pub taken-copy : (b : Sandbox) → isTaken (copyOf b) ≡ b .taken
-taken-copy b = by-cases (b .taken) (λ e. rw e) (λ e. rw e)

@@ -1,3 +1,2 @@
 pub mod FitLaws
-pub mod ShareLaws
 pub mod PackedLaws

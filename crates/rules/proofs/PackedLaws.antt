@@ -14,10 +14,10 @@ use Rattle.packing.specs.declared.pack.Packed.{Packed}
 use Rattle.packing.specs.declared.pack.Change.{Change}
 use Rattle.packing.specs.Pack.{pack, changed}
 use Rattle.packing.proofs.ChangeLaws.{commit-slots}
-use Rattle.state.specs.declared.sandbox.Sandbox.{Sandbox}
+use Rattle.records.specs.declared.Record.{Record}
 use Rattle.rules.specs.After.{packedAfter}
 
-module _ (q : Request) (b : Sandbox) (r : Packed) where
+module _ (q : Request) (b : Record) (r : Packed) where
   pub packed-map : q .code ≡ Map → (first : ℕ) (t : Attributes) → first ≡ firstOf (slots (b .present)) q → t ≡ newPage q
       → r ≡ pack (changed (slots (b .present)) first (q .p2) (Change.Map t)) → r ≡ packedAfter q b
   unfolding packedAfter slotsAfter
@@ -38,7 +38,7 @@ module _ (q : Request) (b : Sandbox) (r : Packed) where
   unfolding packedAfter slotsAfter
   packed-snapshot images w e h = rw e (rw (commit-slots (slots (b .present)) (slots-bounded images (b .present) w)) at h)
 
-module _ (q : Request) (b : Sandbox) where
+module _ (q : Request) (b : Record) where
   pub packed-rewind : q .code ≡ Rewind → record { areas = b .snapshot; fits = true } ≡ packedAfter q b
   unfolding packedAfter
   packed-rewind e = rw e

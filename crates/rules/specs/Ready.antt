@@ -1,17 +1,15 @@
--- What the code asks to be safe: of a request within its limits, of a sandbox of a sound state, and of a request that the rows before have let pass.
+-- What the code asks to be safe: of a request within its limits, of a record of a sound state, and of a request that the rows before have let pass.
 use mathlib.Core.Path.{_≡_}
 use mathlib.Core.Bool.{true, false}
 use Prim.Native.Nat.{ℕ, _+_, _≤_, _<_}
 use Rattle.interface.specs.Numbers.{PageCount, Addresses, AnyPage, AnonymousBacking, ReadWrite, MostShare, MostImagePages, ByteValues}
 use Rattle.interface.specs.declared.request.Request.{Request}
 use Rattle.interface.specs.Requests.{Open, Map, Unmap, Protect, Read, Write, Rewind}
-use Rattle.interface.specs.Slots.{isCommitted, backingAt, allAre, chargeOf}
+use Rattle.interface.specs.Slots.{allAre}
 use Rattle.interface.specs.Outcome.{firstOf}
 use Rattle.interface.specs.Refusals.{View, isTaken}
-use Rattle.areas.specs.Areas.{slots}
-use Rattle.areas.specs.Formed.{WellFormed}
-use Rattle.state.specs.declared.sandbox.Sandbox.{Sandbox}
-use Rattle.state.specs.World.{copyOf}
+use Rattle.records.specs.declared.Record.{Record}
+use Rattle.records.specs.Sound.{SoundRecord}
 
 -- what the limits of its parameters say of a request, over an image of at most 64 pages
 pub record Fit (q : Request) : Type 0 where
@@ -24,16 +22,10 @@ pub record Fit (q : Request) : Type 0 where
   pub read : q .code ≡ Read → q .p1 < Addresses
   pub written : q .code ≡ Write → (q .p1 < Addresses) × (q .p2 < ByteValues)
 
--- a sandbox of a sound state, over an image of so many pages, at most 64
-pub record Ready (images : ℕ) (b : Sandbox) : Type 0 where
+-- a sound record, over an image of so many pages, at most 64
+pub record Ready (images : ℕ) (r : Record) : Type 0 where
   pub few : images ≤ MostImagePages
-  pub present : WellFormed images (b .present)
-  pub snapshot : WellFormed images (b .snapshot)
-  -- "committed pages .. agree with them in backing"
-  pub backing : (i : ℕ) → isCommitted (slots (b .present) i) ≡ true → backingAt (slots (b .present) i) ≡ backingAt (slots (b .snapshot) i)
-  -- "the charge .. limits hold"; "a closed one has nothing"
-  pub charged : chargeOf (slots (b .present)) (copyOf b) ≤ b .share
-  pub closed : b .opened ≡ false → b .share ≡ 0
+  pub sound : SoundRecord images r
 
 -- a request that rows 5, 6, 8, 10 and 11 have let pass
 pub record Passed (v : View) (q : Request) : Type 0 where

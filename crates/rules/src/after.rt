@@ -1,11 +1,11 @@
-// What an accepted request makes of its sandbox.
+// What an accepted request makes of its sandbox's record.
 ghost use mathlib.Core.Path.{_≡_};
 ghost use mathlib.Core.Bool.{true};
 ghost use Prim.Native.Nat.{ℕ};
 ghost use Rattle.interface.specs.Requests.{Map, backingOf};
 ghost use Rattle.interface.specs.Outcome.{firstOf, newPage, shareAfter};
 ghost use Rattle.areas.specs.Areas.{slots, Near};
-ghost use Rattle.rules.specs.After.{packedAfter, takenAfter, snapshotAfter, sandboxWith};
+ghost use Rattle.rules.specs.After.{packedAfter, takenAfter, snapshotAfter, recordWith};
 ghost use Rattle.rules.specs.Ready.{Fit, Ready};
 use areas::area::Areas;
 use interface::Attributes;
@@ -16,10 +16,10 @@ use interface::Request;
 use packing::pack::Change;
 use packing::pack::Packed;
 use packing::pack::repack;
-use state::sandbox::Sandbox;
+use records::Record;
 
 // The areas that result, and whether they fit.
-pub fn packed_after(b: Sandbox, q: Request) -> Packed
+pub fn packed_after(b: Record, q: Request) -> Packed
     requires { ⌜ ((images : ℕ) × Ready images b) ⌝ }
     requires { ⌜ Fit q ⌝ }
     ensures { λ r. ⌜ r ≡ packedAfter q b ⌝ }
@@ -93,10 +93,10 @@ fn backing_of(q: Request) -> Backing
     Backing::Image(ImagePageNo(q.p4 as u8))
 }
 
-// The sandbox after an accepted request, whose areas are these.
-pub fn sandbox_after(b: Sandbox, q: Request, present: Areas) -> Sandbox
+// The record after an accepted request, whose areas are these.
+pub fn record_after(b: Record, q: Request, present: Areas) -> Record
     requires { ⌜ Fit q ⌝ }
-    ensures { λ r. ⌜ r ≡ sandboxWith q present b ⌝ }
+    ensures { λ r. ⌜ r ≡ recordWith q present b ⌝ }
 {
     let snapshot = snapshot_after(q, present, b.snapshot);
     let taken = taken_after(q, b.taken);

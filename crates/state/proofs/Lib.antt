@@ -1,6 +1,5 @@
 pub mod LengthLaws
 pub mod SharesLaws
 pub mod LentLaws
-pub mod SettledLaws
 pub mod NearLaws
 pub mod StartLaws

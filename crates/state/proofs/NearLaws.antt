@@ -9,22 +9,11 @@ use Rattle.interface.specs.declared.page.Backing.the-variants.{Image}
 use Rattle.interface.specs.Slots.{backingAt}
 use Rattle.table.specs.Store.{Ranged}
 use Rattle.table.proofs.FiledLaws.{filed-ranged}
-use Rattle.areas.specs.declared.area.Areas.{Areas}
 use Rattle.areas.specs.Areas.{slots, Near}
-use Rattle.areas.specs.Formed.{ImagesExist, WellFormed}
-use Rattle.areas.specs.Order.{AllInOrder}
 use Rattle.areas.proofs.FormedLaws.{near}
-use Rattle.areas.proofs.OrderLaws.{slots-order, order-image}
+use Rattle.records.proofs.ImageLaws.{image-page}
 use Rattle.state.specs.World.{World, sandboxAt, framesOf, pagesIn}
 use Rattle.state.specs.Sound.{Sound}
-
--- the image page behind a page of well formed areas exists
-pub image-exists : (images : ℕ) (a : Areas) → WellFormed images a → (i : ℕ) → ImagesExist images (backingAt (slots a i)) 1
-unfolding AllInOrder
-image-exists images a f i = order-image images (slots a i) (slots-order images a f i)
-
-pub image-page : (images : ℕ) (a : Areas) → WellFormed images a → (i : ℕ) (page : ImagePageNo) → backingAt (slots a i) ≡ Image page → page .0 < images
-image-page images a f i page e = let h = rw e at (image-exists images a f i) in omega arith
 
 -- each entry names a frame of the pool or none
 pub sound-ranged : (image : List ℕ) (w : World) → Sound image w → Ranged 256 (w .store .pool) (w .store .table)
@@ -36,14 +25,14 @@ module _ (image : List ℕ) (w : World) (S : Sound image w) where
   page-bytes page h = omega (arith, S .whole)
 
   module _ (s : ℕ) (l : s < 4) where
-    pub present-near : Near (sandboxAt w s .present .list)
-    present-near = near (pagesIn (length image)) (sandboxAt w s .present) (S .each s l .present) (S .images)
+    pub present-near : Near (sandboxAt w s .rec .present .list)
+    present-near = near (pagesIn (length image)) (sandboxAt w s .rec .present) (S .each s l .rec .present) (S .images)
 
-    pub snapshot-near : Near (sandboxAt w s .snapshot .list)
-    snapshot-near = near (pagesIn (length image)) (sandboxAt w s .snapshot) (S .each s l .snapshot) (S .images)
+    pub snapshot-near : Near (sandboxAt w s .rec .snapshot .list)
+    snapshot-near = near (pagesIn (length image)) (sandboxAt w s .rec .snapshot) (S .each s l .rec .snapshot) (S .images)
 
-    pub present-image : (i : ℕ) (page : ImagePageNo) → backingAt (slots (sandboxAt w s .present) i) ≡ Image page → page .0 < pagesIn (length image)
-    present-image = image-page (pagesIn (length image)) (sandboxAt w s .present) (S .each s l .present)
+    pub present-image : (i : ℕ) (page : ImagePageNo) → backingAt (slots (sandboxAt w s .rec .present) i) ≡ Image page → page .0 < pagesIn (length image)
+    present-image = image-page (pagesIn (length image)) (sandboxAt w s .rec .present) (S .each s l .rec .present)
 
-    pub snapshot-image : (i : ℕ) (page : ImagePageNo) → backingAt (slots (sandboxAt w s .snapshot) i) ≡ Image page → page .0 < pagesIn (length image)
-    snapshot-image = image-page (pagesIn (length image)) (sandboxAt w s .snapshot) (S .each s l .snapshot)
+    pub snapshot-image : (i : ℕ) (page : ImagePageNo) → backingAt (slots (sandboxAt w s .rec .snapshot) i) ≡ Image page → page .0 < pagesIn (length image)
+    snapshot-image = image-page (pagesIn (length image)) (sandboxAt w s .rec .snapshot) (S .each s l .rec .snapshot)

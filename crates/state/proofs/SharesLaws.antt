@@ -7,10 +7,12 @@ use Rattle.state.specs.declared.sandbox.Sandbox.{Sandbox}
 abbrev pub zeroSandbox : Sandbox
 zeroSandbox =
     record {
-      opened = false;
-      share = 0;
-      present = record { count = 0; list = [] };
-      taken = false;
-      snapshot = record { count = 0; list = [] };
+      rec = record {
+        opened = false;
+        share = 0;
+        present = record { count = 0; list = [] };
+        taken = false;
+        snapshot = record { count = 0; list = [] };
+      };
       runs = record { list = [] };
     }

@@ -1,43 +1,32 @@
 -- A sound state: "A state is sound if", each condition a field, in the order of document 01.
 use mathlib.Core.Path.{_≡_}
-use mathlib.Core.Bool.{true, false}
+use mathlib.Core.Bool.{false}
 use mathlib.Core.List.{List}
 use Prim.Native.Nat.{ℕ, _+_, _*_, _≤_, _<_}
 use lib.ListN.{length}
-use Rattle.interface.specs.Slots.{isMapped, isCommitted, backingAt, chargeOf}
+use Rattle.interface.specs.Slots.{isMapped}
 use Rattle.marks.specs.Named.{usedBelow}
 use Rattle.marks.specs.Marks.{from}
 use Rattle.table.specs.Store.{Store, entry, frontOf, backOf, Filed}
-use Rattle.runs.specs.Row.{row}
+use Rattle.runs.specs.Row.{row, noRuns}
 use Rattle.kept.specs.Spare.{keptBy, Spare, Words}
-use Rattle.areas.specs.Areas.{slots, empty}
-use Rattle.areas.specs.Formed.{WellFormed}
+use Rattle.areas.specs.Areas.{slots}
+use Rattle.records.specs.Sound.{SoundRecord}
 use Rattle.state.specs.declared.sandbox.Sandbox.{Sandbox}
-use Rattle.state.specs.World.{World, sandboxAt, sharesOf, copyOf, framesOf, pagesIn, closedSandbox, rowsOf}
+use Rattle.state.specs.World.{World, sandboxAt, sharesOf, framesOf, pagesIn, rowsOf}
 
 -- of sandbox s, over an image of so many pages
 pub record SoundAt (images : ℕ) (st : Store) (s : ℕ) (b : Sandbox) : Type 0 where
-  -- "areas, the snapshot's too, are at most 8, with rights 1 or 3, lie in 0 to 63, ordered, apart and longest; image pages exist"
-  pub present : WellFormed images (b .present)
-  pub snapshot : WellFormed images (b .snapshot)
-  -- "the snapshot's areas are marked committed"
-  pub marked : (i : ℕ) → isMapped (slots (b .snapshot) i) ≡ true → isCommitted (slots (b .snapshot) i) ≡ true
-  -- "committed pages are snapshot pages and agree with them in backing"
-  pub committed : (i : ℕ) → isCommitted (slots (b .present) i) ≡ true → isMapped (slots (b .snapshot) i) ≡ true
-  pub backing : (i : ℕ) → isCommitted (slots (b .present) i) ≡ true → backingAt (slots (b .present) i) ≡ backingAt (slots (b .snapshot) i)
+  -- areas, the snapshot's too, charge and share
+  pub rec : SoundRecord images (b .rec)
   -- "fronts stand on mapped pages only, backs on snapshot pages only"
-  pub fronts : (i : ℕ) → i < 64 → isMapped (slots (b .present) i) ≡ false → entry st (frontOf s i) ≡ 0
-  pub backs : (i : ℕ) → i < 64 → isMapped (slots (b .snapshot) i) ≡ false → entry st (backOf s i) ≡ 0
-  -- "the charge and share limits hold"
-  pub charged : chargeOf (slots (b .present)) (copyOf b) ≤ b .share
-  pub shared : b .opened ≡ true → (1 ≤ b .share) × (b .share ≤ 128)
+  pub fronts : (i : ℕ) → i < 64 → isMapped (slots (b .rec .present) i) ≡ false → entry st (frontOf s i) ≡ 0
+  pub backs : (i : ℕ) → i < 64 → isMapped (slots (b .rec .snapshot) i) ≡ false → entry st (backOf s i) ≡ 0
   -- kept frames "with fronts and backs stay within the share" (A3); "At most 8 runs are kept"
-  pub inShare : usedBelow (from (s * 128) (st .table)) 128 + keptBy (row (b .runs)) ≤ b .share
+  pub inShare : usedBelow (from (s * 128) (st .table)) 128 + keptBy (row (b .runs)) ≤ b .rec .share
   pub places : length (b .runs .list) ≡ 8
-  -- "a sandbox without a snapshot has no committed page": the snapshot's areas are empty
-  pub untaken : b .taken ≡ false → b .snapshot ≡ empty
-  -- "a closed one has nothing"
-  pub closed : b .opened ≡ false → b ≡ closedSandbox
+  -- "a closed one has nothing": it keeps no run either
+  pub closed : b .rec .opened ≡ false → b .runs ≡ noRuns
 
 pub record Sound (image : List ℕ) (w : World) : Type 0 where
   -- the lent lengths

@@ -1,23 +1,17 @@
 -- The world of the machine: four sandboxes, and the store made of held marks, lent pool and lent table.
-use mathlib.Core.Bool.{Bool, false, _&&_}
-use mathlib.Core.Option.{Option, some, none}
+use mathlib.Core.Bool.{Bool, _&&_}
 use mathlib.Core.List.{List}
 use Prim.Native.Nat.{ℕ, _/_, _%_}
 use lib.Dec.{eqb}
 use lib.ListN.{length, getD, set, replicate}
-use Rattle.basics.specs.Choice.{_when_else_}
 use Rattle.basics.specs.Ranges.{sum}
 use Rattle.interface.specs.Numbers.{Sandboxes, PageBytes, MostFrames, MostImagePages, TableEntries}
-use Rattle.interface.specs.Slots.{Slots}
 use Rattle.interface.specs.Limits.{between}
-use Rattle.interface.specs.Refusals.{View}
 use Rattle.frames.specs.declared.Held.{Held}
 use Rattle.frames.specs.Frames.{noneHeld}
-use Rattle.runs.specs.declared.Runs.{Runs}
 use Rattle.runs.specs.Row.{row, noRuns}
 use Rattle.table.specs.Store.{Store, kept, fresh}
-use Rattle.areas.specs.declared.area.Areas.{Areas}
-use Rattle.areas.specs.Areas.{empty, slots}
+use Rattle.records.specs.Record.{closedRecord}
 use Rattle.state.specs.declared.sandbox.Sandbox.{Sandbox}
 use Rattle.state.specs.declared.sandbox.Machine.{Machine}
 
@@ -31,7 +25,7 @@ worldOf m pool table = record { sandboxes = m .sandboxes; store = kept (m .held)
 
 -- a closed sandbox has nothing
 abbrev pub closedSandbox : Sandbox
-closedSandbox = record { opened = false; share = 0; present = empty; taken = false; snapshot = empty; runs = noRuns }
+closedSandbox = record { rec = closedRecord; runs = noRuns }
 
 -- "A fresh state has four closed sandboxes and no held frame"
 abbrev pub freshMachine : Machine
@@ -49,25 +43,6 @@ sandboxIn row s = getD row s closedSandbox
 abbrev pub sandboxAt : World → ℕ → Sandbox
 sandboxAt w s = sandboxIn (w .sandboxes) s
 
--- one setter for each field of a sandbox
-abbrev pub withOpened : Bool → Sandbox → Sandbox
-withOpened x b = record { opened = x; share = b .share; present = b .present; taken = b .taken; snapshot = b .snapshot; runs = b .runs }
-
-abbrev pub withShare : ℕ → Sandbox → Sandbox
-withShare x b = record { opened = b .opened; share = x; present = b .present; taken = b .taken; snapshot = b .snapshot; runs = b .runs }
-
-abbrev pub withPresent : Areas → Sandbox → Sandbox
-withPresent x b = record { opened = b .opened; share = b .share; present = x; taken = b .taken; snapshot = b .snapshot; runs = b .runs }
-
-abbrev pub withTaken : Bool → Sandbox → Sandbox
-withTaken x b = record { opened = b .opened; share = b .share; present = b .present; taken = x; snapshot = b .snapshot; runs = b .runs }
-
-abbrev pub withSnapshot : Areas → Sandbox → Sandbox
-withSnapshot x b = record { opened = b .opened; share = b .share; present = b .present; taken = b .taken; snapshot = x; runs = b .runs }
-
-abbrev pub withRuns : Runs → Sandbox → Sandbox
-withRuns x b = record { opened = b .opened; share = b .share; present = b .present; taken = b .taken; snapshot = b .snapshot; runs = x }
-
 -- the runs of kept frames of each sandbox, by their places
 abbrev pub rowsOf : World → ℕ → ℕ → Held
 rowsOf w s = row (sandboxAt w s .runs)
@@ -84,29 +59,12 @@ pagesIn bytes = bytes / PageBytes
 abbrev pub framesOf : World → ℕ
 framesOf w = pagesIn (length (w .store .pool))
 
--- the snapshot's slots, where there is one
-abbrev pub copyOf : Sandbox → Option Slots
-copyOf b = some (slots (b .snapshot)) when b .taken else none
-
 -- "the shares together"
 abbrev pub sharesIn : List Sandbox → ℕ
-sharesIn row = sum (λ s. sandboxIn row s .share) Sandboxes
+sharesIn row = sum (λ s. sandboxIn row s .rec .share) Sandboxes
 
 abbrev pub sharesOf : World → ℕ
 sharesOf w = sharesIn (w .sandboxes)
-
--- what refusals are decided from, of this sandbox: whether lengths and state are right, the frames of the pool, the pages of the image, the shares of all
-abbrev pub viewFrom : Bool → ℕ → ℕ → ℕ → Sandbox → View
-viewFrom sound frames imagePages shares b = record {
-  sound = sound;
-  frames = frames;
-  imagePages = imagePages;
-  shares = shares;
-  opened = b .opened;
-  share = b .share;
-  slots = slots (b .present);
-  copy = copyOf b;
-}
 
 -- so many bytes are whole pages, at least low and at most high of them
 abbrev pub wholePages : ℕ → ℕ → ℕ → Bool

@@ -1,7 +1,6 @@
 // The machine's state: four sandboxes and the held marks, beside the lent pool, page table and image.
-// It promises: what a sound state is (specs/Sound), what a start leaves (specs/Start), which lent lengths are right, and the charge of a
-// sandbox, computed.
-// It stands on `areas` for the mappings and on `table`, `marks` and `kept` for the frames.
+// It promises: what a sound state is (specs/Sound), what a start leaves (specs/Start), and which lent lengths are right.
+// It stands on `records` for a sandbox's record and on `table`, `marks` and `kept` for the frames.
 pub mod lengths;
 pub mod sandbox;
 

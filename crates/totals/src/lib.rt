@@ -15,13 +15,13 @@ use state::sandbox::Sandbox;
 
 // "the shares together"
 pub fn shares(sandboxes: [Sandbox; Machine::SANDBOXES]) -> u16
-    ensures { λ r. ⌜ r ≡ sum (λ s. getD sandboxes s closedSandbox .share) 4 ⌝ }
+    ensures { λ r. ⌜ r ≡ sum (λ s. getD sandboxes s closedSandbox .rec .share) 4 ⌝ }
     ensures small { λ r. ⌜ r ≤ 1020 ⌝ }
 {
     let mut n: u16 = 0;
     for k in 0..Machine::SANDBOXES {
         let b = sandboxes[k];
-        n += b.share as u16;
+        n += b.rec.share as u16;
     }
     n
 }

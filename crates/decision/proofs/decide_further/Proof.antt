@@ -11,7 +11,8 @@ use Rattle.interface.specs.Refusals.{View, applies}
 use Rattle.interface.specs.Settled.{Settled}
 use Rattle.areas.specs.Areas.{Near}
 use Rattle.areas.proofs.FormedLaws.{near}
-use Rattle.state.specs.World.{viewFrom}
+use Rattle.records.specs.Record.{viewFrom}
+use Rattle.records.proofs.SettledLaws.{settled-of}
 use Rattle.rules.specs.Ready.{Ready, Fit, Passed}
 use Rattle.decision.proofs.DecideLaws.{Behind, sound-call, fit-of, passed-of, limits-row, refused, accepted, packed-row}
 use borrow.Author.Needs.{needs}
@@ -27,10 +28,10 @@ abbrev request : tie.Start → Request
 request s = s .args .q
 
 ready : (s : tie.Start) → Ready (s .args .images) (s .args .b)
-ready s = s .pre .1 .1 .0
+ready s = s .pre .1 .1
 
 settled : (s : tie.Start) → Settled (view s)
-settled s = s .pre .1 .1 .1
+settled s = settled-of (s .args .images) (s .args .b) (ready s .sound) true (s .args .frames) (s .args .images) (s .args .shares)
 
 -- no row before this one applies
 abbrev Past : Refusal → tie.Start → Type 0
@@ -46,7 +47,7 @@ past4 s = (s .pre .1 .0, sound-call (view s) (request s) refl (s .pre .0))
 -- the present areas can be looked at where the request fits
 to-look-at : (s : tie.Start) → Past SnapshotTaken s → Near (s .args .b .present .list) × Fit (request s)
 to-look-at s p =
-    (near (s .args .images) (s .args .b .present) (ready s .present) (ready s .few), fit-of (view s) (request s) (ready s .few) p)
+    (near (s .args .images) (s .args .b .present) (ready s .sound .present) (ready s .few), fit-of (view s) (request s) (ready s .few) p)
 
 passed : (s : tie.Start) → Past NotWritable s → Passed (view s) (request s)
 passed s p = passed-of (view s) (request s) (ready s .few) p
@@ -129,7 +130,7 @@ abbrev at13 : tie.After-share-exceeded → tie.Start
 at13 c = at12 (c .before .before)
 
 row13 : (c : tie.After-share-exceeded) → c .share-exceeded .result ≡ Row ShareExceeded (at13 c)
-row13 c = c .share-exceeded .ensures (at13 c .args .images) (settled (at13 c)) (passed (at13 c) (past12 (c .before) .1))
+row13 c = c .share-exceeded .ensures (at13 c .args .images) (passed (at13 c) (past12 (c .before) .1))
 
 past13 : (c : tie.Else9) → Past TooManyAreas (at13 (c .before))
 past13 c = (sym (row13 (c .before)) ∙ c .if9 .left, past12 (c .before .before))

@@ -11,13 +11,13 @@ use Rattle.rules.proofs.after.packed_after.Tie as tie
 
 -- the present areas are well formed
 present-formed : (s : tie.Start) → Formed (s .args .b .present)
-present-formed s = settled (s .pre .0 .0) (s .args .b .present) (s .pre .0 .1 .present) (s .pre .0 .1 .few)
+present-formed s = settled (s .pre .0 .0) (s .args .b .present) (s .pre .0 .1 .sound .present) (s .pre .0 .1 .few)
 
 first-of-requires : tie.Need-first-of-requires
 first-of-requires c κs =
     let start = c .before .before in
     let r = start .pre .0 in
-    (near (r .0) (start .args .b .present) (r .1 .present) (r .1 .few), (c .match .keys1, start .pre .1))
+    (near (r .0) (start .args .b .present) (r .1 .sound .present) (r .1 .few), (c .match .keys1, start .pre .1))
 
 cast-repack : tie.Need-cast-repack
 cast-repack c = omega (arith, c .before .before .before .before .pre .1 .place (c .before .before .match .keys1) .1)
@@ -84,7 +84,7 @@ returns-4 : tie.Need-returns-4
 returns-4 c =
     let start = c .before .before .before in
     let r = start .pre .0 in
-    packed-snapshot (start .args .q) (start .args .b) (c .repack4 .result) (r .0) (r .1 .present) (c .before .match .keys4) (c .repack4 .ensures)
+    packed-snapshot (start .args .q) (start .args .b) (c .repack4 .result) (r .0) (r .1 .sound .present) (c .before .match .keys4) (c .repack4 .ensures)
 
 returns-5 : tie.Need-returns-5
 returns-5 c =

@@ -1,0 +1,2 @@
+pub mod SettledLaws
+pub mod ImageLaws
