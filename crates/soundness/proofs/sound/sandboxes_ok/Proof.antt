@@ -20,7 +20,7 @@ use Rattle.state.specs.World.{World, sandboxAt, closedSandbox}
 use Rattle.soundness.specs.Test.{sandboxOk, runsOkAt}
 use Rattle.soundness.proofs.TestLaws.{passed-true}
 use Rattle.soundness.proofs.Room.{passed-share}
-use Rattle.soundness.proofs.SandboxLaws.{sandbox-stops, runs-decide}
+use Rattle.soundness.proofs.SandboxLaws.{sandbox-tested, sandbox-stops, runs-decide}
 use Rattle.soundness.proofs.sound.sandboxes_ok.Statement.{statement}
 use Rattle.soundness.proofs.sound.sandboxes_ok.Tie as tie
 
