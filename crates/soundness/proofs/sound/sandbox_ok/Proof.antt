@@ -13,11 +13,11 @@ record-ok-requires : tie.Need-record-ok-requires
 record-ok-requires c κs = search needs
 
 returns : tie.Need-returns
-returns c = λ h pool. rw (← c .before .record-ok .ensures, not-true _ (c .if1 .taken))
+returns c = λ h pool. rw (← c .before .record-ok .ensures, not-true (c .before .record-ok .result) (c .if1 .taken))
 
 -- the way back from where a fact is needed to where it was learned
 abbrev start-of-else1 : tie.Else1 → tie.Start
-start-of-else1 c = c .before .before
+start-of-else1 c = c .before .before .before
 
 record-hold : (c : tie.Else1) → recordOk (start-of-else1 c .args .images) (start-of-else1 c .args .rec) ≡ true
 record-hold c = sym (c .before .record-ok .ensures) ∙ not-false _ (c .if1 .left)
