@@ -17,7 +17,7 @@ use Rattle.totals.proofs.shares.Tie as tie
 
 -- the share of each sandbox
 abbrev shareAt : List Sandbox → ℕ → ℕ
-shareAt sandboxes s = getD sandboxes s closedSandbox .share
+shareAt sandboxes s = getD sandboxes s closedSandbox .rec .share
 
 abbrev Inv-loop : tie.InvT-loop
 Inv-loop sandboxes n₀ k₀ n k = (k ≤ 4) × (n ≡ sum (shareAt sandboxes) k) × (n ≤ k * 255)
@@ -46,7 +46,7 @@ cast-n : tie.Need-cast-n Inv-loop μ-loop
 cast-n c = search needs
 
 add-n : tie.Need-add-n Inv-loop μ-loop
-add-n c = let l = at-loop c .loop in omega (arith, l .inv .2, c .before .before .loop-test .taken, c .struct-known .given .1 .0 .fits)
+add-n c = let l = at-loop c .loop in omega (arith, l .inv .2, c .before .before .loop-test .taken, c .struct-known .given .0 .1 .0 .fits)
 
 add-k : tie.Need-add-k Inv-loop μ-loop
 add-k c = search needs
@@ -61,8 +61,8 @@ loop-again c =
     let low = c .before .before .loop-test .taken in
     let same = getD-any (start .args .t1) (l .k) zeroSandbox closedSandbox (let e = four start in omega (arith, low, e)) in (
       search needs,
-      sum-more (shareAt (start .args .t1)) (l .k) (l .n) _ (l .inv .1) (ap (λ (b : Sandbox). b .share) same),
-      omega (arith, l .inv .2, c .struct-known .given .1 .0 .fits),
+      sum-more (shareAt (start .args .t1)) (l .k) (l .n) _ (l .inv .1) (ap (λ (b : Sandbox). b .rec .share) same),
+      omega (arith, l .inv .2, c .struct-known .given .0 .1 .0 .fits),
     )
 
 returns : tie.Need-returns Inv-loop μ-loop
