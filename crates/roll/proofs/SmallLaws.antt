@@ -84,7 +84,7 @@ unfolding numberAt
 unrefused image w q e = e
 
 -- "Value: first page"
-first-low : (image : List ℕ) (w : World) (q : Request) → numberAt image w q ≡ 0 → q .code ≡ Map → firstOf (slots (sandboxAt w (q .sandbox) .present)) q ≤ 64
+first-low : (image : List ℕ) (w : World) (q : Request) → numberAt image w q ≡ 0 → q .code ≡ Map → firstOf (slots (sandboxAt w (q .sandbox) .rec .present)) q ≤ 64
 first-low image w q e m =
     let v = viewAt image w (q .sandbox) in
     let fits = map-fits v q (accepted v q (unrefused image w q e)) m in
