@@ -108,7 +108,7 @@ module _ (image : List ℕ) (w : World) (s : ℕ) where
 
   module _ (sound : soundb image w ≡ true) (row : s < 4) where
     well : WellFormed (pagesIn (length image)) (b .rec .snapshot)
-    well = tested image w sound .each s (omega arith) .snapshot
+    well = tested image w sound .each s (omega arith) .rec .snapshot
 
     -- its snapshot's bytes can be read
     pub readable : Readable image (w .store .pool) (w .store .table) handedOn

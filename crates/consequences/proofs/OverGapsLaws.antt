@@ -24,6 +24,7 @@ use Rattle.interface.proofs.AcceptedLaws.{accepted}
 use Rattle.interface.proofs.AloneLaws.{Unmapping, alone}
 use Rattle.table.specs.Store.{entry, frontOf, freeTo}
 use Rattle.table.proofs.FreeLaws.{freeTo-join, freeTo-none}
+use Rattle.areas.specs.declared.area.Areas.{Areas}
 use Rattle.areas.specs.Areas.{slots}
 use Rattle.areas.proofs.FewAreas.{few-areas}
 use Rattle.packing.specs.declared.pack.Change.the-variants.{Unmap}
@@ -31,7 +32,8 @@ use Rattle.packing.specs.Pack.{pack}
 use Rattle.packing.proofs.PackLaws.{areas-fit}
 use Rattle.packing.proofs.KeptLaws.{repack-slots, pack-slots}
 use Rattle.state.specs.declared.sandbox.Sandbox.{Sandbox}
-use Rattle.state.specs.World.{World, sandboxAt, withPresent, closedSandbox, pagesIn}
+use Rattle.records.specs.Record.{withPresent}
+use Rattle.state.specs.World.{World, sandboxAt, closedSandbox, pagesIn}
 use Rattle.state.specs.Sound.{SoundAt, Sound}
 use Rattle.soundness.proofs.TestLaws.{sound-of}
 use Rattle.areas.proofs.OrderLaws.{slots-inside}

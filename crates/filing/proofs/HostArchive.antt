@@ -11,7 +11,8 @@ use Rattle.basics.proofs.TestLaws.{by-cases, or-left}
 use Rattle.interface.specs.declared.request.Request.{Request}
 use Rattle.interface.specs.Answers.{Answered}
 use Rattle.interface.specs.Refusals.{View, isTaken, archiveRefusal}
-use Rattle.state.specs.World.{World, sandboxAt, copyOf}
+use Rattle.records.specs.Record.{copyOf}
+use Rattle.state.specs.World.{World, sandboxAt}
 use Rattle.machine.specs.Step.{viewAt}
 use Rattle.soundness.specs.Test.{soundb}
 use Rattle.layout.specs.Layout.{isState}
