@@ -29,8 +29,8 @@ pub sound-is-shaped : SoundIsShaped
 sound-is-shaped image w s = record {
   row = s .row;
   each = λ k l. record {
-    present = s .each k l .present .eight;
-    snapshot = s .each k l .snapshot .eight;
+    present = s .each k l .rec .present .eight;
+    snapshot = s .each k l .rec .snapshot .eight;
     runs = s .each k l .places;
     words = s .words k l;
   };

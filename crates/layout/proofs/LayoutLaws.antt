@@ -117,27 +117,30 @@ module _ (b : Sandbox) where
   unfolding sandboxBytes
   part-of = part-flat (sandboxParts b) (sized-sandbox b)
 
-  heads : (getD (sandboxBytes b) 0 0 ≡ one (b .opened)) × ((getD (sandboxBytes b) 1 0 ≡ b .share) × (getD (sandboxBytes b) 2 0 ≡ one (b .taken)))
+  heads : (getD (sandboxBytes b) 0 0 ≡ one (b .rec .opened))
+      × ((getD (sandboxBytes b) 1 0 ≡ b .rec .share) × (getD (sandboxBytes b) 2 0 ≡ one (b .rec .taken)))
   unfolding sandboxBytes
   heads = (refl, (refl, refl))
 
   sandbox-again : Placed b → sandboxFrom (sandboxBytes b) ≡ b
   unfolding sandboxFrom
   sandbox-again p = λ i. record {
-    opened = (ap (λ (n : ℕ). eqb n 1) (heads .0) ∙ flag-again (b .opened)) i;
-    share = heads .1 .0 i;
-    taken = (ap (λ (n : ℕ). eqb n 1) (heads .1 .1) ∙ flag-again (b .taken)) i;
-    present = (ap areasFrom (part-of 3) ∙ areas-again (b .present) (p .present)) i;
-    snapshot = (ap areasFrom (part-of 4) ∙ areas-again (b .snapshot) (p .snapshot)) i;
+    rec = record {
+      opened = (ap (λ (n : ℕ). eqb n 1) (heads .0) ∙ flag-again (b .rec .opened)) i;
+      share = heads .1 .0 i;
+      taken = (ap (λ (n : ℕ). eqb n 1) (heads .1 .1) ∙ flag-again (b .rec .taken)) i;
+      present = (ap areasFrom (part-of 3) ∙ areas-again (b .rec .present) (p .present)) i;
+      snapshot = (ap areasFrom (part-of 4) ∙ areas-again (b .rec .snapshot) (p .snapshot)) i;
+    };
     runs = (ap runsFrom (part-of 5) ∙ runs-again (b .runs) (p .runs) (p .words)) i;
   }
 
   sandbox-passes : isSandbox (sandboxBytes b) ≡ true
   unfolding isSandbox
   sandbox-passes =
-      and-of (ap (λ (n : ℕ). leb n 1) (heads .0) ∙ flag-small (b .opened))
-      (and-of (ap (λ (n : ℕ). leb n 1) (heads .1 .1) ∙ flag-small (b .taken))
-      (and-of (ap isAreas (part-of 3) ∙ areas-pass (b .present)) (ap isAreas (part-of 4) ∙ areas-pass (b .snapshot))))
+      and-of (ap (λ (n : ℕ). leb n 1) (heads .0) ∙ flag-small (b .rec .opened))
+      (and-of (ap (λ (n : ℕ). leb n 1) (heads .1 .1) ∙ flag-small (b .rec .taken))
+      (and-of (ap isAreas (part-of 3) ∙ areas-pass (b .rec .present)) (ap isAreas (part-of 4) ∙ areas-pass (b .rec .snapshot))))
 
 sandbox-bytes-again : (l : List ℕ) → Bytes l → length l ≡ sandboxSize → isSandbox l ≡ true → sandboxBytes (sandboxFrom l) ≡ l
 unfolding sandboxBytes sandboxFrom isSandbox

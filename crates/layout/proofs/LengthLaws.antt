@@ -45,7 +45,7 @@ unfolding runsBytes
 length-runs r = length-row marksBytes noneHeld marksSize length-marks 8 (r .list)
 
 pub sized-sandbox : (b : Sandbox) → Sized (sandboxParts b)
-sized-sandbox b = (refl, (refl, (refl, (length-areas (b .present), (length-areas (b .snapshot), (length-runs (b .runs), tt))))))
+sized-sandbox b = (refl, (refl, (refl, (length-areas (b .rec .present), (length-areas (b .rec .snapshot), (length-runs (b .runs), tt))))))
 
 pub length-sandbox : (b : Sandbox) → length (sandboxBytes b) ≡ sandboxSize
 unfolding sandboxBytes

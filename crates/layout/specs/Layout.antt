@@ -114,11 +114,11 @@ runsBytes r = rowBytes marksBytes noneHeld 8 (r .list)
 -- a sandbox: 1 when open, the share, 1 when a snapshot was taken, its areas, the snapshot's areas, its runs
 abbrev pub sandboxParts : Sandbox → List Part
 sandboxParts b =
-    byte (one (b .opened))
-    ∷ byte (b .share)
-    ∷ byte (one (b .taken))
-    ∷ part areasSize (areasBytes (b .present))
-    ∷ part areasSize (areasBytes (b .snapshot))
+    byte (one (b .rec .opened))
+    ∷ byte (b .rec .share)
+    ∷ byte (one (b .rec .taken))
+    ∷ part areasSize (areasBytes (b .rec .present))
+    ∷ part areasSize (areasBytes (b .rec .snapshot))
     ∷ part runsSize (runsBytes (b .runs))
     ∷ []
 
@@ -160,11 +160,13 @@ runsFrom b = record { list = rowFrom marksFrom marksSize 8 b }
 
 unfoldable pub sandboxFrom : List ℕ → Sandbox
 sandboxFrom b = record {
-  opened = eqb (getD b 0 0) 1;
-  share = getD b 1 0;
-  taken = eqb (getD b 2 0) 1;
-  present = areasFrom (partAt b presentAt areasSize);
-  snapshot = areasFrom (partAt b snapshotAt areasSize);
+  rec = record {
+    opened = eqb (getD b 0 0) 1;
+    share = getD b 1 0;
+    taken = eqb (getD b 2 0) 1;
+    present = areasFrom (partAt b presentAt areasSize);
+    snapshot = areasFrom (partAt b snapshotAt areasSize);
+  };
   runs = runsFrom (partAt b runsAt runsSize);
 }
 
@@ -199,8 +201,8 @@ isState b = eqb (length b) stateSize && areSandboxes b
 -- ---- what the types of a state say: 8 places for areas and 8 for runs, a row of 4, words of 64 bits
 
 pub record Placed (b : Sandbox) : Type 0 where
-  pub present : length (b .present .list) ≡ 8
-  pub snapshot : length (b .snapshot .list) ≡ 8
+  pub present : length (b .rec .present .list) ≡ 8
+  pub snapshot : length (b .rec .snapshot .list) ≡ 8
   pub runs : length (b .runs .list) ≡ 8
   pub words : Words (row (b .runs))
 

@@ -12,21 +12,22 @@ use places::area::encode_areas;
 use places::area::is_areas;
 use places::run::decode_runs;
 use places::run::encode_runs;
+use records::Record;
 use state::sandbox::Sandbox;
 
 pub fn encode_sandbox(sandbox: Sandbox, out: &mut [u8])
     requires { ⌜ length (now out) ≡ sandboxSize ⌝ }
     ensures { λ r. ⌜ now (out .exit) ≡ sandboxBytes sandbox ⌝ }
 {
-    let present = sandbox.present;
-    let snapshot = sandbox.snapshot;
+    let present = sandbox.rec.present;
+    let snapshot = sandbox.rec.snapshot;
     let runs = sandbox.runs;
     encode_areas(present, &mut out[At::PRESENT..At::SNAPSHOT]);
     encode_areas(snapshot, &mut out[At::SNAPSHOT..At::RUNS]);
     encode_runs(runs, &mut out[At::RUNS..Size::SANDBOX]);
-    out[At::OPENED] = flag(sandbox.opened);
-    out[At::SHARE] = sandbox.share;
-    out[At::TAKEN] = flag(sandbox.taken);
+    out[At::OPENED] = flag(sandbox.rec.opened);
+    out[At::SHARE] = sandbox.rec.share;
+    out[At::TAKEN] = flag(sandbox.rec.taken);
 }
 
 pub fn decode_sandbox(bytes: &[u8]) -> Sandbox
@@ -36,12 +37,15 @@ pub fn decode_sandbox(bytes: &[u8]) -> Sandbox
     let present = decode_areas(&bytes[At::PRESENT..At::SNAPSHOT]);
     let snapshot = decode_areas(&bytes[At::SNAPSHOT..At::RUNS]);
     let runs = decode_runs(&bytes[At::RUNS..Size::SANDBOX]);
-    Sandbox {
+    let rec = Record {
         opened: bytes[At::OPENED] == 1,
         share: bytes[At::SHARE],
         present: present,
         taken: bytes[At::TAKEN] == 1,
         snapshot: snapshot,
+    };
+    Sandbox {
+        rec: rec,
         runs: runs,
     }
 }

@@ -23,11 +23,13 @@ use Rattle.table.specs.Store.{Store, entry, frontOf, backOf}
 use Rattle.kept.specs.Spare.{lengths, keptAt, keptBy}
 use Rattle.kept.proofs.SpareLaws.{frame-there as frame-kept}
 use Rattle.areas.specs.Areas.{slots}
+use Rattle.records.specs.Record.{copyOf}
+use Rattle.records.proofs.SettledLaws.{copied-as}
+use Rattle.record_soundness.proofs.RecordLaws.{passed-untaken}
 use Rattle.state.specs.declared.sandbox.Sandbox.{Sandbox}
-use Rattle.state.specs.World.{World, sandboxAt, copyOf, framesOf, pagesIn, rowsOf}
+use Rattle.state.specs.World.{World, sandboxAt, framesOf, pagesIn, rowsOf}
 use Rattle.state.specs.Sound.{SoundAt}
-use Rattle.soundness.proofs.TestLaws.{Passed, passed-committed, passed-untaken, sound-passed, Tested}
-use Rattle.state.proofs.SettledLaws.{copied-as}
+use Rattle.soundness.proofs.TestLaws.{Passed, passed-committed, sound-passed, Tested}
 
 -- ---- sums that are no greater, and less where one place is
 
@@ -58,18 +60,18 @@ module _ (f : ℕ → ℕ) (m : ℕ → Bool) (n : ℕ) (e : (i : ℕ) → i < n
 
 module _ (images : ℕ) (st : Store) (s : ℕ) (b : Sandbox) (P : Passed images st s b) where
   abbrev mappedAt : ℕ → Bool
-  mappedAt i = isMapped (slots (b .present) i)
+  mappedAt i = isMapped (slots (b .rec .present) i)
 
   abbrev copiedAt : ℕ → Bool
-  copiedAt i = isMapped (slots (b .snapshot) i)
+  copiedAt i = isMapped (slots (b .rec .snapshot) i)
 
-  covers : mappedPages (slots (b .present)) + count copiedAt 64 ≤ b .share
+  covers : mappedPages (slots (b .rec .present)) + count copiedAt 64 ≤ b .rec .share
   covers =
-      let copy = copied-as b (passed-untaken images st s b P) in
+      let copy = copied-as (b .rec) (passed-untaken images (b .rec) (P .rec)) in
       omega (
         arith,
-        P .charged,
-        charge-covers (slots (b .present)) (copyOf b) copiedAt (λ i c. rw copy (passed-committed images st s b P i c .1)) (λ i c. rw copy c),
+        P .rec .charged,
+        charge-covers (slots (b .rec .present)) (copyOf (b .rec)) copiedAt (λ i c. rw copy (passed-committed images st s b P i c)) (λ i c. rw copy c),
       )
 
   used-by : (k : ℕ) (m : Bool) → (m ≡ false → entry st k ≡ 0) → used (entry st k) ≤ one m
@@ -85,13 +87,13 @@ module _ (images : ℕ) (st : Store) (s : ℕ) (b : Sandbox) (P : Passed images 
       (λ i l. let z : s * 128 + (64 + i) ≡ s * 128 + i + 64 = omega arith in rw z (used-by (backOf s i) (copiedAt i) (P .page i l .backs)))
 
   -- its entries name at most as many frames as its share
-  pub passed-share : usedBelow (from (s * 128) (st .table)) 128 ≤ b .share
+  pub passed-share : usedBelow (from (s * 128) (st .table)) 128 ≤ b .rec .share
   unfolding mappedPages
   passed-share = omega (arith, used-add (from (s * 128) (st .table)) 64 64, covers, backs, used-le (from (s * 128) (st .table)) mappedAt 64 fronts)
 
   -- and fewer where a mapped page has no front
-  passed-less : (i : ℕ) → i < 64 → isMapped (slots (b .present) i) ≡ true → entry st (frontOf s i) ≡ 0
-      → usedBelow (from (s * 128) (st .table)) 128 < b .share
+  passed-less : (i : ℕ) → i < 64 → isMapped (slots (b .rec .present) i) ≡ true → entry st (frontOf s i) ≡ 0
+      → usedBelow (from (s * 128) (st .table)) 128 < b .rec .share
   unfolding mappedPages
   passed-less i l m e =
       omega (
@@ -104,7 +106,7 @@ module _ (images : ℕ) (st : Store) (s : ℕ) (b : Sandbox) (P : Passed images 
 
 -- ---- the world
 
-pub holds-share : (images : ℕ) (st : Store) (s : ℕ) (b : Sandbox) → SoundAt images st s b → usedBelow (from (s * 128) (st .table)) 128 ≤ b .share
+pub holds-share : (images : ℕ) (st : Store) (s : ℕ) (b : Sandbox) → SoundAt images st s b → usedBelow (from (s * 128) (st .table)) 128 ≤ b .rec .share
 holds-share images st s b S = omega (arith, S .inShare)
 
 -- fronts, backs and kept frames of sandbox s
@@ -112,29 +114,29 @@ abbrev pub holds : World → ℕ → ℕ
 holds w s = usedBelow (from (s * 128) (w .store .table)) 128 + keptBy (rowsOf w s)
 
 module _ (image : List ℕ) (w : World) (S : Tested image w) (s i : ℕ) (l : s < 4) (k : i < 64)
-    (m : isMapped (slots (sandboxAt w s .present) i) ≡ true) (e : entry (w .store) (frontOf s i) ≡ 0) where
+    (m : isMapped (slots (sandboxAt w s .rec .present) i) ≡ true) (e : entry (w .store) (frontOf s i) ≡ 0) where
   -- where a sandbox holds fewer frames than its share, entries and runs together hold fewer than the pool has
-  pub room : holds w s < sandboxAt w s .share → usedBelow (entry (w .store)) 512 + sum (λ t. keptBy (rowsOf w t)) 4 < framesOf w
+  pub room : holds w s < sandboxAt w s .rec .share → usedBelow (entry (w .store)) 512 + sum (λ t. keptBy (rowsOf w t)) 4 < framesOf w
   room h =
       omega (
         arith,
         used-parts (entry (w .store)) 128 4,
         S .pooled,
         sum-plus (λ t. usedBelow (from (t * 128) (w .store .table)) 128) (λ t. keptBy (rowsOf w t)) 4,
-        sum-less (λ t. holds w t) (λ t. sandboxAt w t .share) 4 s (λ t d. S .each t d .inShare) l h,
+        sum-less (λ t. holds w t) (λ t. sandboxAt w t .rec .share) 4 s (λ t d. S .each t d .inShare) l h,
       )
 
   -- so a frame of the pool is neither named nor kept
-  pub frame-there : holds w s < sandboxAt w s .share → (f : ℕ) × ((f < framesOf w) × ((held (w .store .marks) f ≡ 0) × (keptAt (rowsOf w) f ≡ 0)))
+  pub frame-there : holds w s < sandboxAt w s .rec .share → (f : ℕ) × ((f < framesOf w) × ((held (w .store .marks) f ≡ 0) × (keptAt (rowsOf w) f ≡ 0)))
   frame-there h = frame-kept 256 (framesOf w) (w .store) (rowsOf w) (S .filed) (S .spare) (room h)
 
   -- fronts and backs leave room within the share for the page's front
-  pub room-left : usedBelow (from (s * 128) (w .store .table)) 128 < sandboxAt w s .share
+  pub room-left : usedBelow (from (s * 128) (w .store .table)) 128 < sandboxAt w s .rec .share
   room-left =
       let images : ℕ = pagesIn (length image) in
       passed-less images (w .store) s (sandboxAt w s) (sound-passed images (w .store) s (sandboxAt w s) (S .each s l)) i k m e
 
   -- so where it holds as many as its share, it keeps a frame to give up
-  pub kept-there : sandboxAt w s .share ≤ holds w s → 1 ≤ lengths (rowsOf w s) (longestRun (lengths (rowsOf w s)))
+  pub kept-there : sandboxAt w s .rec .share ≤ holds w s → 1 ≤ lengths (rowsOf w s) (longestRun (lengths (rowsOf w s)))
   unfolding keptBy
   kept-there h = longest-some (lengths (rowsOf w s)) (omega (arith, h, room-left))

@@ -1,163 +1,81 @@
 -- The test of a sound state is true exactly of the sound states.
-use mathlib.Core.Path.{_≡_, ap}
-use mathlib.Core.Bool.{Bool, true, false, not}
+use mathlib.Core.Path.{_≡_}
+use mathlib.Core.Bool.{Bool, true}
 use mathlib.Core.List.{List}
-use Prim.Native.Nat.{ℕ, _+_, _*_, _≤_, _<_}
+use Prim.Native.Nat.{ℕ, _*_, _≤_, _<_}
 use native.Mathlib.Omega.{arith}
-use lib.Dec.{leb, eqb}
-use lib.ListN.{length, getD-replicate}
-use borrow.Author.Tests.{eq-eqb, eqb-true, leb-true, le-leb, not-true}
+use lib.ListN.{length}
+use borrow.Author.Tests.{leb-true, le-leb}
 use Rattle.basics.specs.Ranges.{every}
-use Rattle.basics.proofs.TestLaws.{and-both, and-of, implied, implies-of}
+use Rattle.basics.proofs.TestLaws.{and-both, and-of}
 use Rattle.basics.proofs.LoopLaws.{every-at, every-of}
-use Rattle.interface.specs.Slots.{isMapped, isCommitted, chargeOf}
-use Rattle.interface.proofs.SlotLaws.{committed-mapped}
-use Rattle.frames.specs.Frames.{held, noneHeld, sameHeld}
-use Rattle.frames.proofs.FrameLaws.{same-held-true, same-held-of}
-use Rattle.marks.specs.Named.{usedBelow}
-use Rattle.marks.specs.Marks.{from, marksb}
+use Rattle.interface.specs.Slots.{isMapped, isCommitted}
+use Rattle.frames.specs.Frames.{held}
+use Rattle.marks.specs.Marks.{marksb}
 use Rattle.marks.proofs.MarkLaws.{words, marksb-named, named-marksb}
 use Rattle.table.specs.Store.{Store, Filed}
-use Rattle.runs.specs.declared.Runs.{Runs}
-use Rattle.runs.specs.Row.{row, noRuns}
-use Rattle.runs.proofs.RowLaws.{no-runs}
-use Rattle.kept.specs.Spare.{keptAt, keptBy, Spare}
+use Rattle.kept.specs.Spare.{keptAt, Spare}
 use Rattle.kept.specs.Test.{keptTo, spareb}
 use Rattle.kept.proofs.TestLaws.{spare-true, spare-found, spare-of}
-use Rattle.areas.specs.declared.area.Areas.{Areas}
-use Rattle.areas.specs.Areas.{slots, empty}
-use Rattle.areas.specs.Formed.{WellFormed, wellFormed}
-use Rattle.areas.proofs.FormedLaws.{formed, formed-of}
-use Rattle.areas.proofs.OrderLaws.{slots-inside, formed-empty}
+use Rattle.areas.specs.Areas.{slots}
+use Rattle.record_soundness.specs.Test.{recordOk}
+use Rattle.record_soundness.proofs.RecordLaws.{Passed as PassedRecord, record-true, record-of, record-sound, committed-inside, sound-passed as record-passed}
 use Rattle.page_soundness.specs.Pages.{pagesOk}
 use Rattle.page_soundness.proofs.PageLaws.{AtPage, pages-true, pages-of}
+use Rattle.run_soundness.specs.Test.{runsOk}
+use Rattle.run_soundness.proofs.RunLaws.{runs-true, runs-of}
 use Rattle.state.specs.declared.sandbox.Sandbox.{Sandbox}
-use Rattle.state.specs.World.{World, sandboxAt, sharesOf, copyOf, framesOf, pagesIn, lengthsOk, rowsOf}
+use Rattle.state.specs.World.{World, sandboxAt, sharesOf, framesOf, pagesIn, lengthsOk, rowsOf}
 use Rattle.state.specs.Sound.{SoundAt, Sound}
 use Rattle.state.proofs.LentLaws.{lengths-true, lengths-of}
-use Rattle.soundness.specs.Test.{Typed, noneKept, runsOk, sandboxOk, sandboxesOk, runsOkAt, keptOk, soundb}
-use Rattle.soundness.proofs.RecordLaws.{RecordSound, record-true, record-of}
-
--- ---- the runs of a sandbox
-
-record RunsSound (st : Store) (s : ℕ) (opened : Bool) (share : ℕ) (r : Runs) : Type 0 where
-  places : length (r .list) ≡ 8
-  inShare : usedBelow (from (s * 128) (st .table)) 128 + keptBy (row r) ≤ share
-  closed : opened ≡ false → r ≡ noRuns
-
-runs-true : (st : Store) (s : ℕ) (opened : Bool) (share : ℕ) (r : Runs) → runsOk st s opened share r ≡ true → RunsSound st s opened share r
-unfolding runsOk noneKept
-runs-true st s opened share r h =
-    let h₁ = and-both (eqb (length (r .list)) 8) _ h in
-    let h₂ = and-both (leb (usedBelow (from (s * 128) (st .table)) 128 + keptBy (row r)) share) _ (h₁ .1) in
-    let eight : length (r .list) ≡ 8 = eqb-true _ 8 (h₁ .0) in
-    let none : Bool = every (λ i. sameHeld (row r i) noneHeld) 0 8 in
-    record {
-      places = eight;
-      inShare = leb-true _ _ (h₂ .0);
-      closed = λ o. no-runs r eight (λ i l. same-held-true (row r i) noneHeld
-          (every-at (λ i. sameHeld (row r i) noneHeld) 0 8 (implied (not opened) none (h₂ .1) (ap not o)) i (omega arith) (omega arith)));
-    }
-
-runs-of : (st : Store) (s : ℕ) (opened : Bool) (share : ℕ) (r : Runs) → RunsSound st s opened share r → runsOk st s opened share r ≡ true
-unfolding runsOk noneKept
-runs-of st s opened share r R =
-    and-of (eq-eqb _ 8 (R .places))
-    (and-of (le-leb _ _ (R .inShare))
-    (implies-of (not opened) (every (λ i. sameHeld (row r i) noneHeld) 0 8)
-    (λ o. rw (R .closed (not-true opened o)) (every-of (λ i. sameHeld (row noRuns i) noneHeld) 0 8
-    (λ i a b. same-held-of (row noRuns i) noneHeld (getD-replicate 8 i noneHeld noneHeld (omega arith)))))))
+use Rattle.soundness.specs.Test.{Typed, sandboxOk, sandboxesOk, runsOkAt, keptOk, soundb}
 
 -- ---- a sandbox
 
 -- what the test of a sandbox says: what soundness asks of it, but of its runs
 pub record Passed (images : ℕ) (st : Store) (s : ℕ) (b : Sandbox) : Type 0 where
-  pub present : WellFormed images (b .present)
-  pub snapshot : WellFormed images (b .snapshot)
-  pub page : (i : ℕ) → i < 64 → AtPage st s (b .present) (b .snapshot) i
-  pub charged : chargeOf (slots (b .present)) (copyOf b) ≤ b .share
-  pub fields : RecordSound (b .opened) (b .share) (b .taken) (b .present .count) (b .snapshot .count)
+  pub rec : PassedRecord images (b .rec)
+  pub page : (i : ℕ) → i < 64 → AtPage st s (b .rec .present) (b .rec .snapshot) i
 
 module _ (images : ℕ) (st : Store) (s : ℕ) (b : Sandbox) where
   pub passed-true : sandboxOk images st s b ≡ true → Passed images st s b
   unfolding sandboxOk
   passed-true h =
-      let h₁ = and-both (wellFormed images (b .present)) _ h in
-      let h₂ = and-both (wellFormed images (b .snapshot)) _ (h₁ .1) in
-      let h₃ = and-both (pagesOk st s (b .present) (b .snapshot)) _ (h₂ .1) in
-      let h₄ = and-both (leb (chargeOf (slots (b .present)) (copyOf b)) (b .share)) _ (h₃ .1) in
-      record {
-        present = formed images (b .present) (h₁ .0);
-        snapshot = formed images (b .snapshot) (h₂ .0);
-        page = pages-true st s (b .present) (b .snapshot) (h₃ .0);
-        charged = leb-true _ _ (h₄ .0);
-        fields = record-true (b .opened) (b .share) (b .taken) (b .present .count) (b .snapshot .count) (h₄ .1);
-      }
+      let both = and-both (recordOk images (b .rec)) (pagesOk st s (b .rec .present) (b .rec .snapshot)) h in
+      record { rec = record-true images (b .rec) (both .0); page = pages-true st s (b .rec .present) (b .rec .snapshot) (both .1) }
 
   passed-of : Passed images st s b → sandboxOk images st s b ≡ true
   unfolding sandboxOk
-  passed-of P =
-      and-of (formed-of images (b .present) (P .present))
-      (and-of (formed-of images (b .snapshot) (P .snapshot))
-      (and-of (pages-of st s (b .present) (b .snapshot) (P .page))
-      (and-of (le-leb _ _ (P .charged)) (record-of (b .opened) (b .share) (b .taken) (b .present .count) (b .snapshot .count) (P .fields)))))
+  passed-of P = and-of (record-of images (b .rec) (P .rec)) (pages-of st s (b .rec .present) (b .rec .snapshot) (P .page))
 
-  module _ (P : Passed images st s b) where
-    -- of every page, as no page past 63 is mapped
-    pub passed-committed : (i : ℕ) → isCommitted (slots (b .present) i) ≡ true → (i < 64) × (isMapped (slots (b .snapshot) i) ≡ true)
-    passed-committed i c =
-        let l = slots-inside images (b .present) (P .present) i (committed-mapped (slots (b .present) i) c) in
-        (l, P .page i l .committed c)
+  -- of every page, as no page past 63 is mapped
+  pub passed-committed : Passed images st s b → (i : ℕ) → isCommitted (slots (b .rec .present) i) ≡ true → isMapped (slots (b .rec .snapshot) i) ≡ true
+  passed-committed P i c = P .page i (committed-inside images (b .rec) (P .rec) i c) .committed c
 
-    pub passed-untaken : b .taken ≡ false → b .snapshot ≡ empty
-    passed-untaken t = formed-empty images (b .snapshot) (P .snapshot) (P .fields .untaken t)
-
-  pub sandbox-true : runsOk st s (b .opened) (b .share) (b .runs) ≡ true → Passed images st s b → SoundAt images st s b
+  pub sandbox-true : runsOk st s (b .rec .opened) (b .rec .share) (b .runs) ≡ true → Passed images st s b → SoundAt images st s b
   sandbox-true r P =
-      let K = runs-true st s (b .opened) (b .share) (b .runs) r in
+      let K = runs-true st s (b .rec .opened) (b .rec .share) (b .runs) r in
       record {
-        present = P .present;
-        snapshot = P .snapshot;
-        marked = λ i m. P .page i (slots-inside images (b .snapshot) (P .snapshot) i m) .marked m;
-        committed = λ i c. passed-committed P i c .1;
-        backing = λ i c. P .page i (passed-committed P i c .0) .backing c;
+        rec = record-sound images (b .rec) (P .rec)
+            (λ i l. record { marked = P .page i l .marked; committed = P .page i l .committed; backing = P .page i l .backing });
         fronts = λ i l. P .page i l .fronts;
         backs = λ i l. P .page i l .backs;
-        charged = P .charged;
-        shared = P .fields .shared;
         inShare = K .inShare;
         places = K .places;
-        untaken = passed-untaken P;
-        closed = λ o.
-            let n = P .fields .closed o in
-            let x = formed-empty images (b .present) (P .present) (n .1) in
-            let y = passed-untaken P (n .2) in
-            λ i. record { opened = o i; share = n .0 i; present = x i; taken = n .2 i; snapshot = y i; runs = K .closed o i };
+        closed = K .closed;
       }
 
   pub sound-passed : SoundAt images st s b → Passed images st s b
   sound-passed S =
+      let R = S .rec in
       record {
-        present = S .present;
-        snapshot = S .snapshot;
-        page = λ i l. record { marked = S .marked i; committed = S .committed i; backing = S .backing i; fronts = S .fronts i l; backs = S .backs i l };
-        charged = S .charged;
-        fields = record {
-          shared = S .shared;
-          untaken = λ t. ap (λ (a : Areas). a .count) (S .untaken t);
-          closed = λ o.
-              let e = S .closed o in
-              (ap (λ (c : Sandbox). c .share) e, ap (λ (c : Sandbox). c .present .count) e, ap (λ (c : Sandbox). c .taken) e);
-        };
+        rec = record-passed images (b .rec) R;
+        page = λ i l. record { marked = R .marked i; committed = R .committed i; backing = R .backing i; fronts = S .fronts i l; backs = S .backs i l };
       }
 
-  runs-sound : SoundAt images st s b → runsOk st s (b .opened) (b .share) (b .runs) ≡ true
+  runs-sound : SoundAt images st s b → runsOk st s (b .rec .opened) (b .rec .share) (b .runs) ≡ true
   runs-sound S =
-      runs-of st s (b .opened) (b .share) (b .runs) (record {
-        places = S .places;
-        inShare = S .inShare;
-        closed = λ o. ap (λ (c : Sandbox). c .runs) (S .closed o);
-      })
+      runs-of st s (b .rec .opened) (b .rec .share) (b .runs) (record { places = S .places; inShare = S .inShare; closed = S .closed })
 
 -- ---- the world
 

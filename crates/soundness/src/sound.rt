@@ -9,12 +9,15 @@ ghost use Rattle.basics.specs.Ranges.{every};
 ghost use Rattle.frames.specs.declared.Held.{Held as Words};
 ghost use Rattle.table.specs.Store.{kept};
 ghost use Rattle.state.specs.World.{World, worldOf, sandboxAt};
-ghost use Rattle.soundness.specs.Test.{recordOk, sandboxOk, runsOkAt, soundb};
-use crate::spare::runs_ok;
-use crate::spare::spare_ok;
-use area_soundness::well_formed;
+ghost use Rattle.record_soundness.specs.Test.{recordOk};
+ghost use Rattle.page_soundness.specs.Pages.{pagesOk};
+ghost use Rattle.soundness.specs.Test.{sandboxOk, runsOkAt, soundb};
 use page_soundness::pages_ok;
 use pages::Page;
+use record_soundness::record_ok;
+use records::Record;
+use run_soundness::runs_ok;
+use run_soundness::spare_ok;
 use state::lengths::lengths_ok;
 use state::sandbox::Machine;
 use state::sandbox::Sandbox;
@@ -54,45 +57,30 @@ fn sandboxes_ok(sandboxes: [Sandbox; Machine::SANDBOXES], table: &[u16], images:
     for s in 0..Machine::COUNT {
         let k = s as usize;
         let b = sandboxes[k];
-        if !sandbox_ok(b, table, s, images) {
+        let rec = b.rec;
+        if !sandbox_ok(rec, table, s, images) {
             return false;
         }
         let runs = b.runs;
-        if !runs_ok(runs, table, s, b.opened, b.share) {
+        if !runs_ok(runs, table, s, rec.opened, rec.share) {
             return false;
         }
     }
     true
 }
 
-fn sandbox_ok(b: Sandbox, table: &[u16], s: u8, images: u8) -> bool
+// A sandbox but for its runs: its record, then its pages.
+fn sandbox_ok(rec: Record, table: &[u16], s: u8, images: u8) -> bool
     requires { ⌜ s < Sandboxes ⌝ }
     requires { ⌜ images ≤ MostImagePages ⌝ }
     requires { ⌜ length (now table) ≡ TableEntries ⌝ }
-    ensures { λ r. ⌜ ((h : Words) (pool : List ℕ) → r ≡ sandboxOk images (kept h pool (now (table .entry))) s b) ⌝ }
+    ensures { λ r. ⌜ ((h : Words) (pool : List ℕ) →
+        r ≡ (recordOk images rec && pagesOk (kept h pool (now (table .entry))) s (rec .present) (rec .snapshot))) ⌝ }
 {
-    let present = b.present;
-    if !well_formed(present, images) {
+    if !record_ok(rec, images) {
         return false;
     }
-    let snapshot = b.snapshot;
-    if !well_formed(snapshot, images) {
-        return false;
-    }
-    if !pages_ok(present, snapshot, table, s) {
-        return false;
-    }
-    if b.share < b.charge() {
-        return false;
-    }
-    record_ok(b.opened, b.share, b.taken, present.count, snapshot.count)
-}
-
-fn record_ok(opened: bool, share: u8, taken: bool, present: u8, snapshot: u8) -> bool
-    ensures { λ r. ⌜ r ≡ recordOk opened share taken present snapshot ⌝ }
-{
-    let shared = !opened | ((1 <= share) & (share <= Sandbox::MOST_SHARE));
-    let untaken = !!taken | (snapshot == 0);
-    let closed = !!opened | ((share == 0) & ((present == 0) & !taken));
-    shared & (untaken & closed)
+    let present = rec.present;
+    let snapshot = rec.snapshot;
+    pages_ok(present, snapshot, table, s)
 }

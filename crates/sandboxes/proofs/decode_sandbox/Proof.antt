@@ -41,14 +41,14 @@ part-decode-runs-end c = search needs
 decode-runs-requires : tie.Need-decode-runs-requires
 decode-runs-requires c κs = search needs
 
-shared-slice-read-t16 : tie.Need-shared-slice-read-t16
-shared-slice-read-t16 c = search needs
+shared-slice-read-t17 : tie.Need-shared-slice-read-t17
+shared-slice-read-t17 c = search needs
 
-shared-slice-read-t19 : tie.Need-shared-slice-read-t19
-shared-slice-read-t19 c = search needs
+shared-slice-read-t20 : tie.Need-shared-slice-read-t20
+shared-slice-read-t20 c = search needs
 
-shared-slice-read-t21 : tie.Need-shared-slice-read-t21
-shared-slice-read-t21 c = search needs
+shared-slice-read-t22 : tie.Need-shared-slice-read-t22
+shared-slice-read-t22 c = search needs
 
 returns : tie.Need-returns
 unfolding sandboxFrom partAt
@@ -74,7 +74,7 @@ decode-sandbox-spec =
     part-decode-runs-start
     part-decode-runs-end
     decode-runs-requires
-    shared-slice-read-t16
-    shared-slice-read-t19
-    shared-slice-read-t21
+    shared-slice-read-t17
+    shared-slice-read-t20
+    shared-slice-read-t22
     returns)

@@ -74,8 +74,9 @@ returns c =
     let present = snapshot .before .before .before .before in
     let first = present .before .before .before .before .before .before in
     let s = first .args .sandbox in
-    let bytes : List ℕ = one (s .opened) ∷ s .share ∷ one (s .taken) ∷ [] in
-    let parts : List Part = part areasSize (areasBytes (s .present)) ∷ part areasSize (areasBytes (s .snapshot)) ∷ part runsSize (runsBytes (s .runs)) ∷ [] in
+    let r = s .rec in
+    let bytes : List ℕ = one (r .opened) ∷ r .share ∷ one (r .taken) ∷ [] in
+    let parts : List Part = part areasSize (areasBytes (r .present)) ∷ part areasSize (areasBytes (r .snapshot)) ∷ part runsSize (runsBytes (s .runs)) ∷ [] in
     rw (c .flag2 .ensures, c .before .flag .ensures, present .encode-areas .ensures, snapshot .encode-areas2 .ensures, runs .encode-runs .ensures)
     (laid-out bytes parts (first .args .out .now) (first .pre) (sized-sandbox s .1 .1 .1))
 

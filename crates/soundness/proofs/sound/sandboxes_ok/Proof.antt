@@ -20,7 +20,7 @@ use Rattle.state.specs.World.{World, sandboxAt, closedSandbox}
 use Rattle.soundness.specs.Test.{sandboxOk, runsOkAt}
 use Rattle.soundness.proofs.TestLaws.{passed-true}
 use Rattle.soundness.proofs.Room.{passed-share}
-use Rattle.soundness.proofs.SandboxLaws.{sandbox-stops, runs-decide}
+use Rattle.soundness.proofs.SandboxLaws.{sandbox-tested, sandbox-stops, runs-decide}
 use Rattle.soundness.proofs.sound.sandboxes_ok.Statement.{statement}
 use Rattle.soundness.proofs.sound.sandboxes_ok.Tie as tie
 
@@ -48,7 +48,7 @@ abbrev at-sandbox-ok : tie.After-runs-ok Inv-loop μ-loop → tie.After-sandbox-
 at-sandbox-ok c = c .before .before .before
 
 abbrev turn-of-sandbox-ok : tie.After-sandbox-ok Inv-loop μ-loop → tie.In-loop Inv-loop μ-loop
-turn-of-sandbox-ok c = c .before .before
+turn-of-sandbox-ok c = c .before .before .before
 
 abbrev turn-of-runs : tie.After-runs Inv-loop μ-loop → tie.In-loop Inv-loop μ-loop
 turn-of-runs c = turn-of-sandbox-ok (c .before .before)
@@ -58,6 +58,16 @@ turn-of-runs-ok c = turn-of-runs (c .before)
 
 abbrev start-of-turn : tie.In-loop Inv-loop μ-loop → tie.Start Inv-loop μ-loop
 start-of-turn c = c .before .before .before
+
+-- what the first call says of the array's sandbox
+told : (c : tie.After-sandbox-ok Inv-loop μ-loop) (h : Held) (pool : List ℕ) →
+    let a = start-of-turn (turn-of-sandbox-ok c) .args in
+    let s : ℕ = turn-of-sandbox-ok c .before .loop .s in
+    c .sandbox-ok .result ≡ sandboxOk (a .images) (kept h pool (a .table .now)) s (getD (a .t1) s zeroSandbox)
+told c h pool =
+    let a = start-of-turn (turn-of-sandbox-ok c) .args in
+    let s : ℕ = turn-of-sandbox-ok c .before .loop .s in
+    sandbox-tested (a .images) (kept h pool (a .table .now)) s (getD (a .t1) s zeroSandbox) _ (c .sandbox-ok .ensures h pool)
 
 -- what the two calls say of the world's sandbox
 here : (c : tie.After-runs-ok Inv-loop μ-loop) (h : Held) (pool : List ℕ) →
@@ -69,7 +79,7 @@ here c h pool =
     let s : ℕ = turn-of-runs-ok c .before .loop .s in
     let t = at-sandbox-ok c .sandbox-ok in
     runs-decide (a .images) (kept h pool (a .table .now)) s (getD (a .t1) s zeroSandbox) (getD (a .t1) s closedSandbox)
-    (same start s (turn-of-runs-ok c .loop-test .taken)) (t .result) (t .ensures h pool) (not-false _ (c .before .before .if1 .left))
+    (same start s (turn-of-runs-ok c .loop-test .taken)) (t .result) (told (at-sandbox-ok c) h pool) (not-false _ (c .before .before .if1 .left))
     (c .runs-ok .result)
     (c .runs-ok .ensures h pool)
 
@@ -86,10 +96,10 @@ array-copy-out-b : tie.Need-array-copy-out-b Inv-loop μ-loop
 array-copy-out-b c = search needs
 
 sandbox-ok-requires : tie.Need-sandbox-ok-requires Inv-loop μ-loop
-sandbox-ok-requires c κs = (c .before .loop-test .taken, start-of-turn (c .before) .pre)
+sandbox-ok-requires c κs = (c .before .before .loop-test .taken, start-of-turn (c .before .before) .pre)
 
 abbrev at-loop : tie.After-sandbox-ok Inv-loop μ-loop → tie.At-loop Inv-loop μ-loop
-at-loop c = c .before .before .before
+at-loop c = turn-of-sandbox-ok c .before
 
 returns : tie.Need-returns Inv-loop μ-loop
 returns c = λ h pool.
@@ -100,7 +110,7 @@ returns c = λ h pool.
     let t = c .before .sandbox-ok in
     sym (l .inv .1 h pool ∙ every-stop (tests h pool (a .table .now) (a .images) (a .t1)) 4 (l .s) low
     (sandbox-stops (a .images) (kept h pool (a .table .now)) (l .s) (getD (a .t1) (l .s) zeroSandbox) (getD (a .t1) (l .s) closedSandbox)
-    (same start (l .s) low) (t .result) (t .ensures h pool) (not-true _ (c .if1 .taken))))
+    (same start (l .s) low) (t .result) (told (c .before) h pool) (not-true _ (c .if1 .taken))))
 
 -- a sandbox that passed has entries within its share
 runs-ok-requires : tie.Need-runs-ok-requires Inv-loop μ-loop
@@ -110,8 +120,7 @@ runs-ok-requires c κs =
     let s : ℕ = turn-of-runs c .before .loop .s in
     let b : Sandbox = getD (a .t1) s zeroSandbox in
     let st : Store = kept noneHeld [] (a .table .now) in
-    let t = c .before .before .sandbox-ok in
-    let passed = passed-true (a .images) st s b (sym (t .ensures noneHeld []) ∙ not-false _ (c .before .if1 .left)) in
+    let passed = passed-true (a .images) st s b (sym (told (c .before .before) noneHeld []) ∙ not-false _ (c .before .if1 .left)) in
     (turn-of-runs c .loop-test .taken, (start .pre .1, passed-share (a .images) st s b passed))
 
 returns-2 : tie.Need-returns-2 Inv-loop μ-loop

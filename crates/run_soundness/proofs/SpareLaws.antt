@@ -20,7 +20,7 @@ use Rattle.runs.specs.declared.Runs.{Runs}
 use Rattle.runs.specs.Row.{row, lengthsOf}
 use Rattle.kept.specs.Spare.{Rows, keptBy}
 use Rattle.kept.specs.Test.{keptTo, frameOk, spareb}
-use Rattle.soundness.specs.Test.{noneKept, runsOk}
+use Rattle.run_soundness.specs.Test.{noneKept, runsOk}
 
 module _ (n : ℕ) (st : Store) (rows : Rows) (m : Marks) (found : m ≡ keptTo rows 4) where
   pub twice : m .good ≡ false → false ≡ spareb n st rows

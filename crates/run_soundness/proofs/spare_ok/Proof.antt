@@ -10,9 +10,9 @@ use Rattle.table.specs.Store.{kept}
 use Rattle.runs.specs.Row.{row}
 use Rattle.state.specs.declared.sandbox.Sandbox.{Sandbox}
 use Rattle.state.specs.World.{closedSandbox}
-use Rattle.soundness.proofs.SpareLaws.{twice, named-too, frames-decide}
-use Rattle.soundness.proofs.spare.spare_ok.Statement.{statement}
-use Rattle.soundness.proofs.spare.spare_ok.Tie as tie
+use Rattle.run_soundness.proofs.SpareLaws.{twice, named-too, frames-decide}
+use Rattle.run_soundness.proofs.spare_ok.Statement.{statement}
+use Rattle.run_soundness.proofs.spare_ok.Tie as tie
 
 -- the runs of each sandbox
 abbrev rows : List Sandbox → ℕ → ℕ → Held

@@ -1,4 +1,7 @@
-// The runs of kept frames, tested (A3).
+// The runs of kept frames, tested (A3): those of a sandbox within its share, and the frames that all of them keep.
+// It promises: the test of specs/Test for the runs of a sandbox (proofs/RunLaws: true exactly of sound ones), and that of kept/specs/Test for the kept frames;
+// of the pool it reads the kept frames alone, and where a sandbox keeps none its entries are not counted.
+// It stands on `runs` and `marks` for what a sandbox's runs and entries come to, and on `totals` and `kept` for the kept frames.
 ghost use mathlib.Core.Path.{_≡_};
 ghost use mathlib.Core.List.{List};
 ghost use Prim.Native.Nat.{ℕ, _*_, _≤_, _<_};
@@ -12,7 +15,7 @@ ghost use Rattle.runs.specs.Row.{row};
 ghost use Rattle.kept.specs.Spare.{Rows};
 ghost use Rattle.kept.specs.Test.{spareb};
 ghost use Rattle.state.specs.World.{closedSandbox};
-ghost use Rattle.soundness.specs.Test.{runsOk};
+ghost use Rattle.run_soundness.specs.Test.{runsOk};
 use frames::Held;
 use runs::Runs;
 use state::sandbox::Machine;
@@ -20,7 +23,7 @@ use state::sandbox::Sandbox;
 use totals::kept_marks;
 
 // Whether kept frames "are held and zero, belong to one run and no entry".
-pub(crate) fn spare_ok(
+pub fn spare_ok(
     sandboxes: [Sandbox; Machine::SANDBOXES],
     held: Held,
     pool: &[u8],
@@ -44,7 +47,7 @@ pub(crate) fn spare_ok(
 
 // Whether the runs of a sandbox are within its share with its fronts and backs, which alone are; and a closed one keeps none.
 // Where no frame is kept, no entry is looked at.
-pub(crate) fn runs_ok(runs: Runs, table: &[u16], s: u8, opened: bool, share: u8) -> bool
+pub fn runs_ok(runs: Runs, table: &[u16], s: u8, opened: bool, share: u8) -> bool
     requires { ⌜ s < Sandboxes ⌝ }
     requires { ⌜ length (now table) ≡ TableEntries ⌝ }
     requires { ⌜ usedBelow (from (s * 128) (now table)) 128 ≤ share ⌝ }

@@ -6,10 +6,10 @@ use borrow.Author.Needs.{needs}
 use borrow.Author.Tests.{not-true, not-false}
 use Rattle.basics.proofs.TestLaws.{length-mapped}
 use Rattle.table.specs.Store.{kept}
-use Rattle.soundness.specs.Test.{noneKept}
-use Rattle.soundness.proofs.SpareLaws.{keeps-none, closed-keeps, open-keeps}
-use Rattle.soundness.proofs.spare.runs_ok.Statement.{statement}
-use Rattle.soundness.proofs.spare.runs_ok.Tie as tie
+use Rattle.run_soundness.specs.Test.{noneKept}
+use Rattle.run_soundness.proofs.SpareLaws.{keeps-none, closed-keeps, open-keeps}
+use Rattle.run_soundness.proofs.runs_ok.Statement.{statement}
+use Rattle.run_soundness.proofs.runs_ok.Tie as tie
 
 eight : (c : tie.Start) → length (c .args .runs .list) ≡ 8
 eight c = search length-mapped

@@ -1,0 +1,3 @@
+pub mod FieldLaws
+pub mod RecordLaws
+pub mod ReturnLaws
