@@ -77,11 +77,11 @@ record-after-requires : tie.Need-record-after-requires
 record-after-requires c κs = startOf (valuedOf (c .before .before .before .before .before .before)) .pre .0 .fit
 
 mul-t15 : tie.Need-mul-t15
-mul-t15 c = let row = startOf (valuedOf (storedOf (c .before))) .pre .0 .row in search needs
+mul-t15 c = let row = startOf (valuedOf (storedOf c)) .pre .0 .row in search needs
 
 element-set-from-m : tie.Need-element-set-from-m
 element-set-from-m c =
-    let start = startOf (valuedOf (storedOf (c .before))) in
+    let start = startOf (valuedOf (storedOf c)) in
     let row = start .pre .0 .row in
     let l = four start in
     search needs
@@ -94,7 +94,7 @@ same-length-2 c = search needs
 
 returns : tie.Need-returns
 returns c =
-    let stored = storedOf (c .before) in
+    let stored = storedOf c in
     let valued = valuedOf stored in
     let start = startOf valued in
     let q = start .args .q in
