@@ -26,16 +26,16 @@ module _ (image : List ℕ) (w : World) (s : ℕ) (out : List ℕ) where
     refused-4 l = rw (sound, le-ltb s 4 l)
 
     module _ (row : s < 4) where
-      pub refused-closed : sandboxAt w s .opened ≡ false → left (Refused NotOpen) out ≡ written image w s out
+      pub refused-closed : sandboxAt w s .rec .opened ≡ false → left (Refused NotOpen) out ≡ written image w s out
       unfolding written archiveNumber archiveRefusal writtenAs
       refused-closed e = rw (sound, lt-ltb s 4 row, e)
 
-      module _ (opened : sandboxAt w s .opened ≡ true) where
-        pub refused-8 : sandboxAt w s .taken ≡ false → left (Refused NoSnapshot) out ≡ written image w s out
+      module _ (opened : sandboxAt w s .rec .opened ≡ true) where
+        pub refused-8 : sandboxAt w s .rec .taken ≡ false → left (Refused NoSnapshot) out ≡ written image w s out
         unfolding written archiveNumber archiveRefusal writtenAs
         refused-8 e = rw (sound, lt-ltb s 4 row, opened, e)
 
-        pub filed : sandboxAt w s .taken ≡ true → (answer : Answer) (now : List ℕ) (roll : List Request) → roll ≡ archiveOf image w s
+        pub filed : sandboxAt w s .rec .taken ≡ true → (answer : Answer) (now : List ℕ) (roll : List Request) → roll ≡ archiveOf image w s
             → left answer now ≡ fitted roll out → left answer now ≡ written image w s out
         unfolding written archiveNumber archiveRefusal fitted
         filed taken answer now roll is x = x ∙ ap (λ l. fitted l out) is ∙ rw (sound, lt-ltb s 4 row, opened, taken)

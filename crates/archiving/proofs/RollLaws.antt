@@ -63,16 +63,16 @@ module _ (image : List ℕ) (w : World) (s : ℕ) where
 
   -- the snapshot as the code hands it on
   abbrev pub handedOn : Snapshot
-  handedOn = record { sandbox = s; share = b .share; areas = b .snapshot }
+  handedOn = record { sandbox = s; share = b .rec .share; areas = b .rec .snapshot }
 
   abbrev slot : ℕ → Slot
-  slot i = slots (b .snapshot) i
+  slot i = slots (b .rec .snapshot) i
 
   abbrev page : ℕ → List ℕ
   page i = backPage image (w .store .pool) (w .store .table) s i (slot i)
 
   -- the page that the code looks at is the snapshot's
-  page-same : (i : ℕ) → page i ≡ copyRead image (w .store) b s i
+  page-same : (i : ℕ) → page i ≡ copyRead image (w .store) (b .rec) s i
   unfolding copyRead contents
   page-same i = refl
 
@@ -98,17 +98,17 @@ module _ (image : List ℕ) (w : World) (s : ℕ) where
       joined-pages line 64
       ∙ joined-below (λ i. joined (λ j. line (i * 256 + j)) 256) (writesAt image (w .store .pool) (w .store .table) handedOn) 64 (λ i l. page-lines i)
 
-  roll-is : Formed (b .snapshot) → rollOf image (w .store .pool) (w .store .table) handedOn ≡ archiveOf image w s
+  roll-is : Formed (b .rec .snapshot) → rollOf image (w .store .pool) (w .store .table) handedOn ≡ archiveOf image w s
   unfolding rollOf archive
   roll-is F =
-      rw (← maps-by-areas (b .snapshot) F s, ← protects-by-areas (b .snapshot) F s, ← writes-by-pages)
-      (five (opening s (b .share)) (maps s (slots (b .snapshot))) (writes s image d) (protects s (slots (b .snapshot))) (closing s))
+      rw (← maps-by-areas (b .rec .snapshot) F s, ← protects-by-areas (b .rec .snapshot) F s, ← writes-by-pages)
+      (five (opening s (b .rec .share)) (maps s (slots (b .rec .snapshot))) (writes s image d) (protects s (slots (b .rec .snapshot))) (closing s))
 
   -- ---- of a sound state
 
   module _ (sound : soundb image w ≡ true) (row : s < 4) where
-    well : WellFormed (pagesIn (length image)) (b .snapshot)
-    well = tested image w sound .each s (omega arith) .snapshot
+    well : WellFormed (pagesIn (length image)) (b .rec .snapshot)
+    well = tested image w sound .each s (omega arith) .rec .snapshot
 
     -- its snapshot's bytes can be read
     pub readable : Readable image (w .store .pool) (w .store .table) handedOn
@@ -116,9 +116,9 @@ module _ (image : List ℕ) (w : World) (s : ℕ) where
         let t = tested image w sound in
         record {
           row = omega arith;
-          near = near (pagesIn (length image)) (b .snapshot) well (t .images);
+          near = near (pagesIn (length image)) (b .rec .snapshot) well (t .images);
           ranged = filed-ranged 256 (framesOf w) (w .store) (t .filed);
-          backed = backing-there image (b .snapshot) well;
+          backed = backing-there image (b .rec .snapshot) well;
         }
 
     pub roll-here : rollOf image (w .store .pool) (w .store .table) handedOn ≡ archiveOf image w s

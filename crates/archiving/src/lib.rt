@@ -36,16 +36,16 @@ pub fn write_archive(
     }
     let sandboxes = machine.sandboxes;
     let b = sandboxes[k];
-    if !b.opened {
+    if !b.rec.opened {
         return Answer::Refused(Refusal::NotOpen);
     }
-    if !b.taken {
+    if !b.rec.taken {
         return Answer::Refused(Refusal::NoSnapshot);
     }
-    let areas = b.snapshot;
+    let areas = b.rec.snapshot;
     let snapshot = Snapshot {
         sandbox: sandbox as u8,
-        share: b.share,
+        share: b.rec.share,
         areas: areas,
     };
     put_fitting(out, snapshot, image, pool, table)

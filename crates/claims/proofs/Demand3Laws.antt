@@ -80,9 +80,9 @@ module _ (g : Given) (L : Lent g) (qs : List Request) (v : World) (A : Agrees (�
         counted = λ s l. held-counts g v (upTo g qs) A s;
       }
 
-  write-taken : (q : Request) (o : Outcome) → Stepped (g .image) v q o → q .code ≡ Write → q .sandbox < 4 → sandboxAt v (q .sandbox) .opened ≡ true
-      → within (pagesIn (length (g .image))) q ≡ true → isMapped (slots (sandboxAt v (q .sandbox) .present) (pageOf q)) ≡ true
-      → rightsAt (slots (sandboxAt v (q .sandbox) .present) (pageOf q)) ≡ 3
+  write-taken : (q : Request) (o : Outcome) → Stepped (g .image) v q o → q .code ≡ Write → q .sandbox < 4 → sandboxAt v (q .sandbox) .rec .opened ≡ true
+      → within (pagesIn (length (g .image))) q ≡ true → isMapped (slots (sandboxAt v (q .sandbox) .rec .present) (pageOf q)) ≡ true
+      → rightsAt (slots (sandboxAt v (q .sandbox) .rec .present) (pageOf q)) ≡ 3
       → (o .answer .number ≡ 0) × ((f : ℕ) × (entry (o .world .store) (frontOf (q .sandbox) (pageOf q)) ≡ suc f))
   write-taken q o s e l opened limits there right =
       let a = A .each (q .sandbox) l in

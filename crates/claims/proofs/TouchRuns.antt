@@ -34,8 +34,9 @@ use Rattle.kept.proofs.WriteLaws.{given-fewer, given-free}
 use Rattle.kept.proofs.RewindLaws.{runs-gain}
 use Rattle.kept.proofs.StoreRuns.{kept-same}
 use Rattle.state.specs.declared.sandbox.Sandbox.{Sandbox}
+use Rattle.records.specs.declared.Record.{Record}
 use Rattle.state.specs.World.{World, sandboxAt, withRuns, closedSandbox, framesOf, rowsOf}
-use Rattle.rules.specs.After.{changes, packedAfter, takenAfter, snapshotAfter, sandboxAfter}
+use Rattle.rules.specs.After.{changes, packedAfter, takenAfter, snapshotAfter, recordAfter}
 use Rattle.memory.specs.Memory.{givesAt, placeFor, framesFor, longestOf, runsAfter, storeAfter}
 use Rattle.machine.specs.Step.{sandboxThen, takes, gives, OfLongest, Outcome, Stepped}
 use Rattle.simulation.proofs.StepLaws.{taking, gives-takes}
@@ -69,11 +70,11 @@ unfolding keptIn
 kept-in-same a c f e = sum-same (λ i. held (a i) f) (λ i. held (c i) f) runPlaces (λ i l. ap (λ (h : Held). held h f) (e i l))
 
 -- a request that neither opens, packs areas, snapshots nor rewinds leaves an open sandbox
-pub sandbox-same : (q : Request) (b : Sandbox) → (q is Open) ≡ false → changes q ≡ false → (q is Snapshot) ≡ false → (q is Rewind) ≡ false
-    → b .opened ≡ true → sandboxAfter q b ≡ b
+pub record-same : (q : Request) (b : Record) → (q is Open) ≡ false → changes q ≡ false → (q is Snapshot) ≡ false → (q is Rewind) ≡ false
+    → b .opened ≡ true → recordAfter q b ≡ b
 unfolding packedAfter takenAfter snapshotAfter
-sandbox-same q b x₁ x₂ x₃ x₄ o =
-    rw (x₂, x₁, x₃, x₄) (λ i. record { opened = sym o i; share = b .share; present = b .present; taken = b .taken; snapshot = b .snapshot; runs = b .runs })
+record-same q b x₁ x₂ x₃ x₄ o =
+    rw (x₂, x₁, x₃, x₄) (λ i. record { opened = sym o i; share = b .share; present = b .present; taken = b .taken; snapshot = b .snapshot })
 
 module _ (image : List ℕ) (w : World) (q : Request) (o : Outcome) (s : Stepped image w q o) (n : o .answer .number ≡ 0) where
   abbrev b : Sandbox
@@ -92,10 +93,10 @@ module _ (image : List ℕ) (w : World) (q : Request) (o : Outcome) (s : Stepped
   sandboxes-are = ap (λ (x : World). x .sandboxes) (left image w q o s n)
 
   -- past the row stands a closed sandbox
-  in-row : b .opened ≡ true → q .sandbox < length (w .sandboxes)
+  in-row : b .rec .opened ≡ true → q .sandbox < length (w .sandboxes)
   in-row e =
       ⊎-elim (λ l. l)
-      (λ l. absurd (false≢true (sym (ap (λ (x : Sandbox). x .opened) (List·getD-eq-default (w .sandboxes) closedSandbox l)) ∙ e)))
+      (λ l. absurd (false≢true (sym (ap (λ (x : Sandbox). x .rec .opened) (List·getD-eq-default (w .sandboxes) closedSandbox l)) ∙ e)))
       (lt-or-ge (q .sandbox) (length (w .sandboxes)))
 
   here : (q is Open) ≡ false → sandboxAt (o .world) (q .sandbox) ≡ sandboxThen (s .given) w q
@@ -189,9 +190,9 @@ module _ (image : List ℕ) (w : World) (q : Request) (o : Outcome) (s : Stepped
     gave = (
       ofLongest,
       sandboxes-are
-          ∙ ap (λ (r : Runs). set (w .sandboxes) (q .sandbox) (withRuns r (sandboxAfter q b))) less-run
-          ∙ ap (λ (c : Sandbox). set (w .sandboxes) (q .sandbox) (withRuns (withRunAt l (mark (row (b .runs) l) (s .given) 0) (b .runs)) c))
-          (sandbox-same q b (rw writes) (rw writes) (rw writes) (rw writes) (met image w q o s n .opened (rw writes))),
+          ∙ ap (λ (r : Runs). set (w .sandboxes) (q .sandbox) (record { rec = recordAfter q (b .rec); runs = r })) less-run
+          ∙ ap (λ (c : Record). set (w .sandboxes) (q .sandbox) (record { rec = c; runs = withRunAt l (mark (row (b .runs) l) (s .given) 0) (b .runs) }))
+          (record-same q (b .rec) (rw writes) (rw writes) (rw writes) (rw writes) (met image w q o s n .opened (rw writes))),
     )
 
     rows-then : (t : ℕ) → rowsOf (o .world) t ≡ withRun (q .sandbox) l (mark (rowsOf w (q .sandbox) l) (s .given) 0) (rowsOf w) t
@@ -224,30 +225,30 @@ module _ (image : List ℕ) (w : World) (q : Request) (o : Outcome) (s : Stepped
 
   -- ---- a rewind
 
-  made : q .code ≡ Rewind → runsAfter (s .given) q b (w .store) ≡ tabled (rowRewound (w .store) (q .sandbox) (slots (b .present)) (row (b .runs)))
+  made : q .code ≡ Rewind → runsAfter (s .given) q b (w .store) ≡ tabled (rowRewound (w .store) (q .sandbox) (slots (b .rec .present)) (row (b .runs)))
   unfolding runsAfter givesAt
   made e = rw e
 
   pub gathered : q .code ≡ Rewind → (f : ℕ) → 1 ≤ keptIn (rowsOf (o .world) (q .sandbox)) f
       → (1 ≤ keptIn (rowsOf w (q .sandbox)) f)
-      ⊎ ((i : ℕ) × ((i < 64) × ((isSpared (slots (b .present) i) ≡ true) × (entry (w .store) (frontOf (q .sandbox) i) ≡ suc f))))
+      ⊎ ((i : ℕ) × ((i < 64) × ((isSpared (slots (b .rec .present) i) ≡ true) × (entry (w .store) (frontOf (q .sandbox) i) ≡ suc f))))
   gathered e f k =
       let st : Store = w .store in
-      let new : Row = rowRewound st (q .sandbox) (slots (b .present)) (row (b .runs)) in
+      let new : Row = rowRewound st (q .sandbox) (slots (b .rec .present)) (row (b .runs)) in
       let same : keptIn (rowsOf (o .world) (q .sandbox)) f ≡ keptIn new f =
       ap (λ (r : Row). keptIn r f) (own-row (rw e) ∙ ap row (made e)) ∙ kept-in-same (row (tabled new)) new f (tabled-row new) in
-      let gain = runs-gain 256 (framesOf w) st (sound-parts image w q o s n .filed) (q .sandbox) (slots (b .present)) (row (b .runs)) f in
+      let gain = runs-gain 256 (framesOf w) st (sound-parts image w q o s n .filed) (q .sandbox) (slots (b .rec .present)) (row (b .runs)) f in
       ⊎-elim
       (λ none. inr
-      (let r = some-counted (λ i. spares st (q .sandbox) (slots (b .present)) i && eqb (entry st (frontOf (q .sandbox) i)) (suc f)) 64 (omega arith) in
+      (let r = some-counted (λ i. spares st (q .sandbox) (slots (b .rec .present)) i && eqb (entry st (frontOf (q .sandbox) i)) (suc f)) 64 (omega arith) in
       let i = r .0 in
       let goes = r .1 .1 in (
         i,
         (
           r .1 .0,
           (
-            and-right (not (eqb (entry st (frontOf (q .sandbox) i)) 0)) _ (and-left (spares st (q .sandbox) (slots (b .present)) i) _ goes),
-            eqb-true (entry st (frontOf (q .sandbox) i)) (suc f) (and-right (spares st (q .sandbox) (slots (b .present)) i) _ goes),
+            and-right (not (eqb (entry st (frontOf (q .sandbox) i)) 0)) _ (and-left (spares st (q .sandbox) (slots (b .rec .present)) i) _ goes),
+            eqb-true (entry st (frontOf (q .sandbox) i)) (suc f) (and-right (spares st (q .sandbox) (slots (b .rec .present)) i) _ goes),
           ),
         ),
       )))

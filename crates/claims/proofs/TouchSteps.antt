@@ -142,7 +142,7 @@ module _ (image : List ℕ) (f : ℕ) (q : Request) (b : Sandbox) (st : Store) w
   written-bare : q .code ≡ Write → entry st (frontOf (q .sandbox) (pageOf q)) ≡ 0
       → storeAfter image f q b st
       ≡ storeByte 256 (frontOf (q .sandbox) (pageOf q)) (offsetOf q) (q .p2)
-      (take 256 (frontOf (q .sandbox) (pageOf q)) f (pageRead image st b (q .sandbox) (pageOf q)) st)
+      (take 256 (frontOf (q .sandbox) (pageOf q)) f (pageRead image st (b .rec) (q .sandbox) (pageOf q)) st)
   unfolding storeAfter touched pageRead
   written-bare e z =
       let n = eq-eqb (entry st (frontOf (q .sandbox) (pageOf q))) 0 z in
@@ -188,7 +188,7 @@ module _ (image : List ℕ) (f : ℕ) (q : Request) (b : Sandbox) (st : Store) w
     entries-after (isSnapshot e) = rw e (moveTo-entry (q .sandbox * 128) st k 64 (omega arith) (outside-both e))
     entries-after (isRewind e) =
         rw e
-        (rewindTo-entry (q .sandbox * 128) st k 256 (keepsFront b) (copyPage image b) 64
+        (rewindTo-entry (q .sandbox * 128) st k 256 (keepsFront (b .rec)) (copyPage image (b .rec)) 64
         (⊎-elim (λ l. inl (omega arith)) (λ l. inr (omega arith)) (outside 0 64 (λ i l m. names-rewind b q e i (omega arith)))))
 
 -- ---- frames
@@ -198,8 +198,8 @@ module _ (image : List ℕ) (f : ℕ) (q : Request) (b : Sandbox) (st : Store) w
 pub record Meets (image : List ℕ) (f : ℕ) (q : Request) (b : Sandbox) (n : ℕ) (st : Store) : Type 0 where
   pub filed : Filed 256 n st
   pub whole : length image ≡ pagesIn (length image) * 256
-  pub present : WellFormed (pagesIn (length image)) (b .present)
-  pub snapshot : WellFormed (pagesIn (length image)) (b .snapshot)
+  pub present : WellFormed (pagesIn (length image)) (b .rec .present)
+  pub snapshot : WellFormed (pagesIn (length image)) (b .rec .snapshot)
   pub row : q .sandbox < 4
   pub limits : within (pagesIn (length image)) q ≡ true
   -- the run that a map takes is of frames of the pool, which are zero; its new pages are of the 64
@@ -213,21 +213,21 @@ module _ (image : List ℕ) (f : ℕ) (q : Request) (b : Sandbox) (n : ℕ) (st 
   place = frontOf (q .sandbox) (pageOf q)
 
   abbrev read : List ℕ
-  read = pageRead image st b (q .sandbox) (pageOf q)
+  read = pageRead image st (b .rec) (q .sandbox) (pageOf q)
 
   tidy : Tidy (λ x. ⊥) 256 n st
   tidy = record { filed = m .filed; clean = λ x c. absurd c }
 
-  copy-whole : (i : ℕ) → length (copyPage image b i) ≡ 256
-  copy-whole i = backing-whole image (m .whole) (backingAt (slots (b .snapshot) i)) (image-at _ (b .snapshot) (m .snapshot) i)
+  copy-whole : (i : ℕ) → length (copyPage image (b .rec) i) ≡ 256
+  copy-whole i = backing-whole image (m .whole) (backingAt (slots (b .rec .snapshot) i)) (image-at _ (b .rec .snapshot) (m .snapshot) i)
 
   read-whole : length read ≡ 256
   unfolding pageRead pageUnder
   read-whole =
-      let slot = slots (b .present) (pageOf q) in
+      let slot = slots (b .rec .present) (pageOf q) in
       page-whole 256 n st tidy place _
       (under-whole 256 n st tidy (backOf (q .sandbox) (pageOf q)) (backingPage image (backingAt slot))
-      (backing-whole image (m .whole) (backingAt slot) (image-at _ (b .present) (m .present) (pageOf q))) (isCommitted slot))
+      (backing-whole image (m .whole) (backingAt slot) (image-at _ (b .rec .present) (m .present) (pageOf q))) (isCommitted slot))
 
   -- a write to a page with a front changes one byte
   pub one-byte : q .code ≡ Write → (g : ℕ) → entry st place ≡ suc g
@@ -286,4 +286,4 @@ module _ (image : List ℕ) (f : ℕ) (q : Request) (b : Sandbox) (n : ℕ) (st 
       let stay = moveTo-pool (q .sandbox * 128) st 64 in rw e (record { bytes = rw (stay .0); marked = rw (stay .1) })
   left-after x unnamed untaken ungot (isRewind e) =
       rw e
-      (rewindTo-left 256 n st tidy x (q .sandbox * 128) (keepsFront b) (copyPage image b) copy-whole 64 (λ i l z. unnamed i (names-rewind b q e i l) z))
+      (rewindTo-left 256 n st tidy x (q .sandbox * 128) (keepsFront (b .rec)) (copyPage image (b .rec)) copy-whole 64 (λ i l z. unnamed i (names-rewind b q e i l) z))

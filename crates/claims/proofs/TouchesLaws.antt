@@ -26,8 +26,9 @@ use Rattle.runs.specs.Row.{lengthsOf}
 use Rattle.kept.specs.Spare.{keptAt}
 use Rattle.kept.proofs.SpareLaws.{run-kept}
 use Rattle.state.specs.declared.sandbox.Sandbox.{Sandbox}
-use Rattle.state.specs.World.{World, sandboxAt, withRuns, closedSandbox, framesOf, pagesIn, rowsOf}
-use Rattle.rules.specs.After.{changes, sandboxAfter}
+use Rattle.records.specs.declared.Record.{Record}
+use Rattle.state.specs.World.{World, sandboxAt, closedSandbox, framesOf, pagesIn, rowsOf}
+use Rattle.rules.specs.After.{changes, recordAfter}
 use Rattle.content.specs.Content.{pageRead}
 use Rattle.memory.specs.Memory.{placeFor, framesFor, storeAfter}
 use Rattle.machine.specs.Step.{takes, gives, Outcome, Stepped}
@@ -36,7 +37,7 @@ use Rattle.simulation.proofs.StoreSteps.{write-page}
 use Rattle.simulation.proofs.AcceptedLaws.{number, left, met, sound-parts, own, free, stored}
 use Rattle.claims.specs.Touches.{firstPage, namesFront, namesBack, leavesSandboxes, Untouched, Touches}
 use Rattle.claims.proofs.TouchSteps.{no-back, back-low, front-low, none-after, pool-after, entries-after, Meets, one-byte, filled, left-after}
-use Rattle.claims.proofs.TouchRuns.{sandbox-same, sandboxes-are, runs-same, runs-stay, grants, gave, unkept, gathered}
+use Rattle.claims.proofs.TouchRuns.{record-same, sandboxes-are, runs-same, runs-stay, grants, gave, unkept, gathered}
 
 module _ (image : List ℕ) (w : World) (q : Request) (o : Outcome) (s : Stepped image w q o) (n : o .answer .number ≡ 0) where
   abbrev b : Sandbox
@@ -69,8 +70,8 @@ module _ (image : List ℕ) (w : World) (q : Request) (o : Outcome) (s : Stepped
   meets = record {
     filed = filed;
     whole = sound-parts image w q o s n .whole;
-    present = own image w q o s n .present;
-    snapshot = own image w q o s n .snapshot;
+    present = own image w q o s n .rec .present;
+    snapshot = own image w q o s n .rec .snapshot;
     row = met image w q o s n .inRow;
     limits = limits;
     blank = λ x l e.
@@ -89,8 +90,8 @@ module _ (image : List ℕ) (w : World) (q : Request) (o : Outcome) (s : Stepped
         → o .world .sandboxes ≡ w .sandboxes
     unchanged x₁ x₂ x₃ x₄ x₅ =
         sandboxes-are image w q o s n
-        ∙ ap (λ (r : Runs). set (w .sandboxes) (q .sandbox) (withRuns r (sandboxAfter q b))) (runs-same image w q o s n x₅ x₄ g)
-        ∙ ap (λ (c : Sandbox). set (w .sandboxes) (q .sandbox) (withRuns (b .runs) c)) (sandbox-same q b x₁ x₂ x₃ x₄ (met image w q o s n .opened x₁))
+        ∙ ap (λ (r : Runs). set (w .sandboxes) (q .sandbox) (record { rec = recordAfter q (b .rec); runs = r })) (runs-same image w q o s n x₅ x₄ g)
+        ∙ ap (λ (c : Record). set (w .sandboxes) (q .sandbox) (record { rec = c; runs = b .runs })) (record-same q (b .rec) x₁ x₂ x₃ x₄ (met image w q o s n .opened x₁))
         ∙ set-getD (w .sandboxes) (q .sandbox) closedSandbox
 
     state : leavesSandboxes q ≡ true → o .world .sandboxes ≡ w .sandboxes
@@ -166,7 +167,7 @@ module _ (image : List ℕ) (w : World) (q : Request) (o : Outcome) (s : Stepped
   module _ (t : takes image w q ≡ true) where
     filled-after : after
         ≡ kept (mark (w .store .marks) (s .frame) 1)
-        (set (setFrame 256 (w .store .pool) (s .frame) (pageRead image (w .store) b (q .sandbox) (pageOf q))) (s .frame * 256 + offsetOf q) (q .p2))
+        (set (setFrame 256 (w .store .pool) (s .frame) (pageRead image (w .store) (b .rec) (q .sandbox) (pageOf q))) (s .frame * 256 + offsetOf q) (q .p2))
         (set (w .store .table) place (suc (s .frame)))
     filled-after =
         let this = taking image w q t in

@@ -93,9 +93,9 @@ Demand2 g = (qs : List Request) (as′ : List Answered) (v : World) → RunFrom 
 module _ (g : Given) (qs : List Request) (v : World) where
   -- "a rewound sandbox has exactly the mappings, rights and bytes the plain machine copied at its snapshot"
   pub record AsSnapshot (s : ℕ) : Type 0 where
-    pub mappings : slots (sandboxAt v s .present) ≡ copied (copySlots (upTo g qs s .core))
-    pub bytes : (i : ℕ) → i < 64 → isMapped (slots (sandboxAt v s .present) i) ≡ true
-        → pageRead (g .image) (v .store) (sandboxAt v s) s i ≡ listed 256 (copyBytes (upTo g qs s .core .copy) i)
+    pub mappings : slots (sandboxAt v s .rec .present) ≡ copied (copySlots (upTo g qs s .core))
+    pub bytes : (i : ℕ) → i < 64 → isMapped (slots (sandboxAt v s .rec .present) i) ≡ true
+        → pageRead (g .image) (v .store) (sandboxAt v s .rec) s i ≡ listed 256 (copyBytes (upTo g qs s .core .copy) i)
     -- "In a rewound sandbox each front and back is that of a snapshot page and holds the copy's bytes of it."
     pub fronts : (i f : ℕ) → i < 64 → entry (v .store) (frontOf s i) ≡ suc f
         → (isMapped (copied (copySlots (upTo g qs s .core)) i) ≡ true) × (frame 256 (v .store .pool) f ≡ listed 256 (copyBytes (upTo g qs s .core .copy) i))
@@ -121,14 +121,14 @@ module _ (g : Given) (qs : List Request) (v : World) where
 
   -- "no sandbox holds more than its share; no accepted mapping ever lacks a frame"
   pub record Promise : Type 0 where
-    pub share : (s : ℕ) → s < 4 → usedBelow (from (s * 128) (v .store .table)) 128 + keptBy (rowsOf v s) ≤ sandboxAt v s .share
+    pub share : (s : ℕ) → s < 4 → usedBelow (from (s * 128) (v .store .table)) 128 + keptBy (rowsOf v s) ≤ sandboxAt v s .rec .share
     -- "a sandbox's mapped pages and backs together are at most its share, the shares together at most the pool"
-    pub covered : (s : ℕ) → s < 4 → mappedPages (slots (sandboxAt v s .present)) + usedBelow (from (s * 128 + 64) (v .store .table)) 64 ≤ sandboxAt v s .share
+    pub covered : (s : ℕ) → s < 4 → mappedPages (slots (sandboxAt v s .rec .present)) + usedBelow (from (s * 128 + 64) (v .store .table)) 64 ≤ sandboxAt v s .rec .share
     pub pooled : sharesOf v ≤ g .frames
     -- "a next write within its limits, to any mapped page with rights 3, is accepted and leaves the page with a front"
-    pub next : (q : Request) (o : Outcome) → Stepped (g .image) v q o → q .code ≡ Write → q .sandbox < 4 → sandboxAt v (q .sandbox) .opened ≡ true
-        → within (pagesIn (length (g .image))) q ≡ true → isMapped (slots (sandboxAt v (q .sandbox) .present) (pageOf q)) ≡ true
-        → rightsAt (slots (sandboxAt v (q .sandbox) .present) (pageOf q)) ≡ 3
+    pub next : (q : Request) (o : Outcome) → Stepped (g .image) v q o → q .code ≡ Write → q .sandbox < 4 → sandboxAt v (q .sandbox) .rec .opened ≡ true
+        → within (pagesIn (length (g .image))) q ≡ true → isMapped (slots (sandboxAt v (q .sandbox) .rec .present) (pageOf q)) ≡ true
+        → rightsAt (slots (sandboxAt v (q .sandbox) .rec .present) (pageOf q)) ≡ 3
         → (o .answer .number ≡ 0) × ((f : ℕ) × (entry (o .world .store) (frontOf (q .sandbox) (pageOf q)) ≡ suc f))
     -- a write that gives up a frame has one to give up, and one that takes a frame finds one (that its page's front entry alone names it afterwards, and no run
     -- keeps it, is `alone` in Touches)

@@ -34,7 +34,7 @@ abbrev pub runTaken : Sandbox → Request → Held
 runTaken b q = row (b .runs) (placeFor q b)
 
 abbrev pub firstPage : Sandbox → Request → ℕ
-firstPage b q = firstOf (slots (b .present)) q
+firstPage b q = firstOf (slots (b .rec .present)) q
 
 abbrev pub frameGot : Sandbox → Request → ℕ → ℕ
 frameGot b q j = leastHeld (leftOf (runTaken b q) j)
@@ -102,7 +102,7 @@ pub record Touches (image : List ℕ) (w : World) (q : Request) (o : Outcome) (t
   pub gathered : q .code ≡ Rewind → (f : ℕ) → 1 ≤ keptIn (rowsOf (o .world) (q .sandbox)) f
       → (1 ≤ keptIn (rowsOf w (q .sandbox)) f)
       ⊎ ((i : ℕ) × ((i < 64)
-      × ((isSpared (slots (sandboxAt w (q .sandbox) .present) i) ≡ true) × (entry (w .store) (frontOf (q .sandbox) i) ≡ suc f))))
+      × ((isSpared (slots (sandboxAt w (q .sandbox) .rec .present) i) ≡ true) × (entry (w .store) (frontOf (q .sandbox) i) ≡ suc f))))
   -- no other call changes a run
   pub runs : takesRun q ≡ false → (q is Rewind) ≡ false → gives image w q ≡ false → (s : ℕ) → sandboxAt (o .world) s .runs ≡ sandboxAt w s .runs
   -- a snapshot moves entries only: no byte of the pool and no mark changes
@@ -128,7 +128,7 @@ pub record Touches (image : List ℕ) (w : World) (q : Request) (o : Outcome) (t
       → o .world .store ≡ kept (w .store .marks) (set (w .store .pool) (f * 256 + offsetOf q) (q .p2)) (w .store .table)
   -- "a page without a front first takes an unheld frame and fills it with what the page reads": one mark, one frame, one entry
   pub filled : takes image w q ≡ true
-      → let reads = pageRead image (w .store) (sandboxAt w (q .sandbox)) (q .sandbox) (pageOf q) in
+      → let reads = pageRead image (w .store) (sandboxAt w (q .sandbox) .rec) (q .sandbox) (pageOf q) in
       o .world .store
       ≡ kept (mark (w .store .marks) taken 1) (set (setFrame 256 (w .store .pool) taken reads) (taken * 256 + offsetOf q) (q .p2))
       (set (w .store .table) (frontOf (q .sandbox) (pageOf q)) (suc taken))

@@ -24,6 +24,7 @@ use Rattle.interface.proofs.AcceptedLaws.{accepted}
 use Rattle.interface.proofs.AloneLaws.{Unmapping, alone}
 use Rattle.table.specs.Store.{entry, frontOf, freeTo}
 use Rattle.table.proofs.FreeLaws.{freeTo-join, freeTo-none}
+use Rattle.areas.specs.declared.area.Areas.{Areas}
 use Rattle.areas.specs.Areas.{slots}
 use Rattle.areas.proofs.FewAreas.{few-areas}
 use Rattle.packing.specs.declared.pack.Change.the-variants.{Unmap}
@@ -31,11 +32,12 @@ use Rattle.packing.specs.Pack.{pack}
 use Rattle.packing.proofs.PackLaws.{areas-fit}
 use Rattle.packing.proofs.KeptLaws.{repack-slots, pack-slots}
 use Rattle.state.specs.declared.sandbox.Sandbox.{Sandbox}
-use Rattle.state.specs.World.{World, sandboxAt, withPresent, closedSandbox, pagesIn}
+use Rattle.records.specs.Record.{withPresent}
+use Rattle.state.specs.World.{World, sandboxAt, closedSandbox, pagesIn}
 use Rattle.state.specs.Sound.{SoundAt, Sound}
 use Rattle.soundness.proofs.TestLaws.{sound-of}
 use Rattle.areas.proofs.OrderLaws.{slots-inside}
-use Rattle.state.proofs.SettledLaws.{settled-at}
+use Rattle.records.proofs.SettledLaws.{settled-of}
 use Rattle.rules.specs.After.{packedAfter, takenAfter, snapshotAfter}
 use Rattle.memory.specs.Memory.{givesAt, runsAfter, storeAfter, valueAt}
 use Rattle.machine.specs.Step.{viewAt, numberAt, step, takes, Outcome, Stepped}
@@ -66,15 +68,19 @@ run-cons (more {o = o} {as′ = rest} s r) = record { outcome = o; rest = rest; 
 
 module _ (image : List ℕ) (s : ℕ) (row : s < 4) where
   abbrev slotsIn : World → Slots
-  slotsIn w = slots (sandboxAt w s .present)
+  slotsIn w = slots (sandboxAt w s .rec .present)
 
   record Good (w : World) : Type 0 where
     sound : Sound image w
-    opened : sandboxAt w s .opened ≡ true
+    opened : sandboxAt w s .rec .opened ≡ true
+
+  -- the sandbox with these areas
+  abbrev placed : World → Areas → Sandbox
+  placed w present = record { rec = withPresent present (sandboxAt w s .rec); runs = sandboxAt w s .runs }
 
   abbrev unmappedAt : World → ℕ → ℕ → World
   unmappedAt w a n = record {
-    sandboxes = set (w .sandboxes) s (withPresent (pack (without a n (slotsIn w)) .areas) (sandboxAt w s));
+    sandboxes = set (w .sandboxes) s (placed w (pack (without a n (slotsIn w)) .areas));
     store = freeTo 256 (frontOf s a) (w .store) n;
   }
 
@@ -84,9 +90,9 @@ module _ (image : List ℕ) (s : ℕ) (row : s < 4) where
 
     unmapped-none : (a n : ℕ) → a + n ≤ 64 → ((i : ℕ) → inside a n i ≡ true → isMapped (slotsIn w i) ≡ false) → unmappedAt w a n ≡ w
     unmapped-none a n l u =
-        let present : pack (without a n (slotsIn w)) .areas ≡ sandboxAt w s .present =
-        ap (λ (f : Slots). pack f .areas) (without-none (slotsIn w) a n u) ∙ pack-slots _ (sandboxAt w s .present) (own .present) in
-        let sandboxes : set (w .sandboxes) s (withPresent (pack (without a n (slotsIn w)) .areas) (sandboxAt w s)) ≡ w .sandboxes =
+        let present : pack (without a n (slotsIn w)) .areas ≡ sandboxAt w s .rec .present =
+        ap (λ (f : Slots). pack f .areas) (without-none (slotsIn w) a n u) ∙ pack-slots _ (sandboxAt w s .rec .present) (own .rec .present) in
+        let sandboxes : set (w .sandboxes) s (placed w (pack (without a n (slotsIn w)) .areas)) ≡ w .sandboxes =
         rw present (set-getD (w .sandboxes) s closedSandbox) in
         let store : freeTo 256 (frontOf s a) (w .store) n ≡ w .store =
         freeTo-none 256 (frontOf s a) (w .store) n (λ i b. no-front a n i l b u) in
@@ -99,31 +105,31 @@ module _ (image : List ℕ) (s : ℕ) (row : s < 4) where
             rw place (own .fronts (a + i) (omega arith) (u (a + i) (inside-yes a n (a + i) (omega arith) (omega arith))))
 
     module _ (a n : ℕ) (l : a + n ≤ 64) (few : areas (without a n (slotsIn w)) ≤ 8) where
-      here : sandboxAt (unmappedAt w a n) s ≡ withPresent (pack (without a n (slotsIn w)) .areas) (sandboxAt w s)
+      here : sandboxAt (unmappedAt w a n) s ≡ placed w (pack (without a n (slotsIn w)) .areas)
       here =
-          getD-set-same (w .sandboxes) s (withPresent (pack (without a n (slotsIn w)) .areas) (sandboxAt w s)) closedSandbox
+          getD-set-same (w .sandboxes) s (placed w (pack (without a n (slotsIn w)) .areas)) closedSandbox
           (omega (arith, G .sound .row))
 
       packed-slots : slots (pack (without a n (slotsIn w)) .areas) ≡ without a n (slotsIn w)
-      packed-slots = repack-slots _ (sandboxAt w s .present) (own .present) a n Unmap (areas-fit (without a n (slotsIn w)) few) l
+      packed-slots = repack-slots _ (sandboxAt w s .rec .present) (own .rec .present) a n Unmap (areas-fit (without a n (slotsIn w)) few) l
 
       unmapped-slots : slotsIn (unmappedAt w a n) ≡ without a n (slotsIn w)
-      unmapped-slots = ap (λ (b : Sandbox). slots (b .present)) here ∙ packed-slots
+      unmapped-slots = ap (λ (b : Sandbox). slots (b .rec .present)) here ∙ packed-slots
 
       unmapped-join : (m : ℕ) → unmappedAt (unmappedAt w a n) (a + n) m ≡ unmappedAt w a (n + m)
       unmapped-join m =
           let place : frontOf s (a + n) ≡ frontOf s a + n = omega arith in
           rw (here, packed-slots, over-join a n m (λ i. Unmapped) (slotsIn w), place, freeTo-join 256 (frontOf s a) (w .store) n m)
           (λ j. record {
-            sandboxes = set-set (w .sandboxes) s (withPresent (pack (without a n (slotsIn w)) .areas) (sandboxAt w s))
-                (withPresent (pack (without a (n + m) (slotsIn w)) .areas) (sandboxAt w s)) j;
+            sandboxes = set-set (w .sandboxes) s (placed w (pack (without a n (slotsIn w)) .areas))
+                (placed w (pack (without a (n + m) (slotsIn w)) .areas)) j;
             store = freeTo 256 (frontOf s a) (w .store) (n + m);
           })
 
 -- ---- one unmap
 
 settled : (image : List ℕ) (w : World) → Sound image w → (s : ℕ) → s < 4 → Settled (viewAt image w s)
-settled image w S s l = settled-at (pagesIn (length image)) (w .store) s (sandboxAt w s) (S .each s l) _ _ _ _
+settled image w S s l = settled-of (pagesIn (length image)) (sandboxAt w s .rec) (S .each s l .rec) _ _ _ _
 
 module _ (image : List ℕ) (w : World) (q : Request) (o : Outcome) (S : Sound image w) (u : Unmaps (viewAt image w (q .sandbox)) q)
     (t : Stepped image w q o) where
@@ -175,7 +181,7 @@ module _ (image : List ℕ) (s : ℕ) (row : s < 4) where
       sound =
           rw (← unmap-leaves image w q (step image 0 0 w q) (G .sound) unmaps stepped taken)
           (stays-sound image w (G .sound) q (step image 0 0 w q) stepped);
-      opened = ap (λ (b : Sandbox). b .opened) (here image s row w G a (suc n) l few) ∙ G .opened;
+      opened = ap (λ (b : Sandbox). b .rec .opened) (here image s row w G a (suc n) l few) ∙ G .opened;
     }
 
     cons-after : (r : World) (rest : List Request) → Leading (unmappedAt image s row w a (suc n)) rest r → Leading w (q ∷ rest) r
@@ -197,7 +203,7 @@ module _ (image : List ℕ) (s : ℕ) (row : s < 4) where
     Good = Good image s row;
     unmapped = unmappedAt image s row;
     Leads = Leading;
-    few = λ w G. few-areas _ (sandboxAt w s .present) (own image s row w G .present);
+    few = λ w G. few-areas _ (sandboxAt w s .rec .present) (own image s row w G .rec .present);
     none = unmapped-none image s row;
     nil = λ w as′ v run. run-nil run;
     fits = fits-after;
@@ -230,7 +236,7 @@ over-gaps image w q o S u t =
     record {
       answered =
           told ∙ rw (unmap-hole _ q (sound-of image w S) v u
-          (slots-inside _ (sandboxAt w (q .sandbox) .present) (own image (q .sandbox) (u .row) w good .present)))
+          (slots-inside _ (sandboxAt w (q .sandbox) .rec .present) (own image (q .sandbox) (u .row) w good .rec .present)))
           (by-cases (eqb (areas f) 8 && isHole f (q .p1) (q .p2)) (λ e. rw e) (λ e. rw e));
       gap = λ i b m. told ∙ rw (unmap-over-gap _ q (sound-of image w S) v u i b m);
       nothing = λ clear.

@@ -19,7 +19,7 @@ use Rattle.claims.specs.Demands.{Run}
 
 -- the pages of the sandbox that a request names
 abbrev pub pagesOf : World → Request → Slots
-pagesOf w q = slots (sandboxAt w (q .sandbox) .present)
+pagesOf w q = slots (sandboxAt w (q .sandbox) .rec .present)
 
 -- from the world w, the unmap q has the outcome o
 pub record OverGaps (image : List ℕ) (w : World) (q : Request) (o : Outcome) : Type 0 where

@@ -26,8 +26,8 @@ use Rattle.claims.specs.Demands.{RunFrom, Took}
 pub record PassedOver (w : World) (s i : ℕ) : Type 0 where
   pub row : s < 4
   pub page : i < 64
-  pub committed : isCommitted (slots (sandboxAt w s .present) i) ≡ true
-  pub rights : rightsAt (slots (sandboxAt w s .present) i) ≡ rightsAt (slots (sandboxAt w s .snapshot) i)
+  pub committed : isCommitted (slots (sandboxAt w s .rec .present) i) ≡ true
+  pub rights : rightsAt (slots (sandboxAt w s .rec .present) i) ≡ rightsAt (slots (sandboxAt w s .rec .snapshot) i)
   pub frontless : entry (w .store) (frontOf s i) ≡ 0
 
 -- two worlds that differ in nothing but bytes of back frames of such pages

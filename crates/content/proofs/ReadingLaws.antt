@@ -15,9 +15,9 @@ use Rattle.table.specs.Virtual.{bytesUnder, bytesRead}
 use Rattle.areas.specs.declared.area.Areas.{Areas}
 use Rattle.areas.specs.Areas.{slots}
 use Rattle.areas.specs.Formed.{WellFormed, ImagesExist}
-use Rattle.state.specs.declared.sandbox.Sandbox.{Sandbox}
+use Rattle.records.specs.declared.Record.{Record}
 use Rattle.state.specs.World.{pagesIn}
-use Rattle.state.proofs.NearLaws.{image-exists}
+use Rattle.records.proofs.ImageLaws.{image-exists}
 use Rattle.content.specs.Content.{pageUnder, pageRead}
 
 -- the image page of a page's backing is there
@@ -30,7 +30,7 @@ backing-there image a f i = go (backingAt (slots a i)) (image-exists (pagesIn (l
     go (Image p) e = omega arith
 
 -- what a page reads, by what stands there
-module _ (image : List ℕ) (st : Store) (b : Sandbox) (s : ℕ) (number : PageNo) (slot : Slot) (is : slot ≡ slots (b .present) (number .0)) where
+module _ (image : List ℕ) (st : Store) (b : Record) (s : ℕ) (number : PageNo) (slot : Slot) (is : slot ≡ slots (b .present) (number .0)) where
   pub under-is : bytesUnder image st (record { sandbox = s; number = number; slot = slot }) ≡ pageUnder image st b s (number .0)
   unfolding pageUnder
   under-is = rw is

@@ -7,26 +7,26 @@ use Rattle.pages.specs.Parts.{sameBytes}
 use Rattle.table.specs.Store.{Store, frontOf, backOf, contents, pageFrom, underFront}
 use Rattle.table.specs.Backing.{backingPage}
 use Rattle.areas.specs.Areas.{slots}
-use Rattle.state.specs.declared.sandbox.Sandbox.{Sandbox}
+use Rattle.records.specs.declared.Record.{Record}
 
 -- "else, if committed, its back frame; else zero bytes or its image page": what page i of sandbox s reads but for its front
-unfoldable pub pageUnder : List ℕ → Store → Sandbox → ℕ → ℕ → List ℕ
+unfoldable pub pageUnder : List ℕ → Store → Record → ℕ → ℕ → List ℕ
 pageUnder image st b s i =
     underFront (isCommitted (slots (b .present) i)) (backingPage image (backingAt (slots (b .present) i))) (contents 256 st (backOf s i))
 
 -- "A page reads its front frame; else, ..."
-unfoldable pub pageRead : List ℕ → Store → Sandbox → ℕ → ℕ → List ℕ
+unfoldable pub pageRead : List ℕ → Store → Record → ℕ → ℕ → List ℕ
 pageRead image st b s i = pageFrom (pageUnder image st b s i) (contents 256 st (frontOf s i))
 
 -- a snapshot page without a back
-abbrev pub copyPage : List ℕ → Sandbox → ℕ → List ℕ
+abbrev pub copyPage : List ℕ → Record → ℕ → List ℕ
 copyPage image b i = backingPage image (backingAt (slots (b .snapshot) i))
 
 -- what page i of the snapshot reads: a committed page that was never touched since, "its back frame; else zero bytes or its image page"
-unfoldable pub copyRead : List ℕ → Store → Sandbox → ℕ → ℕ → List ℕ
+unfoldable pub copyRead : List ℕ → Store → Record → ℕ → ℕ → List ℕ
 copyRead image st b s i = pageFrom (copyPage image b i) (contents 256 st (backOf s i))
 
 -- request A1: "the lowest page number at which the sandbox and its snapshot differ in being mapped, in rights or in bytes", by "comparing all 64 pages"
-unfoldable pub differing : List ℕ → Store → Sandbox → ℕ → ℕ
+unfoldable pub differing : List ℕ → Store → Record → ℕ → ℕ
 differing image st b s =
     lowestDifference (slots (b .present)) (slots (b .snapshot)) (λ i. sameBytes 256 (pageRead image st b s i) (copyRead image st b s i))

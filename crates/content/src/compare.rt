@@ -22,7 +22,7 @@ use slots::backing_at;
 use slots::is_committed;
 use slots::is_mapped;
 use slots::rights_at;
-use state::sandbox::Sandbox;
+use records::Record;
 
 // Where a sandbox and its snapshot differ.
 pub struct Difference;
@@ -33,7 +33,7 @@ impl Difference {
 }
 
 // Page by page, up to the first page that differs. Where every area stands in the snapshot as it is, a page without a front is not even looked up.
-pub fn lowest_difference(pool: &[u8], table: &[u16], image: &[u8], b: Sandbox, s: u8) -> u8
+pub fn lowest_difference(pool: &[u8], table: &[u16], image: &[u8], b: Record, s: u8) -> u8
     requires { ⌜ s < Sandboxes ⌝ }
     requires { ⌜ Ready (pagesIn (length (now image))) b ⌝ }
     requires { ⌜ Ranged PageBytes (now pool) (now table) ⌝ }

@@ -11,11 +11,11 @@ ghost use Rattle.rules.specs.Ready.{Fit, Ready};
 ghost use Rattle.content.specs.Content.{pageRead};
 use interface::PageNo;
 use interface::Request;
-use state::sandbox::Sandbox;
+use records::Record;
 use table::page::VirtualPage;
 
 // The byte that a page reads.
-pub fn read(pool: &[u8], table: &[u16], image: &[u8], b: Sandbox, q: Request) -> u8
+pub fn read(pool: &[u8], table: &[u16], image: &[u8], b: Record, q: Request) -> u8
     requires { ⌜ q .code ≡ Read ⌝ }
     requires { ⌜ q .sandbox < Sandboxes ⌝ }
     requires { ⌜ Fit q ⌝ }

@@ -62,7 +62,7 @@ fn without_frames(
     requires { ⌜ (q .code ≡ Write → ⊥) ⌝ }
     requires { ⌜ q .sandbox < Sandboxes ⌝ }
     requires { ⌜ Fit q ⌝ }
-    requires { ⌜ Ready (pagesIn (length (now image))) b ⌝ }
+    requires { ⌜ Ready (pagesIn (length (now image))) (b .rec) ⌝ }
     requires { ⌜ Ranged PageBytes (now pool) (now table) ⌝ }
     ensures { λ r. ⌜ (let before = kept held (now (pool .entry)) (now (table .entry)) in
         LeftBy (now (image .entry)) q b before (kept (r .held) (now (pool .exit)) (now (table .exit))) (r .runs)) ⌝ }
@@ -86,9 +86,9 @@ fn without_frames(
             }
         }
         Request::REWIND => {
-            let present = b.present;
+            let present = b.rec.present;
             let left = gathered(table, present, runs, s);
-            let h = rewind(held, pool, table, image, b, s);
+            let h = rewind(held, pool, table, image, b.rec, s);
             Left {
                 held: h,
                 runs: left,
@@ -145,12 +145,12 @@ fn touch(machine: Machine, pool: &mut [u8], table: &mut [u16], image: &[u8], q: 
     }
     let found = kept_marks(sandboxes);
     let all = found.held;
-    let given = give_up(table, runs, all, b.share, s);
+    let given = give_up(table, runs, all, b.rec.share, s);
     let rest = given.kept;
     let left = given.runs;
     let frames = (pool.len() / Page::SIZE) as u8;
     let f = unheld_frame(held, rest, frames);
-    let present = b.present;
+    let present = b.rec.present;
     let slot = present.slot(number);
     let page = VirtualPage {
         sandbox: s,

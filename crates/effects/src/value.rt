@@ -20,24 +20,25 @@ use state::sandbox::Sandbox;
 pub fn value_of(pool: &[u8], table: &[u16], image: &[u8], b: Sandbox, q: Request) -> u32
     requires { ⌜ q .sandbox < Sandboxes ⌝ }
     requires { ⌜ Fit q ⌝ }
-    requires { ⌜ Ready (pagesIn (length (now image))) b ⌝ }
+    requires { ⌜ Ready (pagesIn (length (now image))) (b .rec) ⌝ }
     requires { ⌜ Ranged PageBytes (now pool) (now table) ⌝ }
     requires { ⌜ pagesIn (length (now pool)) ≤ MostFrames ⌝ }
     ensures { λ r. ⌜ ((h : Words) → let before = kept h (now (pool .entry)) (now (table .entry)) in
         r ≡ valueAt (now (image .entry)) q b before) ⌝ }
 {
     let code = q.code;
-    let present = b.present;
+    let rec = b.rec;
+    let present = rec.present;
     match code {
         Request::MAP => first_of(present, q) as u32,
-        Request::READ => read(pool, table, image, b, q) as u32,
+        Request::READ => read(pool, table, image, rec, q) as u32,
         Request::SNAPSHOT => present.mapped_pages() as u32,
         Request::REPORT => {
             let runs = b.runs;
             let frames = (pool.len() / Page::SIZE) as u8;
             marks::frames_held(table, q.sandbox as u8, frames) as u32 + runs.kept() as u32
         }
-        Request::COMPARE => lowest_difference(pool, table, image, b, q.sandbox as u8) as u32,
+        Request::COMPARE => lowest_difference(pool, table, image, rec, q.sandbox as u8) as u32,
         _ => 0,
     }
 }

@@ -21,11 +21,12 @@ use Rattle.table.specs.Store.{Store}
 use Rattle.runs.specs.declared.Runs.{Runs}
 use Rattle.areas.specs.Areas.{slots}
 use Rattle.state.specs.declared.sandbox.Sandbox.{Sandbox}
-use Rattle.state.specs.World.{World, sandboxAt, sharesOf, withRuns, framesOf, pagesIn, viewFrom}
+use Rattle.records.specs.Record.{viewFrom}
+use Rattle.state.specs.World.{World, sandboxAt, sharesOf, framesOf, pagesIn}
 use Rattle.soundness.specs.Test.{soundb}
 use Rattle.soundness.proofs.TestLaws.{Tested}
 use Rattle.soundness.proofs.Room.{room-left, frame-there}
-use Rattle.rules.specs.After.{sandboxAfter}
+use Rattle.rules.specs.After.{recordAfter}
 use Rattle.rules.specs.Ready.{Ready}
 use Rattle.rules.proofs.FitLaws.{fit, page-small}
 use Rattle.memory.specs.Memory.{valueAt}
@@ -63,7 +64,7 @@ module _ (image : List ℕ) (w : World) (q : Request) where
 
   -- the view of a sound state
   pub number-rest : soundb image w ≡ true
-      → refusal (viewFrom true (framesOf w) (pagesIn (length image)) (sharesOf w) (sandboxAt w (q .sandbox))) q ≡ numberAt image w q
+      → refusal (viewFrom true (framesOf w) (pagesIn (length image)) (sharesOf w) (sandboxAt w (q .sandbox) .rec)) q ≡ numberAt image w q
   unfolding numberAt
   number-rest s = rw s
 
@@ -84,21 +85,14 @@ module _ (image : List ℕ) (w : World) (q : Request) where
 
   pub performed : (value : ℕ) (sandboxes : List Sandbox) (st : Store) (runs : Runs) → StoreStepped image q w st runs
       → value ≡ valueAt image q (sandboxAt w (q .sandbox)) (w .store)
-      → sandboxes ≡ set (w .sandboxes) (q .sandbox) (withRuns runs (sandboxAfter q (sandboxAt w (q .sandbox))))
+      → sandboxes ≡ set (w .sandboxes) (q .sandbox) (record { rec = recordAfter q (sandboxAt w (q .sandbox) .rec); runs = runs })
       → Performed image w q (record { answer = record { number = 0; value = value }; world = record { sandboxes = sandboxes; store = st } })
   performed value sandboxes st runs t v e = with-frames q w _ _ (λ f g after. rw (v, e, after .0, after .1)) t
 
   module _ (S : Tested image w) (row : q .sandbox < 4) where
     -- the sandbox of a sound state
-    pub ready : Ready (pagesIn (length image)) (sandboxAt w (q .sandbox))
-    ready = record {
-      few = S .images;
-      present = S .each (q .sandbox) row .present;
-      snapshot = S .each (q .sandbox) row .snapshot;
-      backing = S .each (q .sandbox) row .backing;
-      charged = S .each (q .sandbox) row .charged;
-      closed = λ e. ap (λ (b : Sandbox). b .share) (S .each (q .sandbox) row .closed e);
-    }
+    pub ready : Ready (pagesIn (length image)) (sandboxAt w (q .sandbox) .rec)
+    ready = record { few = S .images; sound = S .each (q .sandbox) row .rec }
 
   module _ (S : Tested image w) where
     -- what an accepted call's parts ask
@@ -109,7 +103,7 @@ module _ (image : List ℕ) (w : World) (q : Request) where
         let row = a .inRow in
         let within-limits = fit (pagesIn (length image)) q (S .images) (a .inLimits) in
         let small : q .code ≡ Write → pageOf q < 64 = λ e. page-small (q .p1) (within-limits .written e .0) in
-        let there : q .code ≡ Write → isMapped (slots (sandboxAt w (q .sandbox) .present) (pageOf q)) ≡ true = λ e. rw e at (a .mapped) in
+        let there : q .code ≡ Write → isMapped (slots (sandboxAt w (q .sandbox) .rec .present) (pageOf q)) ≡ true = λ e. rw e at (a .mapped) in
         record {
           row = row;
           fit = within-limits;

@@ -13,9 +13,10 @@ use Rattle.interface.specs.Requests.{_is_, Write, pageOf}
 use Rattle.interface.specs.Refusals.{View, refusal}
 use Rattle.table.specs.Store.{entry, frontOf}
 use Rattle.state.specs.declared.sandbox.Sandbox.{Sandbox}
-use Rattle.state.specs.World.{World, sandboxAt, withSandbox, withRuns, framesOf, pagesIn, sharesOf, viewFrom}
+use Rattle.records.specs.Record.{viewFrom}
+use Rattle.state.specs.World.{World, sandboxAt, withSandbox, framesOf, pagesIn, sharesOf}
 use Rattle.soundness.specs.Test.{soundb}
-use Rattle.rules.specs.After.{sandboxAfter}
+use Rattle.rules.specs.After.{recordAfter}
 use Rattle.runs.specs.Row.{InLongest}
 use Rattle.memory.specs.Memory.{Unheld, givesAt, runsAfter, storeAfter, valueAt}
 
@@ -23,16 +24,16 @@ use Rattle.memory.specs.Memory.{Unheld, givesAt, runsAfter, storeAfter, valueAt
 
 -- what refusals are decided from: of sandbox s, with row 3, "lent length wrong, or state unsound"
 abbrev pub viewAt : List ℕ → World → ℕ → View
-viewAt image w s = viewFrom (soundb image w) (framesOf w) (pagesIn (length image)) (sharesOf w) (sandboxAt w s)
+viewAt image w s = viewFrom (soundb image w) (framesOf w) (pagesIn (length image)) (sharesOf w) (sandboxAt w s .rec)
 
 -- the number of the refusal, or 0
 unfoldable pub numberAt : List ℕ → World → Request → ℕ
 numberAt image w q = refusal (viewAt image w (q .sandbox)) q
 
--- the sandbox with the runs that result
+-- the sandbox that results: its record, and its runs
 abbrev pub sandboxThen : ℕ → World → Request → Sandbox
 sandboxThen given w q =
-    withRuns (runsAfter given q (sandboxAt w (q .sandbox)) (w .store)) (sandboxAfter q (sandboxAt w (q .sandbox)))
+    record { rec = recordAfter q (sandboxAt w (q .sandbox) .rec); runs = runsAfter given q (sandboxAt w (q .sandbox)) (w .store) }
 
 abbrev pub worldAfter : List ℕ → ℕ → ℕ → World → Request → World
 worldAfter image f given w q =

@@ -7,16 +7,17 @@ ghost use Rattle.memory.specs.Parts.{Asked};
 ghost use Rattle.machine.specs.Parts.{outcomeOf, Performed};
 use areas::area::Areas;
 use decision::Verdict;
-use decision::decide;
 use effects::store::store_after;
 use effects::value::value_of;
 use interface::Answer;
 use interface::PageNo;
 use interface::Refusal;
 use interface::Request;
-use rules::sandbox_after;
+use rules::record_after;
+use sandbox_decision::decide;
 use soundness::sound::sound;
 use state::sandbox::Machine;
+use state::sandbox::Sandbox;
 
 // A state, and what the call answers.
 pub struct Reply {
@@ -67,7 +68,7 @@ fn perform(
     present: Areas,
 ) -> Reply
     requires { ⌜ Asked (now image) q (worldOf machine (now pool) (now table)) ⌝ }
-    requires { ⌜ present ≡ presentAfter q (sandboxAt (worldOf machine (now pool) (now table)) (q .sandbox)) ⌝ }
+    requires { ⌜ present ≡ presentAfter q (sandboxAt (worldOf machine (now pool) (now table)) (q .sandbox) .rec) ⌝ }
     ensures { λ r. ⌜ (let before = worldOf machine (now (pool .entry)) (now (table .entry)) in
         Performed (now (image .entry)) before q (outcomeOf r (now (pool .exit)) (now (table .exit)))) ⌝ }
 {
@@ -78,8 +79,11 @@ fn perform(
     let left = store_after(machine, pool, table, image, q);
     let held = left.held;
     let runs = left.runs;
-    let after = sandbox_after(b, q, present);
-    m.sandboxes[k] = after.with_runs(runs);
+    let rec = record_after(b.rec, q, present);
+    m.sandboxes[k] = Sandbox {
+        rec: rec,
+        runs: runs,
+    };
     m.held = held;
     Reply {
         machine: m,

@@ -73,7 +73,7 @@ module _ (image : List ℕ) (q : Request) (w : World) (A : Asked image q w) (e :
   pub touch-made : (after : Store) (r : Given) (f : ℕ) (z : ownFront q (w .store) ≡ 0)
       (g : GaveUp (gives image q w A e z) (own .runs) (keptTo (rowsOf w) 4 .held) r)
       → f < framesOf w → held (w .store .marks) f ≡ 0 → held (r .kept) f ≡ 0
-      → after ≡ take 256 (frontOf (q .sandbox) page) f (pageUnder image (w .store) own (q .sandbox) page) (w .store)
+      → after ≡ take 256 (frontOf (q .sandbox) page) f (pageUnder image (w .store) (own .rec) (q .sandbox) page) (w .store)
       → TouchStepped image q w after (r .runs)
   unfolding touched runsAfter
   touch-made after r f z g low unnamed unkept a =
@@ -90,19 +90,19 @@ module _ (image : List ℕ) (q : Request) (w : World) (A : Asked image q w) (e :
   tidy-of = record { filed = A .filed; clean = λ f c. absurd c }
 
   -- what the page reads but for a front is a whole page
-  whole : length (pageUnder image (w .store) own (q .sandbox) page) ≡ 256
+  whole : length (pageUnder image (w .store) (own .rec) (q .sandbox) page) ≡ 256
   unfolding pageUnder
   whole =
-      let slot : Slot = slots (own .present) page in
+      let slot : Slot = slots (own .rec .present) page in
       under-whole 256 (framesOf w) (w .store) tidy-of (backOf (q .sandbox) page) (backingPage image (backingAt slot))
-      (backing-whole image (backingAt slot) (backing-there image (own .present) (A .ready .present) page)) (isCommitted slot)
+      (backing-whole image (backingAt slot) (backing-there image (own .rec .present) (A .ready .sound .present) page)) (isCommitted slot)
 
   pub touch-ranged : (after : Store) (left : Runs) → page < 64 → TouchStepped image q w after left → Ranged 256 (after .pool) (after .table)
   unfolding touched
   touch-ranged after left m t =
       by-cases (eqb (ownFront q (w .store)) 0)
       (λ z. let free = takes-free image q w A (t .frame) (t .given) (t .takes (and-of (eq-eqb (q .code) Write e) z)) (t .gave) in
-      let bytes : List ℕ = pageUnder image (w .store) own (q .sandbox) page in
+      let bytes : List ℕ = pageUnder image (w .store) (own .rec) (q .sandbox) page in
       let same : after ≡ take 256 (frontOf (q .sandbox) page) (t .frame) bytes (w .store) = t .so .0 ∙ rw z in
       let changed =
       taken 256 (framesOf w) (w .store) tidy-of (frontOf (q .sandbox) page) (t .frame) bytes (omega (arith, A .row)) (eqb-true _ 0 z) (free .0) (free .1)
@@ -158,8 +158,8 @@ module _ (image : List ℕ) (q : Request) (b : Sandbox) (st : Store) where
   unfolding storeAfter runsAfter givesAt
   copied after e a = (a ∙ rw e, rw e)
 
-  pub rewound : (after : Store) (left : Runs) → q .code ≡ Rewind → after ≡ rewindTo 256 (q .sandbox * 128) (keepsFront b) (copyPage image b) st 64
-      → left ≡ tabled (rowRewound st (q .sandbox) (slots (b .present)) (row (b .runs))) → LeftBy image q b st after left
+  pub rewound : (after : Store) (left : Runs) → q .code ≡ Rewind → after ≡ rewindTo 256 (q .sandbox * 128) (keepsFront (b .rec)) (copyPage image (b .rec)) st 64
+      → left ≡ tabled (rowRewound st (q .sandbox) (slots (b .rec .present)) (row (b .runs))) → LeftBy image q b st after left
   unfolding storeAfter runsAfter givesAt
   rewound after left e a r = (a ∙ rw e, r ∙ rw e)
 

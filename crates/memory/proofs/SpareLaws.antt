@@ -57,7 +57,7 @@ module _ (image : List ℕ) (q : Request) (w : World) (A : Asked image q w) wher
 
   module _ (e : q .code ≡ Write) (z : ownFront q (w .store) ≡ 0) where
     abbrev pub gives : Bool
-    gives = ltb (own .share) (usedBelow (from (q .sandbox * 128) (w .store .table)) 128 + keptBy (row (own .runs)) + 1)
+    gives = ltb (own .rec .share) (usedBelow (from (q .sandbox * 128) (w .store .table)) 128 + keptBy (row (own .runs)) + 1)
 
     -- whether a write without a front gives a frame up
     pub gives-is : givesAt q own (w .store) ≡ gives
@@ -73,7 +73,7 @@ module _ (image : List ℕ) (q : Request) (w : World) (A : Asked image q w) wher
           let free = longest-frame (g .given) o in
           let gone : r .kept ≡ mark (keptTo (rowsOf w) 4 .held) (g .given) 0 = g .marks ∙ rw t in
           (g .given, (free .0, (free .1, rw gone (held-mark-same (keptTo (rowsOf w) 4 .held) (g .given) 0 (omega arith))))))
-          (λ t. let there = A .room e z (omega (arith, ltb-false (own .share) _ t)) in
+          (λ t. let there = A .room e z (omega (arith, ltb-false (own .rec .share) _ t)) in
           let low : there .0 < 128 = omega (arith, there .1 .ofPool, A .filed .few) in
           let same : r .kept ≡ keptTo (rowsOf w) 4 .held = g .marks ∙ rw t in
           (there .0, (there .1 .ofPool, (there .1 .unnamed, rw same (A .found (there .0) low ∙ there .1 .unkept)))))
@@ -92,8 +92,8 @@ module _ (image : List ℕ) (q : Request) (w : World) (A : Asked image q w) wher
 
   -- ---- a map takes zero frames, so no byte need change
   pub adopts : q .code ≡ Map
-      → adoptTo (frontOf (q .sandbox) (firstOf (slots (own .present)) q)) (row (own .runs) (placeFor q own)) (w .store) (framesFor q own)
-      ≡ grantTo 256 (frontOf (q .sandbox) (firstOf (slots (own .present)) q)) (row (own .runs) (placeFor q own)) (w .store) (framesFor q own)
+      → adoptTo (frontOf (q .sandbox) (firstOf (slots (own .rec .present)) q)) (row (own .runs) (placeFor q own)) (w .store) (framesFor q own)
+      ≡ grantTo 256 (frontOf (q .sandbox) (firstOf (slots (own .rec .present)) q)) (row (own .runs) (placeFor q own)) (w .store) (framesFor q own)
   adopts e =
       let c : ℕ = placeFor q own in
       let mine : (f : ℕ) → f < 128 → held (row (own .runs) c) f ≡ 1 → (f < frames) × (frame 256 (w .store .pool) f ≡ zeros 256) =
@@ -102,5 +102,5 @@ module _ (image : List ℕ) (q : Request) (w : World) (A : Asked image q w) wher
       let low : f < frames = by-cases (ltb f frames) (λ t. ltb-true f frames t)
       (λ t. absurd (omega (arith, A .spare .ofPool f (ltb-false f frames t) l, kept))) in
       (low, A .spare .blank f low kept) in
-      adopted 256 frames (frontOf (q .sandbox) (firstOf (slots (own .present)) q)) (row (own .runs) c) (w .store) (omega arith) (A .filed .pages) mine
+      adopted 256 frames (frontOf (q .sandbox) (firstOf (slots (own .rec .present)) q)) (row (own .runs) c) (w .store) (omega arith) (A .filed .pages) mine
       (framesFor q own) (granted-run (q .p2) (lengthsOf (own .runs))) .0

@@ -20,15 +20,15 @@ use Rattle.content.specs.Content.{pageRead, differing}
 use Rattle.memory.specs.Memory.{heldBy, valueAt}
 
 module _ (image : List ℕ) (q : Request) (b : Sandbox) (st : Store) where
-  pub map-value : (value : ℕ) → q .code ≡ Map → value ≡ firstOf (slots (b .present)) q → value ≡ valueAt image q b st
+  pub map-value : (value : ℕ) → q .code ≡ Map → value ≡ firstOf (slots (b .rec .present)) q → value ≡ valueAt image q b st
   unfolding valueAt
   map-value value e v = v ∙ rw e
 
-  pub read-value : (value : ℕ) → q .code ≡ Read → value ≡ getD (pageRead image st b (q .sandbox) (pageOf q)) (offsetOf q) 0 → value ≡ valueAt image q b st
+  pub read-value : (value : ℕ) → q .code ≡ Read → value ≡ getD (pageRead image st (b .rec) (q .sandbox) (pageOf q)) (offsetOf q) 0 → value ≡ valueAt image q b st
   unfolding valueAt
   read-value value e v = v ∙ rw e
 
-  pub snapshot-value : (value : ℕ) → q .code ≡ Snapshot → value ≡ mappedPages (slots (b .present)) → value ≡ valueAt image q b st
+  pub snapshot-value : (value : ℕ) → q .code ≡ Snapshot → value ≡ mappedPages (slots (b .rec .present)) → value ≡ valueAt image q b st
   unfolding valueAt
   snapshot-value value e v = v ∙ rw e
 
@@ -38,7 +38,7 @@ module _ (image : List ℕ) (q : Request) (b : Sandbox) (st : Store) where
   unfolding valueAt heldBy keptBy
   report-value value named kept e n k v = v ∙ rw (n, k, e)
 
-  pub compare-value : (value : ℕ) → q .code ≡ Compare → value ≡ differing image st b (q .sandbox) → value ≡ valueAt image q b st
+  pub compare-value : (value : ℕ) → q .code ≡ Compare → value ≡ differing image st (b .rec) (q .sandbox) → value ≡ valueAt image q b st
   unfolding valueAt
   compare-value value e v = v ∙ rw e
 

@@ -36,17 +36,17 @@ ownFront q st = entry st (frontOf (q .sandbox) (pageOf q))
 pub record Asked (image : List ℕ) (q : Request) (w : World) : Type 0 where
   pub row : q .sandbox < 4
   pub fit : Fit q
-  pub ready : Ready (pagesIn (length image)) (ownSandbox q w)
+  pub ready : Ready (pagesIn (length image)) (ownSandbox q w .rec)
   pub filed : Filed 256 (framesOf w) (w .store)
   pub spare : Spare 256 (framesOf w) (w .store) (rowsOf w)
   -- the marks of all runs together, as a pass over them finds them
   pub found : (f : ℕ) → f < 128 → held (keptTo (rowsOf w) 4 .held) f ≡ keptAt (rowsOf w) f
   -- a map lies within the 64 pages
-  pub mapped : q .code ≡ Map → firstOf (slots (ownSandbox q w .present)) q + q .p2 ≤ 64
+  pub mapped : q .code ≡ Map → firstOf (slots (ownSandbox q w .rec .present)) q + q .p2 ≤ 64
   -- a written page is mapped: without a front of its own, fronts and backs leave room for one more within the share,
-  pub fits : q .code ≡ Write → ownFront q (w .store) ≡ 0 → usedBelow (from (q .sandbox * 128) (w .store .table)) 128 < ownSandbox q w .share
+  pub fits : q .code ≡ Write → ownFront q (w .store) ≡ 0 → usedBelow (from (q .sandbox * 128) (w .store .table)) 128 < ownSandbox q w .rec .share
   -- and where kept frames leave room too, a frame is not held
-  pub room : q .code ≡ Write → ownFront q (w .store) ≡ 0 → holdsIn (w .store) (q .sandbox) (ownSandbox q w) < ownSandbox q w .share
+  pub room : q .code ≡ Write → ownFront q (w .store) ≡ 0 → holdsIn (w .store) (q .sandbox) (ownSandbox q w) < ownSandbox q w .rec .share
       → (f : ℕ) × Unheld w f
 
 -- the frame that a write takes "was unheld, or was given up by this very call"
@@ -73,4 +73,4 @@ StoreStepped image q w after left = WithFrames q w (λ frame given.
 -- a write before its byte is stored: a page without a front took a frame, filled with what the page reads; one with a front is as it was
 abbrev pub TouchStepped : List ℕ → Request → World → Store → Runs → Type 0
 TouchStepped image q w after left = WithFrames q w (λ frame given.
-    (after ≡ touched image frame (ownSandbox q w) (q .sandbox) (pageOf q) (w .store)) × (left ≡ runsAfter given q (ownSandbox q w) (w .store)))
+    (after ≡ touched image frame (ownSandbox q w .rec) (q .sandbox) (pageOf q) (w .store)) × (left ≡ runsAfter given q (ownSandbox q w) (w .store)))

@@ -15,13 +15,13 @@ use Rattle.archive.specs.Written.{Written, writtenAs}
 -- the snapshot of sandbox s, and not its present pages
 abbrev pub snapshotOf : List ℕ → World → ℕ → Pages
 snapshotOf image w s = record {
-  slots = slots (sandboxAt w s .snapshot);
-  bytes = λ i j. getD (copyRead image (w .store) (sandboxAt w s) s i) j 0;
+  slots = slots (sandboxAt w s .rec .snapshot);
+  bytes = λ i j. getD (copyRead image (w .store) (sandboxAt w s .rec) s i) j 0;
 }
 
 -- its roll
 abbrev pub archiveOf : List ℕ → World → ℕ → List Request
-archiveOf image w s = archive s (sandboxAt w s .share) (snapshotOf image w s) image
+archiveOf image w s = archive s (sandboxAt w s .rec .share) (snapshotOf image w s) image
 
 -- the first row that applies, of a sandbox and so many bytes of output memory; or 0
 unfoldable pub archiveNumber : List ℕ → World → ℕ → ℕ → ℕ

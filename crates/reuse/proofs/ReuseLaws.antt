@@ -54,7 +54,7 @@ module _ (q : Request) (b : Sandbox) (e : q .code ≡ Map) (p : q .p1 ≡ 64) (z
   unfolding granted
   frames-there = n-is ∙ rw run-there
 
-  pub taken-store : (at first : ℕ) (st : Store) → at ≡ frontOf (q .sandbox) first → first ≡ firstOf (slots (b .present)) q
+  pub taken-store : (at first : ℕ) (st : Store) → at ≡ frontOf (q .sandbox) first → first ≡ firstOf (slots (b .rec .present)) q
       → adoptTo at run st n ≡ mapAdopts q b st
   unfolding mapAdopts
   taken-store at first st a f = rw (a, f, run-there, frames-there, eq-eqb (q .code) Map e, eq-eqb (q .p1) 64 p, eq-eqb (q .p3) 0 z)

@@ -25,7 +25,7 @@ mapRuns q b =
 unfoldable pub mapAdopts : Request → Sandbox → Store → Store
 mapAdopts q b st =
     let run = row (b .runs) (runFor (q .p2) (lengthsOf (b .runs))) in
-    adoptTo (frontOf (q .sandbox) (firstOf (slots (b .present)) q)) run st (granted (q .p2) (lengthsOf (b .runs))) when takesRun q else st
+    adoptTo (frontOf (q .sandbox) (firstOf (slots (b .rec .present)) q)) run st (granted (q .p2) (lengthsOf (b .runs))) when takesRun q else st
 
 -- where a frame is given up, it is one of the longest run, which loses it; the marks of the kept frames lose it too
 pub record GaveUp (gives : Bool) (runs : Runs) (kept : Held) (r : Given) : Type 0 where

@@ -42,8 +42,8 @@ pub fn map(held: Held, table: &mut [u16], b: Sandbox, q: Request) -> Left
     requires { ⌜ q .code ≡ Map ⌝ }
     requires { ⌜ q .sandbox < Sandboxes ⌝ }
     requires { ⌜ Fit q ⌝ }
-    requires { ⌜ ((images : ℕ) × Ready images b) ⌝ }
-    requires { ⌜ firstOf (slots (b .present)) q + q .p2 ≤ PageCount ⌝ }
+    requires { ⌜ ((images : ℕ) × Ready images (b .rec)) ⌝ }
+    requires { ⌜ firstOf (slots (b .rec .present)) q + q .p2 ≤ PageCount ⌝ }
     requires { ⌜ length (now table) ≡ TableEntries ⌝ }
     ensures { λ r. ⌜ ((pool : List ℕ) → let before = storeOf held pool (now (table .entry)) in
         storeOf (r .held) pool (now (table .exit)) ≡ mapAdopts q b before) ⌝ }
@@ -65,7 +65,7 @@ pub fn map(held: Held, table: &mut [u16], b: Sandbox, q: Request) -> Left
     let pages = q.p2 as u8;
     let place = runs.fitting(pages);
     let run = runs.at(place);
-    let present = b.present;
+    let present = b.rec.present;
     let first = first_of(present, q);
     let at = q.sandbox as usize * Marks::SANDBOX_ENTRIES + first as usize;
     let granted = grant(held, table, at, run, lesser(pages, run.count()));

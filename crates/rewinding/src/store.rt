@@ -16,7 +16,7 @@ use filling::store::restore_page;
 use frames::Held;
 use interface::PageNo;
 use interface::Slot;
-use state::sandbox::Sandbox;
+use records::Record;
 use table::page::VirtualPage;
 
 // "Rewind": each front keeps its frame with the snapshot's bytes, or is freed and cleared. A committed page agrees with the snapshot's in backing, so
@@ -26,7 +26,7 @@ pub fn rewind(
     pool: &mut [u8],
     table: &mut [u16],
     image: &[u8],
-    b: Sandbox,
+    b: Record,
     s: u8,
 ) -> Held
     requires { ⌜ s < Sandboxes ⌝ }

@@ -38,7 +38,7 @@ use Rattle.table.specs.Store.{Store, entry, frontOf, backOf, contents, pageIn, 
 use Rattle.runs.specs.Row.{row}
 use Rattle.kept.specs.Spare.{keptBy}
 use Rattle.areas.specs.Areas.{slots}
-use Rattle.state.specs.declared.sandbox.Sandbox.{Sandbox}
+use Rattle.records.specs.declared.Record.{Record}
 use Rattle.state.specs.World.{World, sandboxAt}
 use Rattle.table.specs.Backing.{backingPage}
 use Rattle.content.specs.Content.{pageUnder, pageRead, differing}
@@ -66,7 +66,7 @@ module _ (o : ℕ) (low : o < 256) where
   in-byte pool zero other b h = h
   in-byte pool (suc f) other b h = frame-byte pool f b
 
-  read-byte : (image : List ℕ) (st : Store) (b : Sandbox) (s i : ℕ) → Bytes image → Bytes (st .pool) → At o (pageRead image st b s i)
+  read-byte : (image : List ℕ) (st : Store) (b : Record) (s i : ℕ) → Bytes image → Bytes (st .pool) → At o (pageRead image st b s i)
   unfolding pageRead pageUnder contents
   read-byte image st b s i t u =
       in-byte (st .pool) (entry st (frontOf s i)) _ u
@@ -84,7 +84,7 @@ unfolding numberAt
 unrefused image w q e = e
 
 -- "Value: first page"
-first-low : (image : List ℕ) (w : World) (q : Request) → numberAt image w q ≡ 0 → q .code ≡ Map → firstOf (slots (sandboxAt w (q .sandbox) .present)) q ≤ 64
+first-low : (image : List ℕ) (w : World) (q : Request) → numberAt image w q ≡ 0 → q .code ≡ Map → firstOf (slots (sandboxAt w (q .sandbox) .rec .present)) q ≤ 64
 first-low image w q e m =
     let v = viewAt image w (q .sandbox) in
     let fits = map-fits v q (accepted v q (unrefused image w q e)) m in
@@ -111,7 +111,7 @@ kept-low row =
     )
 
 -- "and 64 if they nowhere differ"
-differing-low : (image : List ℕ) (st : Store) (b : Sandbox) (s : ℕ) → differing image st b s ≤ 64
+differing-low : (image : List ℕ) (st : Store) (b : Record) (s : ℕ) → differing image st b s ≤ 64
 unfolding differing lowestDifference
 differing-low image st b s = lowest-range _ 0 64 .1
 
@@ -122,10 +122,10 @@ module _ (image : List ℕ) (w : World) (q : Request) (t : Bytes image) (u : Byt
       let b = sandboxAt w (q .sandbox) in
       when-cases (λ x. x ≤ 65535) (q is Map) (λ e. let r = first-low image w q n (eqb-true (q .code) Map e) in omega (arith, r))
       (λ _. when-cases (λ x. x ≤ 65535) (q is Read)
-      (λ e. let r = read-byte (offsetOf q) (omega arith) image (w .store) b (q .sandbox) (pageOf q) t u in omega (arith, r))
-      (λ _. when-cases (λ x. x ≤ 65535) (q is Snapshot) (λ e. let r = mapped-small (slots (b .present)) in omega (arith, r))
+      (λ e. let r = read-byte (offsetOf q) (omega arith) image (w .store) (b .rec) (q .sandbox) (pageOf q) t u in omega (arith, r))
+      (λ _. when-cases (λ x. x ≤ 65535) (q is Snapshot) (λ e. let r = mapped-small (slots (b .rec .present)) in omega (arith, r))
       (λ _. when-cases (λ x. x ≤ 65535) (q is Report) (λ e. omega (arith, held-low (w .store) (q .sandbox), kept-low (row (b .runs))))
-      (λ _. when-cases (λ x. x ≤ 65535) (q is Compare) (λ e. let r = differing-low image (w .store) b (q .sandbox) in omega (arith, r)) (λ _. omega arith)))))
+      (λ _. when-cases (λ x. x ≤ 65535) (q is Compare) (λ e. let r = differing-low image (w .store) (b .rec) (q .sandbox) in omega (arith, r)) (λ _. omega arith)))))
 
   pub value-small : (o : Outcome) → Stepped image w q o → o .answer .value ≤ 65535
   unfolding step

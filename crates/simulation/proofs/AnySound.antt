@@ -33,10 +33,12 @@ use Rattle.areas.specs.Areas.{slots}
 use Rattle.areas.proofs.FewAreas.{few-areas}
 use Rattle.areas.proofs.OrderLaws.{none-slots, empty-formed}
 use Rattle.state.specs.declared.sandbox.Sandbox.{Sandbox}
-use Rattle.state.specs.World.{World, sandboxAt, framesOf, pagesIn, copyOf}
+use Rattle.records.specs.Record.{copyOf}
+use Rattle.state.specs.World.{World, sandboxAt, framesOf, pagesIn}
 use Rattle.state.specs.Sound.{SoundAt, Sound}
 use Rattle.areas.proofs.OrderLaws.{slots-inside}
-use Rattle.state.proofs.SettledLaws.{copied-slots}
+use Rattle.records.proofs.SettledLaws.{copied-slots}
+use Rattle.state.proofs.SoundLaws.{closed-sandbox}
 use Rattle.machine.specs.Step.{Outcome, Stepped}
 use Rattle.plain.specs.Machine.{Given, Pages, Kept, Plain, closed, held, copySlots, copyBytes, backingByte}
 use Rattle.plain.specs.Claims.{Keeps, Reads}
@@ -60,23 +62,23 @@ abbrev markedAt : Store → ℕ → ℕ → Bool
 markedAt st place i = ltb i 64 && not (eqb (entry st place) 0)
 
 abbrev copyBytesOf : List ℕ → Store → ℕ → Sandbox → ℕ → ℕ → ℕ
-copyBytesOf image st s b i = orBytes (backingByte image (backingAt (slots (b .snapshot) i))) (contents 256 st (backOf s i))
+copyBytesOf image st s b i = orBytes (backingByte image (backingAt (slots (b .rec .snapshot) i))) (contents 256 st (backOf s i))
 
 abbrev bytesOf : List ℕ → Store → ℕ → Sandbox → ℕ → ℕ → ℕ
 bytesOf image st s b i =
-    orBytes (copyBytesOf image st s b i when isCommitted (slots (b .present) i) else backingByte image (backingAt (slots (b .present) i)))
+    orBytes (copyBytesOf image st s b i when isCommitted (slots (b .rec .present) i) else backingByte image (backingAt (slots (b .rec .present) i)))
     (contents 256 st (frontOf s i))
 
 abbrev copyPages : List ℕ → Store → ℕ → Sandbox → Option Pages
-copyPages image st s b = some (record { slots = slots (b .snapshot); bytes = copyBytesOf image st s b }) when b .taken else none
+copyPages image st s b = some (record { slots = slots (b .rec .snapshot); bytes = copyBytesOf image st s b }) when b .rec .taken else none
 
 -- of an open sandbox
 abbrev keptOf : List ℕ → Store → ℕ → Sandbox → Kept
 keptOf image st s b = record {
   core = record {
-    opened = b .opened;
-    share = b .share;
-    pages = record { slots = slots (b .present); bytes = bytesOf image st s b };
+    opened = b .rec .opened;
+    share = b .rec .share;
+    pages = record { slots = slots (b .rec .present); bytes = bytesOf image st s b };
     copy = copyPages image st s b;
   };
   traces = record {
@@ -91,19 +93,19 @@ module _ (image : List ℕ) (n : ℕ) (st : Store) (F : Filed 256 n st) (s : ℕ
   abbrev k : Kept
   k = keptOf image st s b
 
-  copy-slots : copySlots (k .core) ≡ copyOf b
-  copy-slots = by-cases (b .taken) (λ t. rw t) (λ t. rw t)
+  copy-slots : copySlots (k .core) ≡ copyOf (b .rec)
+  copy-slots = by-cases (b .rec .taken) (λ t. rw t) (λ t. rw t)
 
-  all-copied : copied (copySlots (k .core)) ≡ slots (b .snapshot)
-  all-copied = ap copied copy-slots ∙ copied-slots _ st s b S
+  all-copied : copied (copySlots (k .core)) ≡ slots (b .rec .snapshot)
+  all-copied = ap copied copy-slots ∙ copied-slots _ (b .rec) (S .rec)
 
-  copy-slot : (i : ℕ) → copied (copySlots (k .core)) i ≡ slots (b .snapshot) i
+  copy-slot : (i : ℕ) → copied (copySlots (k .core)) i ≡ slots (b .rec .snapshot) i
   copy-slot i = ap (λ (f : Slots). f i) all-copied
 
-  copy-bytes : (i : ℕ) → isMapped (slots (b .snapshot) i) ≡ true → copyBytes (k .core .copy) i ≡ copyBytesOf image st s b i
+  copy-bytes : (i : ℕ) → isMapped (slots (b .rec .snapshot) i) ≡ true → copyBytes (k .core .copy) i ≡ copyBytesOf image st s b i
   copy-bytes i m =
-      by-cases (b .taken) (λ t. rw t)
-      (λ t. never (isMapped (slots (b .snapshot) i)) m (ap (λ (f : Slots). isMapped (f i)) (ap slots (S .untaken t) ∙ none-slots)))
+      by-cases (b .rec .taken) (λ t. rw t)
+      (λ t. never (isMapped (slots (b .rec .snapshot) i)) m (ap (λ (f : Slots). isMapped (f i)) (ap slots (S .rec .untaken t) ∙ none-slots)))
 
   -- a mark is an entry
   no-mark : (e i : ℕ) → i < 64 → markedAt st e i ≡ false → contents 256 st e ≡ none
@@ -124,11 +126,11 @@ module _ (image : List ℕ) (n : ℕ) (st : Store) (F : Filed 256 n st) (s : ℕ
       (ap some (as-listed 256 (λ j. getD (frame 256 (st .pool) d) j 0) (frame 256 (st .pool) d)
       (length-frame 256 (st .pool) d (fits-pool 256 n (st .pool) d (F .pages) (F .names .within e d z))) (λ o m. refl))))
 
-  mapped-front : (i : ℕ) → markedAt st (frontOf s i) i ≡ true → isMapped (slots (b .present) i) ≡ true
-  mapped-front i m = let x = low-mark (frontOf s i) i m in by-cases (isMapped (slots (b .present) i)) (λ y. y) (λ y. absurd (x .1 (S .fronts i (x .0) y)))
+  mapped-front : (i : ℕ) → markedAt st (frontOf s i) i ≡ true → isMapped (slots (b .rec .present) i) ≡ true
+  mapped-front i m = let x = low-mark (frontOf s i) i m in by-cases (isMapped (slots (b .rec .present) i)) (λ y. y) (λ y. absurd (x .1 (S .fronts i (x .0) y)))
 
-  mapped-back : (i : ℕ) → markedAt st (backOf s i) i ≡ true → isMapped (slots (b .snapshot) i) ≡ true
-  mapped-back i m = let x = low-mark (backOf s i) i m in by-cases (isMapped (slots (b .snapshot) i)) (λ y. y) (λ y. absurd (x .1 (S .backs i (x .0) y)))
+  mapped-back : (i : ℕ) → markedAt st (backOf s i) i ≡ true → isMapped (slots (b .rec .snapshot) i) ≡ true
+  mapped-back i m = let x = low-mark (backOf s i) i m in by-cases (isMapped (slots (b .rec .snapshot) i)) (λ y. y) (λ y. absurd (x .1 (S .backs i (x .0) y)))
 
   marked-used : (e i : ℕ) → i < 64 → used (entry st e) ≡ one (markedAt st e i)
   marked-used e i l =
@@ -136,7 +138,7 @@ module _ (image : List ℕ) (n : ℕ) (st : Store) (F : Filed 256 n st) (s : ℕ
       (λ z. rw (lt-ltb i 64 l, eq-eqb (entry st e) 0 z) (rw z))
       (λ f z. rw (lt-ltb i 64 l, ne-eqb (entry st e) 0 (omega (arith, z))) (rw z))
 
-  in-share : held (k .traces) ≤ b .share
+  in-share : held (k .traces) ≤ b .rec .share
   unfolding held keptBy
   in-share =
       omega (
@@ -148,44 +150,44 @@ module _ (image : List ℕ) (n : ℕ) (st : Store) (F : Filed 256 n st) (s : ℕ
         S .inShare,
       )
 
-  keeps : b .opened ≡ true → Keeps k
+  keeps : b .rec .opened ≡ true → Keeps k
   unfolding chargeOf
   keeps o =
       record {
-        charged = rw copy-slots (S .charged);
-        inAreas = few-areas _ (b .present) (S .present);
+        charged = rw copy-slots (S .rec .charged);
+        inAreas = few-areas _ (b .rec .present) (S .rec .present);
         frontMapped = mapped-front;
-        committedIn = λ i c. rw (copy-slot i) (S .committed i c);
+        committedIn = λ i c. rw (copy-slot i) (S .rec .committed i c);
         backIn = λ i m. rw (copy-slot i) (mapped-back i m);
         inShare = in-share;
         backCopied = refl;
-        inside = slots-inside _ (b .present) (S .present);
-        copyInside = λ i m. slots-inside _ (b .snapshot) (S .snapshot) i (rw (copy-slot i) at m);
-        copyCharged = by-cases (b .taken)
-            (λ t. let c = rw t at (S .charged) in rw t (omega (arith, c, rewind-charge (slots (b .present)) (slots (b .snapshot)) (S .marked))))
+        inside = slots-inside _ (b .rec .present) (S .rec .present);
+        copyInside = λ i m. slots-inside _ (b .rec .snapshot) (S .rec .snapshot) i (rw (copy-slot i) at m);
+        copyCharged = by-cases (b .rec .taken)
+            (λ t. let c = rw t at (S .rec .charged) in rw t (omega (arith, c, rewind-charge (slots (b .rec .present)) (slots (b .rec .snapshot)) (S .rec .marked))))
             (λ t. rw t (omega (arith, mapped-none)));
-        copyAreas = by-cases (b .taken) (λ t. rw t (few-areas _ (b .snapshot) (S .snapshot))) (λ t. rw t (omega (arith, areas-none)));
-        openShare = S .shared;
-        closedEmpty = λ e. never (b .opened) o e;
+        copyAreas = by-cases (b .rec .taken) (λ t. rw t (few-areas _ (b .rec .snapshot) (S .rec .snapshot))) (λ t. rw t (omega (arith, areas-none)));
+        openShare = S .rec .shared;
+        closedEmpty = λ e. never (b .rec .opened) o e;
       }
 
   reads : (g : Given) → g .image ≡ image → Reads g k
   reads g e =
       record {
         old = λ i c f.
-            let l = slots-inside _ (b .present) (S .present) i (committed-mapped (slots (b .present) i) c) in
-            rw (no-mark (frontOf s i) i l f, c) (sym (copy-bytes i (S .committed i c)));
+            let l = slots-inside _ (b .rec .present) (S .rec .present) i (committed-mapped (slots (b .rec .present) i) c) in
+            rw (no-mark (frontOf s i) i l f, c) (sym (copy-bytes i (S .rec .committed i c)));
         new = λ i c f.
-            let l = slots-inside _ (b .present) (S .present) i (uncommitted-mapped (slots (b .present) i) c) in
-            let u : isCommitted (slots (b .present) i) ≡ false =
-            by-cases (isCommitted (slots (b .present) i)) (λ d. one-mark (slots (b .present) i) c d) (λ d. d) in
+            let l = slots-inside _ (b .rec .present) (S .rec .present) i (uncommitted-mapped (slots (b .rec .present) i) c) in
+            let u : isCommitted (slots (b .rec .present) i) ≡ false =
+            by-cases (isCommitted (slots (b .rec .present) i)) (λ d. one-mark (slots (b .rec .present) i) c d) (λ d. d) in
             rw (no-mark (frontOf s i) i l f, u, e);
         unbacked = λ i m f.
             let y = rw (copy-slot i) at m in
-            let l = slots-inside _ (b .snapshot) (S .snapshot) i y in
+            let l = slots-inside _ (b .rec .snapshot) (S .rec .snapshot) i y in
             copy-bytes i y ∙ rw (no-mark (backOf s i) i l f, e, copy-slot i);
-        backing = λ i c. rw (copy-slot i) (S .backing i c);
-        marked = λ i. rw (copy-slot i) (S .marked i);
+        backing = λ i c. rw (copy-slot i) (S .rec .backing i c);
+        marked = λ i. rw (copy-slot i) (S .rec .marked i);
       }
 
   agrees-at : (g : Given) → g .image ≡ image → AgreesAt g st s b k
@@ -193,13 +195,13 @@ module _ (image : List ℕ) (n : ℕ) (st : Store) (F : Filed 256 n st) (s : ℕ
       record {
         opened = refl;
         share = refl;
-        formed = rw e (S .present);
+        formed = rw e (S .rec .present);
         present = refl;
-        formedCopy = rw e (S .snapshot);
-        taken = by-cases (b .taken) (λ t. rw t) (λ t. rw t);
+        formedCopy = rw e (S .rec .snapshot);
+        taken = by-cases (b .rec .taken) (λ t. rw t) (λ t. rw t);
         copy = sym all-copied;
-        untaken = S .untaken;
-        closed = S .closed;
+        untaken = S .rec .untaken;
+        closed = closed-sandbox _ st s b S;
         places = S .places;
         runs = λ i l. refl;
         fronts = λ i l. page-is (frontOf s i) i _ l;
@@ -209,40 +211,40 @@ module _ (image : List ℕ) (n : ℕ) (st : Store) (F : Filed 256 n st) (s : ℕ
       }
 
   -- a closed sandbox has no page and no entry
-  agrees-closed : (g : Given) → b .opened ≡ false → AgreesAt g st s b closed
+  agrees-closed : (g : Given) → b .rec .opened ≡ false → AgreesAt g st s b closed
   agrees-closed g o =
-      let none-mapped : (i : ℕ) → isMapped (slots (b .present) i) ≡ false = λ i. rw (S .closed o) (ap (λ (f : Slots). isMapped (f i)) none-slots) in
-      let none-copied : (i : ℕ) → isMapped (slots (b .snapshot) i) ≡ false = λ i. rw (S .closed o) (ap (λ (f : Slots). isMapped (f i)) none-slots) in
+      let none-mapped : (i : ℕ) → isMapped (slots (b .rec .present) i) ≡ false = λ i. rw (closed-sandbox _ st s b S o) (ap (λ (f : Slots). isMapped (f i)) none-slots) in
+      let none-copied : (i : ℕ) → isMapped (slots (b .rec .snapshot) i) ≡ false = λ i. rw (closed-sandbox _ st s b S o) (ap (λ (f : Slots). isMapped (f i)) none-slots) in
       record {
         opened = o;
-        share = ap (λ (x : Sandbox). x .share) (S .closed o);
-        formed = rw (S .closed o) (empty-formed _);
-        present = rw (S .closed o) none-slots;
-        formedCopy = rw (S .closed o) (empty-formed _);
-        taken = ap (λ (x : Sandbox). x .taken) (S .closed o);
-        copy = rw (S .closed o) none-slots;
-        untaken = S .untaken;
-        closed = S .closed;
+        share = ap (λ (x : Sandbox). x .rec .share) (closed-sandbox _ st s b S o);
+        formed = rw (closed-sandbox _ st s b S o) (empty-formed _);
+        present = rw (closed-sandbox _ st s b S o) none-slots;
+        formedCopy = rw (closed-sandbox _ st s b S o) (empty-formed _);
+        taken = ap (λ (x : Sandbox). x .rec .taken) (closed-sandbox _ st s b S o);
+        copy = rw (closed-sandbox _ st s b S o) none-slots;
+        untaken = S .rec .untaken;
+        closed = closed-sandbox _ st s b S;
         places = S .places;
-        runs = λ i l. rw (S .closed o) (ap countHeld (getD-replicate 8 i noneHeld noneHeld l) ∙ none-count noneHeld (λ f d. held-zero f));
+        runs = λ i l. rw (closed-sandbox _ st s b S o) (ap countHeld (getD-replicate 8 i noneHeld noneHeld l) ∙ none-count noneHeld (λ f d. held-zero f));
         fronts = λ i l. contents-none 256 st (frontOf s i) (S .fronts i l (none-mapped i));
         backs = λ i l. contents-none 256 st (backOf s i) (S .backs i l (none-copied i));
       }
 
 -- of any sandbox
 abbrev pub keptFor : List ℕ → Store → ℕ → Sandbox → Kept
-keptFor image st s b = keptOf image st s b when b .opened else closed
+keptFor image st s b = keptOf image st s b when b .rec .opened else closed
 
 module _ (g : Given) (st : Store) (F : Filed 256 (g .frames) st) (s : ℕ) (b : Sandbox) (S : SoundAt (pagesIn (length (g .image))) st s b) where
   pub kept-keeps : Keeps (keptFor (g .image) st s b)
-  kept-keeps = when-cases Keeps (b .opened) (keeps (g .image) (g .frames) st F s b S) (λ _. keeps-closed)
+  kept-keeps = when-cases Keeps (b .rec .opened) (keeps (g .image) (g .frames) st F s b S) (λ _. keeps-closed)
 
   pub kept-reads : Reads g (keptFor (g .image) st s b)
-  kept-reads = when-cases (Reads g) (b .opened) (λ _. reads (g .image) (g .frames) st F s b S g refl) (λ _. reads-fresh g s)
+  kept-reads = when-cases (Reads g) (b .rec .opened) (λ _. reads (g .image) (g .frames) st F s b S g refl) (λ _. reads-fresh g s)
 
   pub kept-agrees : AgreesAt g st s b (keptFor (g .image) st s b)
   kept-agrees =
-      when-cases (AgreesAt g st s b) (b .opened)
+      when-cases (AgreesAt g st s b) (b .rec .opened)
       (λ _. agrees-at (g .image) (g .frames) st F s b S g refl)
       (agrees-closed (g .image) (g .frames) st F s b S g)
 
@@ -277,7 +279,7 @@ module _ (image : List ℕ) (w : World) (S : Sound image w) where
         each = agrees-each;
         holds = record {
           each = for-each Keeps keeps-closed (λ s l. kept-keeps given (w .store) (S .filed) s (sandboxAt w s) (S .each s l));
-          pooled = omega (arith, S .pooled, sum-same (λ t. sandboxAt w t .share) (λ t. plainOf image w t .core .share) 4 (λ t l. agrees-each t l .share));
+          pooled = omega (arith, S .pooled, sum-same (λ t. sandboxAt w t .rec .share) (λ t. plainOf image w t .core .share) 4 (λ t l. agrees-each t l .share));
         };
         reads = for-each (Reads given) (reads-fresh given 0) (λ s l. kept-reads given (w .store) (S .filed) s (sandboxAt w s) (S .each s l));
       }

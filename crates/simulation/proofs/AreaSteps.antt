@@ -29,7 +29,9 @@ use Rattle.packing.proofs.PackLaws.{areas-fit, slots-pack}
 use Rattle.packing.proofs.KeptLaws.{pack-formed, changed-order}
 use Rattle.packing.proofs.ChangeLaws.{map-slots, unmap-slots, protect-slots, snapshot-slots}
 use Rattle.state.specs.declared.sandbox.Sandbox.{Sandbox}
-use Rattle.state.specs.World.{pagesIn, copyOf}
+use Rattle.records.specs.declared.Record.{Record}
+use Rattle.records.specs.Record.{copyOf}
+use Rattle.state.specs.World.{pagesIn}
 use Rattle.rules.specs.After.{changes, packedAfter, presentAfter, takenAfter, snapshotAfter}
 use Rattle.plain.specs.Machine.{Given, Pages, Core, Kept, copySlots, keptAfter, viewOf}
 use Rattle.plain.specs.Claims.{Keeps}
@@ -42,7 +44,7 @@ unfolding AllInOrder
 image-at images s w i = order-image images (slots s i) (slots-order images s w i)
 
 -- the two machines' copies
-pub copy-same : (b : Sandbox) (c : Core) → b .taken ≡ isTaken (c .copy) → slots (b .snapshot) ≡ copied (copySlots c) → copyOf b ≡ copySlots c
+pub copy-same : (b : Record) (c : Core) → b .taken ≡ isTaken (c .copy) → slots (b .snapshot) ≡ copied (copySlots c) → copyOf b ≡ copySlots c
 copy-same b c t e = go (c .copy) t e
   where
     go : (d : Option Pages) → b .taken ≡ isTaken d → slots (b .snapshot) ≡ copied (Option·map (λ (x : Pages). x .slots) d)
@@ -86,10 +88,10 @@ module _ (v : View) (q : Request) (a : Accepted v q) (o : AllInOrder (v .imagePa
 module _ (g : Given) (q : Request) (st : Store) (b : Sandbox) (k : Kept) (total : ℕ)
     (a : Accepted (viewOf g total (k .core)) q) (h : Keeps k) (A : AgreesAt g st (q .sandbox) b k) where
   in-order : AllInOrder (pagesIn (length (g .image))) (k .core .pages .slots)
-  in-order = rw (← A .present) (slots-order _ (b .present) (A .formed))
+  in-order = rw (← A .present) (slots-order _ (b .rec .present) (A .formed))
 
   now-bounded : Bounded (k .core .pages .slots)
-  now-bounded = rw (← A .present) (slots-bounded _ (b .present) (A .formed))
+  now-bounded = rw (← A .present) (slots-bounded _ (b .rec .present) (A .formed))
 
   result : Slots
   result = slotsAfter q (k .core .pages .slots) (copySlots (k .core))
@@ -102,31 +104,31 @@ module _ (g : Given) (q : Request) (st : Store) (b : Sandbox) (k : Kept) (total 
   unfolding result
   result-fits = areas-fit _ (a .inAreas)
 
-  all-packed : changes q ≡ true → packedAfter q b ≡ pack result
+  all-packed : changes q ≡ true → packedAfter q (b .rec) ≡ pack result
   unfolding packedAfter result
-  all-packed c = rw (c, A .present, copy-same b (k .core) (A .taken) (A .copy))
+  all-packed c = rw (c, A .present, copy-same (b .rec) (k .core) (A .taken) (A .copy))
 
-  packed : changes q ≡ true → presentAfter q b ≡ pack result .areas
+  packed : changes q ≡ true → presentAfter q (b .rec) ≡ pack result .areas
   packed c = ap (λ (x : Packed). x .areas) (all-packed c)
 
-  slots-packed : changes q ≡ true → slots (presentAfter q b) ≡ keptAfter g q k .core .pages .slots
+  slots-packed : changes q ≡ true → slots (presentAfter q (b .rec)) ≡ keptAfter g q k .core .pages .slots
   unfolding result
   slots-packed c = rw (packed c) (slots-pack result bounded result-fits)
 
-  formed-packed : Kind q → changes q ≡ true → WellFormed (pagesIn (length (g .image))) (presentAfter q b)
+  formed-packed : Kind q → changes q ≡ true → WellFormed (pagesIn (length (g .image))) (presentAfter q (b .rec))
   unfolding result
   formed-packed x c = rw (packed c) (pack-formed _ result (order-after (viewOf g total (k .core)) q a in-order now-bounded x c) result-fits)
 
   module _ (x₁ : (q is Map) ≡ false) (x₂ : (q is Unmap) ≡ false) (x₃ : (q is Protect) ≡ false) (x₅ : (q is Snapshot) ≡ false) (x₆ : (q is Rewind) ≡ false) where
-    all-kept : packedAfter q b ≡ record { areas = b .present; fits = true }
+    all-kept : packedAfter q (b .rec) ≡ record { areas = b .rec .present; fits = true }
     unfolding packedAfter
     all-kept = rw (x₁, x₂, x₃, x₅, x₆)
 
-    kept : presentAfter q b ≡ b .present
+    kept : presentAfter q (b .rec) ≡ b .rec .present
     kept = ap (λ (x : Packed). x .areas) all-kept
 
   -- the slots of the present areas, and that these are well formed
-  pub slots-after : Kind q → slots (presentAfter q b) ≡ keptAfter g q k .core .pages .slots
+  pub slots-after : Kind q → slots (presentAfter q (b .rec)) ≡ keptAfter g q k .core .pages .slots
   unfolding packedAfter slotsAfter
   slots-after (isMap e) = slots-packed (rw e)
   slots-after (isUnmap e) = slots-packed (rw e)
@@ -136,7 +138,7 @@ module _ (g : Given) (q : Request) (st : Store) (b : Sandbox) (k : Kept) (total 
   slots-after (isRewind e) = rw e (A .copy)
   slots-after (isOther x₁ x₂ x₃ x₄ x₅ x₆) = ap slots (kept x₁ x₂ x₃ x₅ x₆) ∙ rw (x₁, x₂, x₃, x₅, x₆) (A .present)
 
-  pub formed-after : Kind q → WellFormed (pagesIn (length (g .image))) (presentAfter q b)
+  pub formed-after : Kind q → WellFormed (pagesIn (length (g .image))) (presentAfter q (b .rec))
   unfolding packedAfter
   formed-after (isMap e) = formed-packed (isMap e) (rw e)
   formed-after (isUnmap e) = formed-packed (isUnmap e) (rw e)
@@ -147,18 +149,18 @@ module _ (g : Given) (q : Request) (st : Store) (b : Sandbox) (k : Kept) (total 
   formed-after (isOther x₁ x₂ x₃ x₄ x₅ x₆) = rw (kept x₁ x₂ x₃ x₅ x₆) (A .formed)
 
   -- the snapshot's
-  pub copy-after : slots (snapshotAfter q (presentAfter q b) (b .snapshot)) ≡ copied (copySlots (keptAfter g q k .core))
+  pub copy-after : slots (snapshotAfter q (presentAfter q (b .rec)) (b .rec .snapshot)) ≡ copied (copySlots (keptAfter g q k .core))
   unfolding snapshotAfter copyAfter
   copy-after = by-cases (q is Snapshot) (λ e. rw e (slots-after (isSnapshot (eqb-true (q .code) Snapshot e)))) (λ e. rw e (A .copy))
 
-  pub formed-copy-after : WellFormed (pagesIn (length (g .image))) (snapshotAfter q (presentAfter q b) (b .snapshot))
+  pub formed-copy-after : WellFormed (pagesIn (length (g .image))) (snapshotAfter q (presentAfter q (b .rec)) (b .rec .snapshot))
   unfolding snapshotAfter
   formed-copy-after = by-cases (q is Snapshot) (λ e. rw e (formed-after (isSnapshot (eqb-true (q .code) Snapshot e)))) (λ e. rw e (A .formedCopy))
 
-  pub taken-after : takenAfter q (b .taken) ≡ isTaken (keptAfter g q k .core .copy)
+  pub taken-after : takenAfter q (b .rec .taken) ≡ isTaken (keptAfter g q k .core .copy)
   unfolding takenAfter copyAfter
   taken-after = by-cases (q is Snapshot) (λ e. rw e) (λ e. rw e (A .taken))
 
-  pub untaken-after : takenAfter q (b .taken) ≡ false → snapshotAfter q (presentAfter q b) (b .snapshot) ≡ empty
+  pub untaken-after : takenAfter q (b .rec .taken) ≡ false → snapshotAfter q (presentAfter q (b .rec)) (b .rec .snapshot) ≡ empty
   unfolding takenAfter snapshotAfter
   untaken-after = by-cases (q is Snapshot) (λ e. rw e (λ t. absurd (false≢true (sym t)))) (λ e. rw e (A .untaken))

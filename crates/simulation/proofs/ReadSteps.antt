@@ -69,23 +69,23 @@ module _ (st : Store) (k : ℕ) (m : Bool) (h : ℕ → ℕ) (c : contents 256 s
 -- ---- the pages of sandbox s
 
 module _ (g : Given) (L : Lent g) (st : Store) (s : ℕ) (b : Sandbox) (k : Kept) (h : Keeps k) (r : Reads g k) (A : AgreesAt g st s b k) where
-  pub at : (i : ℕ) → slots (b .present) i ≡ k .core .pages .slots i
+  pub at : (i : ℕ) → slots (b .rec .present) i ≡ k .core .pages .slots i
   at i = ap (λ (f : Slots). f i) (A .present)
 
-  pub copy-at : (i : ℕ) → slots (b .snapshot) i ≡ copied (copySlots (k .core)) i
+  pub copy-at : (i : ℕ) → slots (b .rec .snapshot) i ≡ copied (copySlots (k .core)) i
   copy-at i = ap (λ (f : Slots). f i) (A .copy)
 
-  backing-page : (i : ℕ) → backingPage (g .image) (backingAt (slots (b .present) i)) ≡ listed 256 (backingByte (g .image) (backingAt (k .core .pages .slots i)))
+  backing-page : (i : ℕ) → backingPage (g .image) (backingAt (slots (b .rec .present) i)) ≡ listed 256 (backingByte (g .image) (backingAt (k .core .pages .slots i)))
   backing-page i =
-      backing-listed (g .image) (L .image) (backingAt (slots (b .present) i)) (image-at _ (b .present) (A .formed) i)
+      backing-listed (g .image) (L .image) (backingAt (slots (b .rec .present) i)) (image-at _ (b .rec .present) (A .formed) i)
       ∙ ap (λ (x : Slot). listed 256 (backingByte (g .image) (backingAt x))) (at i)
 
-  pub copy-whole : (i : ℕ) → length (copyPage (g .image) b i) ≡ 256
-  copy-whole i = backing-whole (g .image) (L .image) (backingAt (slots (b .snapshot) i)) (image-at _ (b .snapshot) (A .formedCopy) i)
+  pub copy-whole : (i : ℕ) → length (copyPage (g .image) (b .rec) i) ≡ 256
+  copy-whole i = backing-whole (g .image) (L .image) (backingAt (slots (b .rec .snapshot) i)) (image-at _ (b .rec .snapshot) (A .formedCopy) i)
 
-  pub copy-page : (i : ℕ) → copyPage (g .image) b i ≡ listed 256 (backingByte (g .image) (backingAt (copied (copySlots (k .core)) i)))
+  pub copy-page : (i : ℕ) → copyPage (g .image) (b .rec) i ≡ listed 256 (backingByte (g .image) (backingAt (copied (copySlots (k .core)) i)))
   copy-page i =
-      backing-listed (g .image) (L .image) (backingAt (slots (b .snapshot) i)) (image-at _ (b .snapshot) (A .formedCopy) i)
+      backing-listed (g .image) (L .image) (backingAt (slots (b .rec .snapshot) i)) (image-at _ (b .rec .snapshot) (A .formedCopy) i)
       ∙ ap (λ (x : Slot). listed 256 (backingByte (g .image) (backingAt x))) (copy-at i)
 
   pub no-front : (i : ℕ) → isMapped (k .core .pages .slots i) ≡ false → k .traces .front i ≡ false
@@ -96,7 +96,7 @@ module _ (g : Given) (L : Lent g) (st : Store) (s : ℕ) (b : Sandbox) (k : Kept
 
   -- but for its front
   pub under : (i : ℕ) → i < 64 → isMapped (k .core .pages .slots i) ≡ true → k .traces .front i ≡ false
-      → pageUnder (g .image) st b s i ≡ listed 256 (k .core .pages .bytes i)
+      → pageUnder (g .image) st (b .rec) s i ≡ listed 256 (k .core .pages .bytes i)
   unfolding pageUnder
   under i l m f =
       by-cases (isCommitted (k .core .pages .slots i))
@@ -107,13 +107,13 @@ module _ (g : Given) (L : Lent g) (st : Store) (s : ℕ) (b : Sandbox) (k : Kept
       (λ c. rw (backing-page i, at i, c) (ap (listed 256) (sym (r .new i (uncommitted-of (k .core .pages .slots i) m c) f))))
 
   -- a mapped page
-  pub page-read : (i : ℕ) → i < 64 → isMapped (k .core .pages .slots i) ≡ true → pageRead (g .image) st b s i ≡ listed 256 (k .core .pages .bytes i)
+  pub page-read : (i : ℕ) → i < 64 → isMapped (k .core .pages .slots i) ≡ true → pageRead (g .image) st (b .rec) s i ≡ listed 256 (k .core .pages .bytes i)
   unfolding pageRead
   page-read i l m = rw (A .fronts i l) (by-cases (k .traces .front i) (λ f. rw f) (λ f. rw f (under i l m f)))
 
   -- a page of the snapshot
   pub copy-read : (i : ℕ) → i < 64 → isMapped (copied (copySlots (k .core)) i) ≡ true
-      → copyRead (g .image) st b s i ≡ listed 256 (copyBytes (k .core .copy) i)
+      → copyRead (g .image) st (b .rec) s i ≡ listed 256 (copyBytes (k .core .copy) i)
   unfolding copyRead
   copy-read i l m =
       rw (copy-page i, A .backs i l) (by-cases (k .traces .back i) (λ e. rw e) (λ e. rw e (ap (listed 256) (sym (r .unbacked i m e)))))

@@ -137,12 +137,12 @@ module _ {C : ℕ → Type 0} (g : Given) (L : Lent g) (q : Request) (st : Store
   -- ---- a rewind
 
   abbrev made : Runs
-  made = tabled (rowRewound st s (slots (b .present)) (row (b .runs)))
+  made = tabled (rowRewound st s (slots (b .rec .present)) (row (b .runs)))
 
-  run-made : Runned n (rewindTo 256 (s * 128) (keepsFront b) (copyPage (g .image) b) st 64) rows s made
+  run-made : Runned n (rewindTo 256 (s * 128) (keepsFront (b .rec)) (copyPage (g .image) (b .rec)) st 64) rows s made
       (runsRewound (k .core .pages .slots) (k .traces .front) (k .traces .runs))
   run-made =
-      let f′ = slots (b .present) in
+      let f′ = slots (b .rec .present) in
       let words′ = rewound-words 256 n st (T .filed) s f′ (row (b .runs)) W in
       record {
         places = tabled-length (rowRewound st s f′ (row (b .runs)));
@@ -154,11 +154,11 @@ module _ {C : ℕ → Type 0} (g : Given) (L : Lent g) (q : Request) (st : Store
           high = λ i l. rw (tabled-row (rowRewound st s f′ (row (b .runs))) i l) (words′ .high i l);
         };
         spare =
-            spare-rows 256 n (rewindTo 256 (s * 128) (keepsFront b) (copyPage (g .image) b) st 64)
+            spare-rows 256 n (rewindTo 256 (s * 128) (keepsFront (b .rec)) (copyPage (g .image) (b .rec)) st 64)
             (inPlace s (rowRewound st s f′ (row (b .runs))) rows) (inPlace s (row made) rows)
             (λ t i l d. by-cases (eqb s t) (λ z. rw z (sym (tabled-row (rowRewound st s f′ (row (b .runs))) i d))) (λ z. rw z))
-            (rw own at (rewind-spare 256 n st (T .filed) s f′ (keepsFront b) (copyPage (g .image) b) (copy-whole g L st s b k h r A)
-            (λ i z. spared-uncommitted (slots (b .present) i) z) rows low S));
+            (rw own at (rewind-spare 256 n st (T .filed) s f′ (keepsFront (b .rec)) (copyPage (g .image) (b .rec)) (copy-whole g L st s b k h r A)
+            (λ i z. spared-uncommitted (slots (b .rec .present) i) z) rows low S));
       }
 
   -- ---- a write
@@ -174,20 +174,20 @@ module _ {C : ℕ → Type 0} (g : Given) (L : Lent g) (q : Request) (st : Store
     abbrev place : ℕ
     place = frontOf s (pageOf q)
 
-    whole : entry st place ≡ 0 → length (pageUnder (g .image) st b s (pageOf q)) ≡ 256
+    whole : entry st place ≡ 0 → length (pageUnder (g .image) st (b .rec) s (pageOf q)) ≡ 256
     whole z = rw (under g L st s b k h r A (pageOf q) page there (mark-none st place _ _ (A .fronts (pageOf q) page) z)) (length-listed 256 _)
 
     -- the page's front, then its byte
     written : (rows′ : Rows) → Spare 256 n st rows′ → (eqb (entry st place) 0 ≡ true → keptAt rows′ f ≡ 0)
-        → Spare 256 n (storeByte 256 place (offsetOf q) (q .p2) (touched (g .image) f b s (pageOf q) st)) rows′
+        → Spare 256 n (storeByte 256 place (offsetOf q) (q .p2) (touched (g .image) f (b .rec) s (pageOf q) st)) rows′
     unfolding touched
     written rows′ S′ unkept =
         by-cases (eqb (entry st place) 0)
         (λ z. let y = free (rw e) z in
         let bare : entry st place ≡ 0 = eqb-true _ 0 z in
-        let o : Store = take 256 place f (pageUnder (g .image) st b s (pageOf q)) st in
+        let o : Store = take 256 place f (pageUnder (g .image) st (b .rec) s (pageOf q)) st in
         let inTable : place < 512 = omega (arith, inRow, page) in
-        let tidy = take-tidy 256 n st T place f (pageUnder (g .image) st b s (pageOf q)) inTable bare (y .0) (y .1 .0) (whole bare) in
+        let tidy = take-tidy 256 n st T place f (pageUnder (g .image) st (b .rec) s (pageOf q)) inTable bare (y .0) (y .1 .0) (whole bare) in
         rw z (same-spare 256 n o (storeByte 256 place (offsetOf q) (q .p2) o) rows′ (tidy .filed)
         (take-spare 256 n st rows′ place f _ (T .filed) S′ inTable bare (y .0) (y .1 .0) (unkept z) (whole bare))
         (λ x X. storeByte-tidy 256 n o X place (offsetOf q) (q .p2))
@@ -220,7 +220,7 @@ module _ {C : ℕ → Type 0} (g : Given) (L : Lent g) (q : Request) (st : Store
       less-rows : inPlace s (row less) rows ≡ withRun s l (mark (rows s l) given 0) rows
       less-rows = rw (less-row, own)
 
-      less-spare : Spare 256 n (storeByte 256 place (offsetOf q) (q .p2) (touched (g .image) f b s (pageOf q) st)) (inPlace s (row less) rows)
+      less-spare : Spare 256 n (storeByte 256 place (offsetOf q) (q .p2) (touched (g .image) f (b .rec) s (pageOf q) st)) (inPlace s (row less) rows)
       less-spare =
           rw less-rows
           (written (withRun s l (mark (rows s l) given 0) rows) (given-spare 256 n st rows s l given low here′ mine (T .filed .few) S)
@@ -245,12 +245,12 @@ module _ {C : ℕ → Type 0} (g : Given) (L : Lent g) (q : Request) (st : Store
           (λ z. rw z (ap (λ (x : ℕ). x - 1) (A .runs _ (longest-low (k .traces .runs)))))
           (λ z. rw z (A .runs i d)))
 
-      run-given : Runned n (storeByte 256 place (offsetOf q) (q .p2) (touched (g .image) f b s (pageOf q) st)) rows s less
+      run-given : Runned n (storeByte 256 place (offsetOf q) (q .p2) (touched (g .image) f (b .rec) s (pageOf q) st)) rows s less
           (lessBy (longestRun (k .traces .runs)) 1 (k .traces .runs))
       run-given = record { places = with-length l _ (b .runs) (A .places); lengthsAre = less-length; words = less-words; spare = less-spare }
 
     run-stays : givesAt q b st ≡ false
-        → Runned n (storeByte 256 place (offsetOf q) (q .p2) (touched (g .image) f b s (pageOf q) st)) rows s (b .runs) (k .traces .runs)
+        → Runned n (storeByte 256 place (offsetOf q) (q .p2) (touched (g .image) f (b .rec) s (pageOf q) st)) rows s (b .runs) (k .traces .runs)
     run-stays y =
         record {
           places = A .places;

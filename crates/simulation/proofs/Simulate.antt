@@ -74,7 +74,7 @@ view-at g w total s k sound frames total-is A =
       opened = A .opened i;
       share = A .share i;
       slots = A .present i;
-      copy = copy-same (sandboxAt w s) (k .core) (A .taken) (A .copy) i;
+      copy = copy-same (sandboxAt w s .rec) (k .core) (A .taken) (A .copy) i;
     }
 
 module _ {C : ℕ → Type 0} (g : Given) (L : Lent g) (w : World) (p : Plain) (A : Agrees C g w p) where
@@ -120,7 +120,7 @@ module _ {C : ℕ → Type 0} (g : Given) (L : Lent g) (w : World) (p : Plain) (
   mine : AgreesAt g (w .store) (q .sandbox) (sandboxAt w (q .sandbox)) (p (q .sandbox))
   mine = A .each (q .sandbox) low
 
-  read-same : q .code ≡ Read → getD (pageRead (g .image) (w .store) (sandboxAt w (q .sandbox)) (q .sandbox) (pageOf q)) (offsetOf q) 0
+  read-same : q .code ≡ Read → getD (pageRead (g .image) (w .store) (sandboxAt w (q .sandbox) .rec) (q .sandbox) (pageOf q)) (offsetOf q) 0
       ≡ p (q .sandbox) .core .pages .bytes (pageOf q) (offsetOf q)
   unfolding within allMapped
   read-same e =
@@ -132,7 +132,7 @@ module _ {C : ℕ → Type 0} (g : Given) (L : Lent g) (w : World) (p : Plain) (
       (listed-at 256 (p (q .sandbox) .core .pages .bytes (pageOf q)) (offsetOf q) (omega arith))
 
   -- call 10: the bytes are compared only where the page is mapped in both, and there they are what the plain machine has
-  differing-same : differing (g .image) (w .store) (sandboxAt w (q .sandbox)) (q .sandbox) ≡ plainDiffering (p (q .sandbox) .core)
+  differing-same : differing (g .image) (w .store) (sandboxAt w (q .sandbox) .rec) (q .sandbox) ≡ plainDiffering (p (q .sandbox) .core)
   unfolding differing plainDiffering
   differing-same =
       let b : Sandbox = sandboxAt w (q .sandbox) in
@@ -140,7 +140,7 @@ module _ {C : ℕ → Type 0} (g : Given) (L : Lent g) (w : World) (p : Plain) (
       let h = A .holds .each (q .sandbox) in
       rw (mine .present, mine .copy)
       (difference-same (k .core .pages .slots) (copied (copySlots (k .core)))
-      (λ i. sameBytes 256 (pageRead (g .image) (w .store) b (q .sandbox) i) (copyRead (g .image) (w .store) b (q .sandbox) i))
+      (λ i. sameBytes 256 (pageRead (g .image) (w .store) (b .rec) (q .sandbox) i) (copyRead (g .image) (w .store) (b .rec) (q .sandbox) i))
       (λ i. alike (k .core .pages .bytes i) (copyBytes (k .core .copy) i) 256)
       (λ i l. agree-bytes (k .core .pages .slots i) (copied (copySlots (k .core)) i) _ _
       (λ m c. rw (

@@ -36,19 +36,22 @@ module _ (g : Given) (L : Lent g) (st : Store) (s : ℕ) (b : Sandbox) (k : Kept
       let now = at g L st s b k h r A in
       let copy = copy-at g L st s b k h r A in
       record {
-        present = A .formed;
-        snapshot = A .formedCopy;
-        marked = λ i. rw (copy i) (r .marked i);
-        committed = λ i. rw (now i, copy i) (h .committedIn i);
-        backing = λ i. rw (now i, copy i) (r .backing i);
+        rec = record {
+          present = A .formed;
+          snapshot = A .formedCopy;
+          marked = λ i. rw (copy i) (r .marked i);
+          committed = λ i. rw (now i, copy i) (h .committedIn i);
+          backing = λ i. rw (now i, copy i) (r .backing i);
+          charged = rw (A .present, copy-same (b .rec) (k .core) (A .taken) (A .copy), A .share) (h .charged);
+          shared = rw (A .opened, A .share) (h .openShare);
+          untaken = A .untaken;
+          closed = λ e. ap (λ (x : Sandbox). x .rec) (A .closed e);
+        };
         fronts = λ i l. rw (now i) (λ m. none-entry 256 st (frontOf s i) (A .fronts i l ∙ rw (no-front g L st s b k h r A i m)));
         backs = λ i l. rw (copy i) (λ m. none-entry 256 st (backOf s i) (A .backs i l ∙ rw (no-back g L st s b k h r A i m)));
-        charged = rw (A .present, copy-same b (k .core) (A .taken) (A .copy), A .share) (h .charged);
-        shared = rw (A .opened, A .share) (h .openShare);
         inShare = rw (A .share) (omega (arith, holds-same g st s b k A, h .inShare));
         places = A .places;
-        untaken = A .untaken;
-        closed = A .closed;
+        closed = λ e. ap (λ (x : Sandbox). x .runs) (A .closed e);
       }
 
 module _ {C : ℕ → Type 0} (g : Given) (w : World) (p : Plain) (A : Agrees C g w p) where
@@ -56,7 +59,7 @@ module _ {C : ℕ → Type 0} (g : Given) (w : World) (p : Plain) (A : Agrees C 
   frames-same = omega (arith, A .tidy .filed .pages)
 
   pub shares-same : sharesOf w ≡ shares p
-  shares-same = sum-same (λ t. sandboxAt w t .share) (λ t. p t .core .share) 4 (λ t l. A .each t l .share)
+  shares-same = sum-same (λ t. sandboxAt w t .rec .share) (λ t. p t .core .share) 4 (λ t l. A .each t l .share)
 
   pub agrees-sound : Lent g → Sound (g .image) w
   agrees-sound L =

@@ -53,7 +53,7 @@ module _ {C : ℕ → Type 0} (g : Given) (L : Lent g) (q : Request) (st : Store
     (inRow : q .sandbox < 4) (h : Keeps k) (r : Reads g k) (A : AgreesAt g st (q .sandbox) b k) where
   -- what a rewind makes of a front
   rewound-front : (i : ℕ) → i < 64
-      → rewound (keepsFront b i) (copyPage (g .image) b i) (contents 256 st (backOf (q .sandbox) i)) (contents 256 st (frontOf (q .sandbox) i))
+      → rewound (keepsFront (b .rec) i) (copyPage (g .image) (b .rec) i) (contents 256 st (backOf (q .sandbox) i)) (contents 256 st (frontOf (q .sandbox) i))
       ≡ pageIf (k .traces .front i && isCommitted (k .core .pages .slots i)) (copyBytes (k .core .copy) i)
   rewound-front i l =
       rw (A .backs i l, A .fronts i l, at g L st (q .sandbox) b k h r A i)
@@ -110,12 +110,12 @@ module _ {C : ℕ → Type 0} (g : Given) (L : Lent g) (q : Request) (st : Store
         let first : ℕ = q .sandbox * 128 in
         let whole = copy-whole g L st (q .sandbox) b k h r A in
         record {
-          tidy = rw e (rewindTo-tidy 256 (g .frames) first (keepsFront b) (copyPage (g .image) b) whole st T 64);
-          fronts = λ i l. rw e (rewindTo-in 256 (g .frames) first (keepsFront b) (copyPage (g .image) b) whole st T 64 i (omega arith) l ∙ rewound-front i l);
+          tidy = rw e (rewindTo-tidy 256 (g .frames) first (keepsFront (b .rec)) (copyPage (g .image) (b .rec)) whole st T 64);
+          fronts = λ i l. rw e (rewindTo-in 256 (g .frames) first (keepsFront (b .rec)) (copyPage (g .image) (b .rec)) whole st T 64 i (omega arith) l ∙ rewound-front i l);
           backs = λ i l. rw (e, ← h .backCopied)
-              (rewindTo-out 256 (g .frames) first (keepsFront b) (copyPage (g .image) b) whole st T 64 (first + i + 64) (inr (omega arith)) ∙ A .backs i l);
+              (rewindTo-out 256 (g .frames) first (keepsFront (b .rec)) (copyPage (g .image) (b .rec)) whole st T 64 (first + i + 64) (inr (omega arith)) ∙ A .backs i l);
           others = λ u x d l. rw e
-              (rewindTo-out 256 (g .frames) first (keepsFront b) (copyPage (g .image) b) whole st T 64 (u * 128 + x)
+              (rewindTo-out 256 (g .frames) first (keepsFront (b .rec)) (copyPage (g .image) (b .rec)) whole st T 64 (u * 128 + x)
               (⊎-elim (λ n. inl (omega arith)) (λ n. inr (omega arith)) (other-sandbox (q .sandbox) u x 128 d l (omega arith))));
         }
 
@@ -146,12 +146,12 @@ module _ {C : ℕ → Type 0} (g : Given) (L : Lent g) (q : Request) (st : Store
         same : contents 256 s (frontOf (q .sandbox) (pageOf q)) ≡ some (listed 256 (k .core .pages .bytes (pageOf q)))
         other : (j : ℕ) → (j ≡ frontOf (q .sandbox) (pageOf q) → ⊥) → contents 256 s j ≡ contents 256 st j
 
-      front : Front (touched (g .image) f b (q .sandbox) (pageOf q) st)
+      front : Front (touched (g .image) f (b .rec) (q .sandbox) (pageOf q) st)
       unfolding touched
       front =
           let place : ℕ = frontOf (q .sandbox) (pageOf q) in
           let inTable : place < 512 = omega (arith, low, inRow) in
-          by-entry (Front (touched (g .image) f b (q .sandbox) (pageOf q) st)) (entry st (frontOf (q .sandbox) (pageOf q)))
+          by-entry (Front (touched (g .image) f (b .rec) (q .sandbox) (pageOf q) st)) (entry st (frontOf (q .sandbox) (pageOf q)))
           (λ z. let t = eq-eqb (entry st place) 0 z in
           let u = free t in
           let n = mark-none st place _ _ (A .fronts (pageOf q) low) z in
@@ -164,11 +164,11 @@ module _ {C : ℕ → Type 0} (g : Given) (L : Lent g) (q : Request) (st : Store
           (λ d z. let n = frame-is st place (k .traces .front (pageOf q)) _ (A .fronts (pageOf q) low) d z .0 in
           rw (ne-eqb (entry st place) 0 (omega (arith, z))) (record { tidy = T; same = A .fronts (pageOf q) low ∙ rw n; other = λ j m. refl }))
 
-      own : contents 256 (storeByte 256 (frontOf (q .sandbox) (pageOf q)) (offsetOf q) (q .p2) (touched (g .image) f b (q .sandbox) (pageOf q) st))
+      own : contents 256 (storeByte 256 (frontOf (q .sandbox) (pageOf q)) (offsetOf q) (q .p2) (touched (g .image) f (b .rec) (q .sandbox) (pageOf q) st))
           (frontOf (q .sandbox) (pageOf q))
           ≡ some (listed 256 (stored q (k .core .pages .bytes) (pageOf q)))
       own =
-          let s : Store = touched (g .image) f b (q .sandbox) (pageOf q) st in
+          let s : Store = touched (g .image) f (b .rec) (q .sandbox) (pageOf q) st in
           storeByte-same 256 (g .frames) s (front .tidy) (frontOf (q .sandbox) (pageOf q)) (offsetOf q) (q .p2)
           ∙ ap (overPage (λ xs. set xs (offsetOf q) (q .p2))) (front .same)
           ∙ ap some (listed-set 256 (k .core .pages .bytes (pageOf q)) (offsetOf q) (q .p2) (omega arith))
@@ -177,7 +177,7 @@ module _ {C : ℕ → Type 0} (g : Given) (L : Lent g) (q : Request) (st : Store
       stored-write : Stored C g st (storeAfter (g .image) f q b st) (q .sandbox) (keptAfter g q k)
       unfolding storeAfter frontAfter backAfter bytesAfter copyAfter
       stored-write =
-          let s : Store = touched (g .image) f b (q .sandbox) (pageOf q) st in
+          let s : Store = touched (g .image) f (b .rec) (q .sandbox) (pageOf q) st in
           let n : ℕ = g .frames in
           let r : Store = storeByte 256 (frontOf (q .sandbox) (pageOf q)) (offsetOf q) (q .p2) s in
           let other : (j : ℕ) → (j ≡ frontOf (q .sandbox) (pageOf q) → ⊥) → contents 256 r j ≡ contents 256 st j =

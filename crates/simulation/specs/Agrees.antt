@@ -25,15 +25,15 @@ pageIf mark bytes = some (listed 256 bytes) when mark else none
 
 -- of sandbox s
 pub record AgreesAt (g : Given) (st : Store) (s : ℕ) (b : Sandbox) (k : Kept) : Type 0 where
-  pub opened : b .opened ≡ k .core .opened
-  pub share : b .share ≡ k .core .share
-  pub formed : WellFormed (pagesIn (length (g .image))) (b .present)
-  pub present : slots (b .present) ≡ k .core .pages .slots
-  pub formedCopy : WellFormed (pagesIn (length (g .image))) (b .snapshot)
-  pub taken : b .taken ≡ isTaken (k .core .copy)
-  pub copy : slots (b .snapshot) ≡ copied (copySlots (k .core))
-  pub untaken : b .taken ≡ false → b .snapshot ≡ empty
-  pub closed : b .opened ≡ false → b ≡ closedSandbox
+  pub opened : b .rec .opened ≡ k .core .opened
+  pub share : b .rec .share ≡ k .core .share
+  pub formed : WellFormed (pagesIn (length (g .image))) (b .rec .present)
+  pub present : slots (b .rec .present) ≡ k .core .pages .slots
+  pub formedCopy : WellFormed (pagesIn (length (g .image))) (b .rec .snapshot)
+  pub taken : b .rec .taken ≡ isTaken (k .core .copy)
+  pub copy : slots (b .rec .snapshot) ≡ copied (copySlots (k .core))
+  pub untaken : b .rec .taken ≡ false → b .rec .snapshot ≡ empty
+  pub closed : b .rec .opened ≡ false → b ≡ closedSandbox
   -- the runs have the lengths that the plain machine carries
   pub places : length (b .runs .list) ≡ 8
   pub runs : (i : ℕ) → i < 8 → lengthsOf (b .runs) i ≡ k .traces .runs i

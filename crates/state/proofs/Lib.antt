@@ -3,3 +3,4 @@ pub mod SharesLaws
 pub mod LentLaws
 pub mod NearLaws
 pub mod StartLaws
+pub mod SoundLaws

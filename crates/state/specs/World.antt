@@ -9,6 +9,7 @@ use Rattle.interface.specs.Numbers.{Sandboxes, PageBytes, MostFrames, MostImage
 use Rattle.interface.specs.Limits.{between}
 use Rattle.frames.specs.declared.Held.{Held}
 use Rattle.frames.specs.Frames.{noneHeld}
+use Rattle.runs.specs.declared.Runs.{Runs}
 use Rattle.runs.specs.Row.{row, noRuns}
 use Rattle.table.specs.Store.{Store, kept, fresh}
 use Rattle.records.specs.Record.{closedRecord}
@@ -42,6 +43,10 @@ sandboxIn row s = getD row s closedSandbox
 -- sandbox s
 abbrev pub sandboxAt : World → ℕ → Sandbox
 sandboxAt w s = sandboxIn (w .sandboxes) s
+
+-- a sandbox with other runs
+abbrev pub withRuns : Runs → Sandbox → Sandbox
+withRuns x b = record { rec = b .rec; runs = x }
 
 -- the runs of kept frames of each sandbox, by their places
 abbrev pub rowsOf : World → ℕ → ℕ → Held

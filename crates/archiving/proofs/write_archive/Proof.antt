@@ -66,14 +66,14 @@ same c = same-sandbox (behindRow c) (in-row c)
 abbrev behindOpen : tie.Else3 → tie.Else2
 behindOpen c = c .before .before .before .before
 
-is-open : (c : tie.Else3) → let start = behindRow (behindOpen c) in sandboxAt (worldIn start) (start .args .sandbox) .opened ≡ true
-is-open c = rw (← same (behindOpen c)) (not-false (sandboxIn (behindRow (behindOpen c)) .opened) (c .if3 .left))
+is-open : (c : tie.Else3) → let start = behindRow (behindOpen c) in sandboxAt (worldIn start) (start .args .sandbox) .rec .opened ≡ true
+is-open c = rw (← same (behindOpen c)) (not-false (sandboxIn (behindRow (behindOpen c)) .rec .opened) (c .if3 .left))
 
 abbrev behindTaken : tie.Else4 → tie.Else3
 behindTaken c = c .before .before
 
-has-snapshot : (c : tie.Else4) → let start = behindRow (behindOpen (behindTaken c)) in sandboxAt (worldIn start) (start .args .sandbox) .taken ≡ true
-has-snapshot c = let row = behindOpen (behindTaken c) in rw (← same row) (not-false (sandboxIn (behindRow row) .taken) (c .if4 .left))
+has-snapshot : (c : tie.Else4) → let start = behindRow (behindOpen (behindTaken c)) in sandboxAt (worldIn start) (start .args .sandbox) .rec .taken ≡ true
+has-snapshot c = let row = behindOpen (behindTaken c) in rw (← same row) (not-false (sandboxIn (behindRow row) .rec .taken) (c .if4 .left))
 
 -- ---- the needs
 
@@ -101,7 +101,7 @@ returns-3 c =
     let row = c .before .before .before .before in
     let start = behindRow row in
     refused-closed (imageIn start) (worldIn start) (start .args .sandbox) (outIn start) (passes (row .before)) (in-row row)
-    (rw (← same row) (not-true (sandboxIn start .opened) (c .if3 .taken)))
+    (rw (← same row) (not-true (sandboxIn start .rec .opened) (c .if3 .taken)))
 
 returns-4 : tie.Need-returns-4
 returns-4 c =
@@ -109,7 +109,7 @@ returns-4 c =
     let row = behindOpen opened in
     let start = behindRow row in
     refused-8 (imageIn start) (worldIn start) (start .args .sandbox) (outIn start) (passes (row .before)) (in-row row) (is-open opened)
-    (rw (← same row) (not-true (sandboxIn start .taken) (c .if4 .taken)))
+    (rw (← same row) (not-true (sandboxIn start .rec .taken) (c .if4 .taken)))
 
 cast-t22 : tie.Need-cast-t22
 cast-t22 c = search needs

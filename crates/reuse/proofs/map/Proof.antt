@@ -83,7 +83,7 @@ first-of-requires : tie.Need-first-of-requires
 first-of-requires c κs =
     let s = unnamed (tested (c .before) .before .before) in
     let ready = s .pre .1 .1 .1 .0 in
-    (near (ready .0) (s .args .b .present) (ready .1 .present) (ready .1 .few), (s .pre .0, s .pre .1 .1 .0))
+    (near (ready .0) (s .args .b .rec .present) (ready .1 .sound .present) (ready .1 .few), (s .pre .0, s .pre .1 .1 .0))
 
 cast-at : tie.Need-cast-at
 cast-at c = search needs

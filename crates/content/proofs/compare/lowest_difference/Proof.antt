@@ -49,10 +49,10 @@ abbrev Start : Type 0
 Start = tie.Start Inv-loop μ-loop
 
 formed : (s : Start) → Formed (s .args .b .present)
-formed s = settled (pagesIn (length (s .args .image .now))) (s .args .b .present) (s .pre .1 .0 .present) (s .pre .1 .0 .few)
+formed s = settled (pagesIn (length (s .args .image .now))) (s .args .b .present) (s .pre .1 .0 .sound .present) (s .pre .1 .0 .few)
 
 formed-copy : (s : Start) → Formed (s .args .b .snapshot)
-formed-copy s = settled (pagesIn (length (s .args .image .now))) (s .args .b .snapshot) (s .pre .1 .0 .snapshot) (s .pre .1 .0 .few)
+formed-copy s = settled (pagesIn (length (s .args .image .now))) (s .args .b .snapshot) (s .pre .1 .0 .sound .snapshot) (s .pre .1 .0 .few)
 
 -- what page i is tested by
 abbrev ofIn : Start → ℕ → Bool
@@ -98,7 +98,7 @@ passed c =
     let entry : ℕ → ℕ = λ k. getD (s .args .table .now) k 0 in
     stays-alike (s .args .b .present) (s .args .b .snapshot) (formed s) (formed-copy s) still i _
     (λ m. passed-over (s .args .image .now) (s .args .pool .now) (slots (s .args .b .present) i) (slots (s .args .b .snapshot) i)
-    (entry (frontOf (s .args .s) i)) (entry (backOf (s .args .s) i)) (and-of m none) (s .pre .1 .0 .backing i))
+    (entry (frontOf (s .args .s) i)) (entry (backOf (s .args .s) i)) (and-of m none) (s .pre .1 .0 .sound .backing i))
 
 -- where every area stays, a page with a front is compared with what stands there itself
 itself : (s : Start) (i : ℕ) → unchanged (s .args .b .present) (s .args .b .snapshot) ≡ true
@@ -109,7 +109,7 @@ itself : (s : Start) (i : ℕ) → unchanged (s .args .b .present) (s .args .b .
     (sameBytes 256 (readsNow (s .args .image .now) (s .args .pool .now) mine mine front back)
     (readsCopied (s .args .image .now) (s .args .pool .now) mine mine front back))
     ≡ ofIn s i
-itself s i u = alike-slots (s .args .b .present) (s .args .b .snapshot) (formed s) (formed-copy s) u i _ _ (λ m. rw (s .pre .1 .0 .backing i m))
+itself s i u = alike-slots (s .args .b .present) (s .args .b .snapshot) (formed s) (formed-copy s) u i _ _ (λ m. rw (s .pre .1 .0 .sound .backing i m))
 
 compared-itself : (c : tie.After-agrees Inv-loop μ-loop) → let turn = turnOf (foundSame c) in c .agrees .result ≡ ofIn (behind turn) (pageIn turn)
 compared-itself c =
@@ -179,7 +179,7 @@ agrees-requires c κs =
     let s = behind turn in
     let i = pageIn turn in
     let front = found .before .before .before .front in
-    let backing = backing-there (s .args .image .now) (s .args .b .present) (s .pre .1 .0 .present) i in
+    let backing = backing-there (s .args .image .now) (s .args .b .present) (s .pre .1 .0 .sound .present) i in
     let named = entries s i in
     rw (found .slot .ensures, found .before .back .ensures, front .ensures)
     (named .0, (named .1, (named .2, (named .3, (backing, (backing, λ m. refl))))))
@@ -201,11 +201,11 @@ agrees-requires-2 c κs =
     let i = pageIn turn in
     let front = found .before .before .before .front in
     let ready = s .pre .1 .0 in
-    let backing = backing-there (s .args .image .now) (s .args .b .present) (ready .present) i in
-    let copied = backing-there (s .args .image .now) (s .args .b .snapshot) (ready .snapshot) i in
+    let backing = backing-there (s .args .image .now) (s .args .b .present) (ready .sound .present) i in
+    let copied = backing-there (s .args .image .now) (s .args .b .snapshot) (ready .sound .snapshot) i in
     let named = entries s i in
     rw (c .slot2 .ensures, found .slot .ensures, found .before .back .ensures, front .ensures)
-    (named .0, (named .1, (named .2, (named .3, (backing, (copied, ready .backing i))))))
+    (named .0, (named .1, (named .2, (named .3, (backing, (copied, ready .sound .backing i))))))
 
 returns-2 : tie.Need-returns-2 Inv-loop μ-loop
 unfolding differing lowestDifference pageRead pageUnder copyRead contents

@@ -17,7 +17,7 @@ use Rattle.content.proofs.read.read.Tie as tie
 -- the present areas, and the page of the address
 near-present : (s : tie.Start) → Near (s .args .b .present .list)
 near-present s =
-    let ready = s .pre .1 .1 .1 .0 in near (pagesIn (length (s .args .image .now))) (s .args .b .present) (ready .present) (ready .few)
+    let ready = s .pre .1 .1 .1 .0 in near (pagesIn (length (s .args .image .now))) (s .args .b .present) (ready .sound .present) (ready .few)
 
 small : (s : tie.Start) → s .args .q .p1 / 256 < 64
 small s = page-small (s .args .q .p1) (s .pre .1 .1 .0 .read (s .pre .0))
@@ -57,7 +57,7 @@ read-byte-requires : tie.Need-read-byte-requires
 read-byte-requires c κs =
     let found = c .before .before in
     let s = behind found in
-    let there = backing-there (s .args .image .now) (s .args .b .present) (s .pre .1 .1 .1 .0 .present) (s .args .q .p1 / 256) in
+    let there = backing-there (s .args .image .now) (s .args .b .present) (s .pre .1 .1 .1 .0 .sound .present) (s .args .q .p1 / 256) in
     (record { row = s .pre .1 .0; inside = small s; backed = rw (found .slot .ensures) there }, s .pre .1 .1 .1 .1)
 
 returns : tie.Need-returns

@@ -84,15 +84,15 @@ looked c = c .before .before
 abbrev behind : tie.After-slot → tie.Start
 behind c = bare (spared (framed (looked c)))
 
-slot-is : (c : tie.After-slot) → c .slot .result ≡ slots (own (behind c) .present) (behind c .args .q .p1 / 256)
-slot-is c = c .slot .ensures ∙ ap (λ (b : Sandbox). slots (b .present) (behind c .args .q .p1 / 256)) (same-sandbox (behind c))
+slot-is : (c : tie.After-slot) → c .slot .result ≡ slots (own (behind c) .rec .present) (behind c .args .q .p1 / 256)
+slot-is c = c .slot .ensures ∙ ap (λ (b : Sandbox). slots (b .rec .present) (behind c .args .q .p1 / 256)) (same-sandbox (behind c))
 
 -- its image page is there
 backing-here : (c : tie.After-slot) → backingEnd (backingAt (c .slot .result)) * 256 ≤ length (behind c .args .image .now)
 backing-here c =
     let s = behind c in
     subst (λ (x : Slot). backingEnd (backingAt x) * 256 ≤ length (s .args .image .now)) (sym (slot-is c))
-    (backing-there (s .args .image .now) (own s .present) (asked s .ready .present) (s .args .q .p1 / 256))
+    (backing-there (s .args .image .now) (own s .rec .present) (asked s .ready .sound .present) (s .args .q .p1 / 256))
 
 -- ---- the needs
 
@@ -153,7 +153,7 @@ slot-requires : tie.Need-slot-requires
 slot-requires c κs =
     let s = bare (spared (framed (c .before))) in
     let ready = asked s .ready in
-    (rw (same-sandbox s) (near (pagesIn (length (s .args .image .now))) (own s .present) (ready .present) (ready .few)), small s)
+    (rw (same-sandbox s) (near (pagesIn (length (s .args .image .now))) (own s .rec .present) (ready .sound .present) (ready .few)), small s)
 
 take-requires : tie.Need-take-requires
 take-requires c κs =
@@ -186,7 +186,7 @@ returns-2 c =
     touch-made (a .image .now) (a .q) (worldIn s) (asked s) (s .pre .0) _ (g .give-up .result) (f .result .0) (no-front (spared g)) (gave g)
     (f .ensures .0) (f .ensures .1 .0) (f .ensures .1 .1)
     (taken .take .ensures ∙ ap (λ (bytes : List ℕ). take 256 front (f .result .0) bytes (worldIn s .store))
-    (under-is (a .image .now) (worldIn s .store) (own s) (a .q .sandbox) _ (found .slot .result) (slot-is found)))
+    (under-is (a .image .now) (worldIn s .store) (own s .rec) (a .q .sandbox) _ (found .slot .result) (slot-is found)))
 
 pub touch-spec : {M : Type 1} → statement M
 touch-spec =

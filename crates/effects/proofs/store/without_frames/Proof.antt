@@ -13,7 +13,7 @@ use Rattle.effects.proofs.store.without_frames.Tie as tie
 abbrev storeIn : tie.Start → Store
 storeIn s = kept (s .args .held) (s .args .pool .now) (s .args .table .now)
 
-abbrev ready : (s : tie.Start) → Ready (pagesIn (length (s .args .image .now))) (s .args .b)
+abbrev ready : (s : tie.Start) → Ready (pagesIn (length (s .args .image .now))) (s .args .b .rec)
 ready s = s .pre .1 .1 .1 .1 .0
 
 -- ---- where each arm starts
@@ -61,7 +61,7 @@ gathered-requires : tie.Need-gathered-requires
 gathered-requires c κs =
     let s = behind (gathering c .before) in
     let ranged = s .pre .1 .1 .1 .1 .1 in
-    let formed = settled (pagesIn (length (s .args .image .now))) (s .args .b .present) (ready s .present) (ready s .few) in
+    let formed = settled (pagesIn (length (s .args .image .now))) (s .args .b .rec .present) (ready s .sound .present) (ready s .few) in
     (s .pre .1 .1 .0, (formed, (ranged .entries, ranged .few)))
 
 rewind-requires : tie.Need-rewind-requires

@@ -14,20 +14,20 @@ use Rattle.effects.proofs.value.value_of.Statement.{statement}
 use Rattle.effects.proofs.value.value_of.Tie as tie
 
 -- the present areas are near, and well formed
-near-present : (s : tie.Start) → Near (s .args .b .present .list)
+near-present : (s : tie.Start) → Near (s .args .b .rec .present .list)
 near-present s =
-    let ready = s .pre .1 .1 .0 in near (pagesIn (length (s .args .image .now))) (s .args .b .present) (ready .present) (ready .few)
+    let ready = s .pre .1 .1 .0 in near (pagesIn (length (s .args .image .now))) (s .args .b .rec .present) (ready .sound .present) (ready .few)
 
-formed-present : (s : tie.Start) → Formed (s .args .b .present)
+formed-present : (s : tie.Start) → Formed (s .args .b .rec .present)
 formed-present s =
-    let ready = s .pre .1 .1 .0 in settled (pagesIn (length (s .args .image .now))) (s .args .b .present) (ready .present) (ready .few)
+    let ready = s .pre .1 .1 .0 in settled (pagesIn (length (s .args .image .now))) (s .args .b .rec .present) (ready .sound .present) (ready .few)
 
 -- the store that is lent, with these marks
 abbrev lent : tie.Start → Held → Store
 lent s h = kept h (s .args .pool .now) (s .args .table .now)
 
 abbrev behind : tie.After-present → tie.Start
-behind c = c .before .before .before .before
+behind c = c .before .before .before .before .before
 
 -- where the frames are counted, and where pages are compared
 abbrev counting : tie.After-frames-held → tie.At-match-keys4

@@ -15,7 +15,6 @@ use Rattle.state.specs.World.{World, worldOf, sandboxAt, pagesIn}
 use Rattle.soundness.proofs.TestLaws.{Tested, tested}
 use Rattle.soundness.specs.Test.{soundb}
 use Rattle.state.proofs.SharesLaws.{zeroSandbox}
-use Rattle.state.proofs.SettledLaws.{settled-at}
 use Rattle.decision.specs.declared.Verdict.the-variants.{Accepted}
 use Rattle.decision.specs.declared.Decision.{Decision}
 use Rattle.rules.specs.After.{presentAfter}
@@ -75,7 +74,7 @@ accepted-here : (c : tie.After-decide) → c .decide .result .verdict ≡ Accept
 accepted-here c e = sym (number-here c) ∙ ap verdictNumber e
 
 areas-here : (c : tie.After-decide) → c .decide .result .verdict ≡ Accepted
-    → let s = behindState (atVerdict c) in c .decide .result .areas ≡ presentAfter (s .args .q) (sandboxAt (worldIn s) (s .args .q .sandbox))
+    → let s = behindState (atVerdict c) in c .decide .result .areas ≡ presentAfter (s .args .q) (sandboxAt (worldIn s) (s .args .q .sandbox) .rec)
 areas-here c e =
     let told = c .decide .ensures in
     told .areas ∙ rw (sym (told .number) ∙ ap verdictNumber e)
@@ -126,14 +125,7 @@ decide-requires c κs =
     let tested = c .before in
     let start = behindState tested in
     let w = worldIn start in
-    let s = start .args .q .sandbox in
-    let call = a-call (tested .before .before .before .before) in (
-      call,
-      (
-        (λ row. ready (imageIn start) w (start .args .q) (is-sound tested) row),
-        (λ row. settled-at (pagesIn (length (imageIn start))) (w .store) s (sandboxAt w s) (is-sound tested .each s row) true _ _ _),
-      ),
-    )
+    (a-call (tested .before .before .before .before), λ row. ready (imageIn start) w (start .args .q) (is-sound tested) row)
 
 enum-known-verdict : tie.Need-enum-known-verdict
 enum-known-verdict c = search needs

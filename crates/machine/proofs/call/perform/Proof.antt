@@ -4,10 +4,11 @@ use lib.ListN.{length, getD, set}
 use Rattle.basics.proofs.TestLaws.{length-mapped}
 use Rattle.table.proofs.FiledLaws.{filed-ranged}
 use Rattle.areas.specs.declared.area.Areas.{Areas}
+use Rattle.records.specs.declared.Record.{Record}
 use Rattle.state.specs.declared.sandbox.Sandbox.{Sandbox}
-use Rattle.state.specs.World.{World, worldOf, framesOf, withRuns}
+use Rattle.state.specs.World.{World, worldOf, framesOf}
 use Rattle.state.proofs.SharesLaws.{zeroSandbox}
-use Rattle.rules.specs.After.{sandboxWith, sandboxAfter}
+use Rattle.rules.specs.After.{recordWith, recordAfter}
 use Rattle.memory.specs.Parts.{ownSandbox}
 use Rattle.memory.proofs.MemoryLaws.{read-own}
 use Rattle.machine.proofs.CallLaws.{performed}
@@ -34,11 +35,11 @@ four c = search length-mapped
 same-sandbox : (c : tie.Start) → sandboxIn c ≡ own c
 same-sandbox c = read-own (c .args .machine .sandboxes) (c .args .q .sandbox) (four c) (c .pre .0 .row)
 
--- so with the areas that were decided it is the one that the request leaves
-own-after : (c : tie.Start) → sandboxWith (c .args .q) (c .args .present) (sandboxIn c) ≡ sandboxAfter (c .args .q) (own c)
+-- so with the areas that were decided its record is the one that the request leaves
+own-after : (c : tie.Start) → recordWith (c .args .q) (c .args .present) (sandboxIn c .rec) ≡ recordAfter (c .args .q) (own c .rec)
 own-after c =
-    ap (λ (b : Sandbox). sandboxWith (c .args .q) (c .args .present) b) (same-sandbox c)
-    ∙ ap (λ (present : Areas). sandboxWith (c .args .q) present (own c)) (c .pre .1)
+    ap (λ (b : Sandbox). recordWith (c .args .q) (c .args .present) (b .rec)) (same-sandbox c)
+    ∙ ap (λ (present : Areas). recordWith (c .args .q) present (own c .rec)) (c .pre .1)
 
 -- ---- the parts in turn
 
@@ -48,7 +49,7 @@ startOf c = c .before .before .before .before .before .before .before .before
 abbrev valuedOf : tie.After-store-after → tie.After-value-of
 valuedOf c = c .before .before .before
 
-abbrev storedOf : tie.After-sandbox-after → tie.After-store-after
+abbrev storedOf : tie.After-record-after → tie.After-store-after
 storedOf c = c .before .before .before .before .before .before .before
 
 -- ---- the needs
@@ -72,18 +73,15 @@ value-of-requires c κs =
 store-after-requires : tie.Need-store-after-requires
 store-after-requires c κs = startOf (c .before .before) .pre .0
 
-sandbox-after-requires : tie.Need-sandbox-after-requires
-sandbox-after-requires c κs = startOf (valuedOf (c .before .before .before .before .before .before)) .pre .0 .fit
-
-with-runs-requires : tie.Need-with-runs-requires
-with-runs-requires c κs = search needs
+record-after-requires : tie.Need-record-after-requires
+record-after-requires c κs = startOf (valuedOf (c .before .before .before .before .before .before)) .pre .0 .fit
 
 mul-t15 : tie.Need-mul-t15
-mul-t15 c = let row = startOf (valuedOf (storedOf (c .before))) .pre .0 .row in search needs
+mul-t15 c = let row = startOf (valuedOf (storedOf c)) .pre .0 .row in search needs
 
 element-set-from-m : tie.Need-element-set-from-m
 element-set-from-m c =
-    let start = startOf (valuedOf (storedOf (c .before))) in
+    let start = startOf (valuedOf (storedOf c)) in
     let row = start .pre .0 .row in
     let l = four start in
     search needs
@@ -96,7 +94,7 @@ same-length-2 c = search needs
 
 returns : tie.Need-returns
 returns c =
-    let stored = storedOf (c .before) in
+    let stored = storedOf c in
     let valued = valuedOf stored in
     let start = startOf valued in
     let q = start .args .q in
@@ -104,7 +102,7 @@ returns c =
     performed (start .args .image .now) (worldIn start) q (valued .value-of .result) _ _ (left .result .runs) (left .ensures)
     (rw (← same-sandbox start) (valued .value-of .ensures (start .args .machine .held)))
     (ap (set (start .args .machine .sandboxes) (q .sandbox))
-    (c .with-runs .ensures ∙ ap (withRuns (left .result .runs)) (c .before .sandbox-after .ensures ∙ own-after start)))
+    (ap (λ (r : Record). record { rec = r; runs = left .result .runs }) (c .record-after .ensures ∙ own-after start)))
 
 pub perform-spec : {M : Type 1} → statement M
 perform-spec =
@@ -115,8 +113,7 @@ perform-spec =
     element-copy-out-b
     value-of-requires
     store-after-requires
-    sandbox-after-requires
-    with-runs-requires
+    record-after-requires
     mul-t15
     element-set-from-m
     same-length

@@ -44,7 +44,7 @@ abbrev Start : Type 0
 Start = tie.Start Inv-loop μ-loop
 
 there : (s : Start) (i : ℕ) → backingEnd (backingAt (slots (s .args .b .present) i)) * 256 ≤ length (s .args .image .now)
-there s i = backing-there (s .args .image .now) (s .args .b .present) (s .pre .1 .0 .present) i
+there s i = backing-there (s .args .image .now) (s .args .b .present) (s .pre .1 .0 .sound .present) i
 
 abbrev turning : tie.After-page-of Inv-loop μ-loop → tie.In-loop Inv-loop μ-loop
 turning c = c .before .before
@@ -71,7 +71,7 @@ page-of-requires c κs =
         c .before .loop-test .taken,
         (
           c .before .before .loop .inv .3 .entries,
-          near (pagesIn (length (s .args .image .now))) (s .args .b .present) (ready .present) (ready .few),
+          near (pagesIn (length (s .args .image .now))) (s .args .b .present) (ready .sound .present) (ready .few),
         ),
       ),
     )
@@ -130,7 +130,7 @@ returns c =
     let image = s .args .image .now in
     c .before .loop .inv .4 ∙ ap (rewindTo 256 (s .args .s * 128) (keeps (b .present)) (bytes image (b .present)) _) (omega arith)
     ∙ rewind-alike 256 (s .args .s * 128) (keepsFront b) (bytes image (b .present)) (copyPage image b) _
-    (λ i h. ap (backingPage image) (s .pre .1 .0 .backing i h)) 64
+    (λ i h. ap (backingPage image) (s .pre .1 .0 .sound .backing i h)) 64
 
 pub rewind-spec : {M : Type 1} → statement M
 rewind-spec =
