@@ -27,10 +27,12 @@ use Rattle.table.specs.Store.{entry, frontOf, backOf, contents}
 use Rattle.table.proofs.StoreLaws.{contents-none, contents-some}
 use Rattle.kept.specs.Test.{keptTo, blankb, frameOk, spareb}
 use Rattle.areas.specs.Areas.{slots}
+use Rattle.records.specs.declared.Record.{Record}
 use Rattle.state.specs.declared.sandbox.Sandbox.{Sandbox}
 use Rattle.state.specs.World.{World, sandboxAt, framesOf, pagesIn, lengthsOk, rowsOf}
 use Rattle.page_soundness.specs.Pages.{pagesOk}
-use Rattle.soundness.specs.Test.{runsOk, sandboxOk, sandboxesOk, runsOkAt, keptOk, soundb}
+use Rattle.run_soundness.specs.Test.{runsOk}
+use Rattle.soundness.specs.Test.{sandboxOk, sandboxesOk, runsOkAt, keptOk, soundb}
 use Rattle.soundness.proofs.TestLaws.{Tested, tested}
 use Rattle.content.specs.Content.{pageUnder, pageRead, copyRead, differing}
 use Rattle.content.proofs.CompareLaws.{passed-over}
@@ -122,8 +124,8 @@ module _ (image : List ℕ) (w v : World) (E : AlikeButBacks w v) where
       ))
 
   module _ (T : Tested image w) (s : ℕ) (row : s < 4) where
-    abbrev b : Sandbox
-    b = sandboxAt w s
+    abbrev b : Record
+    b = sandboxAt w s .rec
 
     abbrev sameIn : World → ℕ → Bool
     sameIn u i = sameBytes 256 (pageRead image (u .store) b s i) (copyRead image (u .store) b s i)
@@ -134,7 +136,7 @@ module _ (image : List ℕ) (w v : World) (E : AlikeButBacks w v) where
     passed u e i P =
         let none : entry (u .store) (frontOf s i) ≡ 0 = rw e (P .frontless) in
         passed-over image (u .store .pool) (slots (b .present) i) (slots (b .snapshot) i) (entry (u .store) (frontOf s i)) (entry (u .store) (backOf s i))
-        (and-of (P .committed) (eq-eqb _ 0 none)) (T .each s row .backing i)
+        (and-of (P .committed) (eq-eqb _ 0 none)) (T .each s row .rec .backing i)
 
     -- any other page reads the same in both worlds
     compared : (i : ℕ) → i < 64 → (PassedOver w s i → ⊥) → sameIn w i ≡ sameIn v i

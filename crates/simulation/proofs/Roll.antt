@@ -29,7 +29,9 @@ use Rattle.areas.specs.Formed.{goesOn, proper, isApart, isNone, placeOk, wellFo
 use Rattle.packing.specs.Pack.{continues, push, packTo}
 use Rattle.state.specs.World.{World, framesOf, started, rowsOf}
 use Rattle.page_soundness.specs.Pages.{pageOk, pagesOk}
-use Rattle.soundness.specs.Test.{noneKept, runsOk, keptOk, recordOk, sandboxOk, sandboxesOk, soundb}
+use Rattle.record_soundness.specs.Test.{fieldsOk, recordOk}
+use Rattle.run_soundness.specs.Test.{noneKept, runsOk}
+use Rattle.soundness.specs.Test.{keptOk, sandboxOk, sandboxesOk, soundb}
 use Rattle.rules.specs.After.{packedAfter, takenAfter, snapshotAfter}
 use Rattle.content.specs.Content.{pageUnder, pageRead}
 use Rattle.memory.specs.Memory.{givesAt, runsAfter, touched, storeAfter, heldBy, valueAt}
@@ -67,7 +69,7 @@ unfolding chosen played roll
     rowTo keptBy rowRewound leftOf grantTo runsTo keptTo blankb spareb
     slotIn goesOn continues push packTo
     proper isApart isNone placeOk wellFormed
-    pageOk pagesOk recordOk noneKept runsOk sandboxOk sandboxesOk keptOk soundb
+    pageOk pagesOk fieldsOk recordOk noneKept runsOk sandboxOk sandboxesOk keptOk soundb
     packedAfter takenAfter snapshotAfter
     pageUnder pageRead givesAt runsAfter touched storeAfter heldBy valueAt
     numberAt step
