@@ -1,7 +1,7 @@
 // A start, and then a call at a time, over a state that the caller keeps as bytes beside its pool and table.
 // It asks nothing of what is lent: a wrong length and bytes that are no state's are refusal 3 (2 where the code is no call), and nothing changes. It promises
 // that each does what `host_calls` says (specs/Calls there: `startHands`, `Called`).
-// It stands on `machine` for the call, on `soundness` for the start, on `layout` and `encoding` for the bytes and on `host_calls` for what is promised.
+// It stands on `machine` for the call, on `starting` for the start, on `layout` and `encoding` for the bytes and on `host_calls` for what is promised.
 ghost use mathlib.Core.Path.{_≡_};
 ghost use Rattle.host_calls.specs.Calls.{handed, startNumber, startHands, Called};
 use encoding::decode;
