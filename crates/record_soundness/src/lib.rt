@@ -25,7 +25,13 @@ pub fn record_ok(rec: Record, images: u8) -> bool
     if rec.share < rec.charge() {
         return false;
     }
-    fields_ok(rec.opened, rec.share, rec.taken, present.count, snapshot.count)
+    fields_ok(
+        rec.opened,
+        rec.share,
+        rec.taken,
+        present.count,
+        snapshot.count,
+    )
 }
 
 fn fields_ok(opened: bool, share: u8, taken: bool, present: u8, snapshot: u8) -> bool
