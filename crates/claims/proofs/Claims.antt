@@ -3,7 +3,7 @@ use mathlib.Core.List.{List}
 use Prim.Native.Nat.{ℕ}
 use Rattle.interface.specs.declared.request.Request.{Request}
 use Rattle.state.specs.World.{World}
-use Rattle.machine.specs.Step.{Outcome, Stepped}
+use Rattle.step.specs.Step.{Outcome, Stepped}
 use Rattle.plain.specs.Machine.{Given}
 use Rattle.simulation.specs.Lent.{Lent}
 use Rattle.claims.specs.Demands.{StartsLists, EveryListRuns, Demand1, Demand2, Demand3}

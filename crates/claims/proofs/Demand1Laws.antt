@@ -17,8 +17,8 @@ use Rattle.state.specs.World.{World, sandboxAt, closedSandbox, rowsOf}
 use Rattle.state.specs.Sound.{Sound}
 use Rattle.soundness.specs.Test.{soundb}
 use Rattle.soundness.proofs.TestLaws.{sound-true, sound-of}
-use Rattle.machine.specs.Step.{viewAt, sandboxThen, numberAt, Outcome, Stepped}
-use Rattle.machine.proofs.CallLaws.{number-two, number-three, number-rest}
+use Rattle.step.specs.Step.{viewAt, sandboxThen, numberAt, Outcome, Stepped}
+use Rattle.step.proofs.CallLaws.{number-two, number-three, number-rest}
 use Rattle.simulation.proofs.StepLaws.{number-is, refused-leaves}
 use Rattle.simulation.proofs.AnySound.{stays-sound}
 use Rattle.simulation.proofs.AcceptedLaws.{left, stored}

@@ -20,7 +20,7 @@ use Rattle.table.specs.Store.{entry, frontOf, backOf}
 use Rattle.areas.specs.Areas.{slots}
 use Rattle.state.specs.World.{World, sandboxAt, pagesIn, rowsOf}
 use Rattle.state.specs.Sound.{Sound}
-use Rattle.machine.specs.Step.{Outcome, Stepped}
+use Rattle.step.specs.Step.{Outcome, Stepped}
 use Rattle.plain.specs.Machine.{Given, Plain, fresh, numberAt, answer, after, answers}
 use Rattle.plain.specs.Lists.{upTo, Then, Rewound}
 use Rattle.plain.proofs.KeptLaws.{frames-suffice, next-write}

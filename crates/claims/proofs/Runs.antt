@@ -9,7 +9,7 @@ use Rattle.state.specs.World.{World, started}
 use Rattle.state.specs.Sound.{Sound}
 use Rattle.state.proofs.LentLaws.{lengths-true}
 use Rattle.state.proofs.StartLaws.{start-world}
-use Rattle.machine.specs.Step.{step, Outcome, Stepped}
+use Rattle.step.specs.Step.{step, Outcome, Stepped}
 use Rattle.plain.specs.Machine.{Given, Plain, fresh, after, answers, afterAll}
 use Rattle.plain.specs.Lists.{upTo}
 use Rattle.simulation.specs.Lent.{Lent}

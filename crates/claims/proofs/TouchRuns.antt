@@ -38,7 +38,7 @@ use Rattle.records.specs.declared.Record.{Record}
 use Rattle.state.specs.World.{World, sandboxAt, withRuns, closedSandbox, framesOf, rowsOf}
 use Rattle.rules.specs.After.{changes, packedAfter, takenAfter, snapshotAfter, recordAfter}
 use Rattle.memory.specs.Memory.{givesAt, placeFor, framesFor, longestOf, runsAfter, storeAfter}
-use Rattle.machine.specs.Step.{sandboxThen, takes, gives, OfLongest, Outcome, Stepped}
+use Rattle.step.specs.Step.{sandboxThen, takes, gives, OfLongest, Outcome, Stepped}
 use Rattle.simulation.proofs.StepLaws.{taking, gives-takes}
 use Rattle.simulation.proofs.MapSteps.{map-free}
 use Rattle.simulation.proofs.GrantSteps.{grant-front}

@@ -31,7 +31,7 @@ use Rattle.state.specs.World.{World, sandboxAt, closedSandbox, framesOf, pagesI
 use Rattle.rules.specs.After.{changes, recordAfter}
 use Rattle.content.specs.Content.{pageRead}
 use Rattle.memory.specs.Memory.{placeFor, framesFor, storeAfter}
-use Rattle.machine.specs.Step.{takes, gives, Outcome, Stepped}
+use Rattle.step.specs.Step.{takes, gives, Outcome, Stepped}
 use Rattle.simulation.proofs.StepLaws.{taking}
 use Rattle.simulation.proofs.StoreSteps.{write-page}
 use Rattle.simulation.proofs.AcceptedLaws.{number, left, met, sound-parts, own, free, stored}

@@ -23,7 +23,7 @@ use Rattle.state.specs.Start.{startedBy}
 use Rattle.state.specs.Sound.{Sound}
 use Rattle.content.specs.Content.{pageRead}
 use Rattle.memory.specs.Memory.{heldBy}
-use Rattle.machine.specs.Step.{viewAt, Chosen, Outcome, Stepped}
+use Rattle.step.specs.Step.{viewAt, Chosen, Outcome, Stepped}
 use Rattle.plain.specs.Machine.{Given, fresh, copySlots, copyBytes, answers}
 use Rattle.plain.specs.Lists.{upTo, naming, toldLater, Rewound}
 use Rattle.simulation.specs.Lent.{Lent}

@@ -25,7 +25,7 @@ use Rattle.state.specs.declared.sandbox.Sandbox.{Sandbox}
 use Rattle.state.specs.World.{World, sandboxAt, withRuns, framesOf, rowsOf}
 use Rattle.content.specs.Content.{pageRead}
 use Rattle.memory.specs.Memory.{placeFor, framesFor, longestOf}
-use Rattle.machine.specs.Step.{takes, gives, OfLongest, Outcome}
+use Rattle.step.specs.Step.{takes, gives, OfLongest, Outcome}
 
 -- ---- the memory that a request names
 

@@ -38,7 +38,7 @@ use Rattle.content.specs.Content.{pageUnder, pageRead, copyRead, differing}
 use Rattle.content.proofs.CompareLaws.{passed-over}
 use Rattle.memory.specs.Memory.{valueAt}
 use Rattle.memory.proofs.ValueLaws.{compare-value}
-use Rattle.machine.specs.Step.{numberAt, step}
+use Rattle.step.specs.Step.{numberAt, step}
 use Rattle.simulation.proofs.StepLaws.{was-sound, was-accepted}
 use Rattle.consequences.specs.StillClean.{PassedOver, AlikeButBacks, BacksCannotAlter}
 

@@ -40,7 +40,7 @@ use Rattle.areas.proofs.OrderLaws.{slots-inside}
 use Rattle.records.proofs.SettledLaws.{settled-of}
 use Rattle.rules.specs.After.{packedAfter, takenAfter, snapshotAfter}
 use Rattle.memory.specs.Memory.{givesAt, runsAfter, storeAfter, valueAt}
-use Rattle.machine.specs.Step.{viewAt, numberAt, step, takes, Outcome, Stepped}
+use Rattle.step.specs.Step.{viewAt, numberAt, step, takes, Outcome, Stepped}
 use Rattle.simulation.proofs.StepLaws.{number-is, accepted-leaves, gives-takes}
 use Rattle.simulation.proofs.AnySound.{stays-sound}
 use Rattle.claims.specs.Demands.{Run, none, more}

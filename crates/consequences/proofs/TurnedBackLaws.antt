@@ -29,8 +29,8 @@ use Rattle.state.specs.Start.{startedBy}
 use Rattle.state.specs.Lengths.{Lending, lendings}
 use Rattle.soundness.specs.Test.{soundb}
 use Rattle.state.proofs.LentLaws.{lengths-true}
-use Rattle.machine.specs.Step.{Outcome, Stepped, numberAt}
-use Rattle.machine.proofs.CallLaws.{number-two, number-three}
+use Rattle.step.specs.Step.{Outcome, Stepped, numberAt}
+use Rattle.step.proofs.CallLaws.{number-two, number-three}
 use Rattle.plain.specs.Machine.{Given, fresh, closed, valueAt, coreValue, held, answer, answers}
 use Rattle.plain.specs.Cases.{Case, casesOver, noImage, cases, sameAnswer, sameAnswers, allGiven}
 use Rattle.plain.specs.TurnedBack.{turnedBackCases}

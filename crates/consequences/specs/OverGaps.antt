@@ -14,7 +14,7 @@ use Rattle.interface.specs.Gaps.{Unmaps, isHole, mappedAlone, allOk}
 use Rattle.areas.specs.Areas.{slots}
 use Rattle.state.specs.World.{World, sandboxAt}
 use Rattle.state.specs.Sound.{Sound}
-use Rattle.machine.specs.Step.{viewAt, Outcome, Stepped}
+use Rattle.step.specs.Step.{viewAt, Outcome, Stepped}
 use Rattle.claims.specs.Demands.{Run}
 
 -- the pages of the sandbox that a request names

@@ -14,7 +14,7 @@ use Rattle.pages.specs.Parts.{frame}
 use Rattle.table.specs.Store.{entry, frontOf, backOf}
 use Rattle.areas.specs.Areas.{slots}
 use Rattle.state.specs.World.{World, sandboxAt, framesOf, pagesIn}
-use Rattle.machine.specs.Step.{Outcome, Stepped}
+use Rattle.step.specs.Step.{Outcome, Stepped}
 use Rattle.plain.specs.Machine.{Given}
 use Rattle.plain.specs.Lists.{upTo, Rewound}
 use Rattle.plain.specs.Claims.{compareOf, copyAnswer}

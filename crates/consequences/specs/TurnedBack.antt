@@ -13,7 +13,7 @@ use Rattle.pages.specs.Parts.{zeros}
 use Rattle.state.specs.World.{World, worldOf, freshMachine, lengthsOk}
 use Rattle.state.specs.Start.{startedBy}
 use Rattle.state.specs.Lengths.{Lending}
-use Rattle.machine.specs.Step.{Outcome, Stepped}
+use Rattle.step.specs.Step.{Outcome, Stepped}
 use Rattle.plain.specs.Cases.{Case}
 use Rattle.claims.specs.Demands.{RunFrom}
 

@@ -1,10 +1,102 @@
-// What an accepted request makes of the lent memory and of the sandbox's runs, and its value, computed.
+// What an accepted request makes of the lent memory and of the sandbox's runs, computed.
 // It promises: the store and the runs after a request are those of memory/specs/Memory, whichever unheld frame a write takes and whichever frame of the
-// longest run it gives up; the value is the one stated there.
-// It stands on `memory` for the definitions and their laws, on `rewinding`, `freeing` and `filling` for the frames, on `reuse` and `gathering` for the
-// runs, on `content` for what is read and compared, and on `rules` for what a request within its limits is.
-pub mod store;
-pub mod value;
+// longest run it gives up.
+// It stands on `memory` for the definitions and their laws, on `writing`, `rewinding` and `freeing` for the frames, on `reuse` and `gathering` for the
+// runs, and on `rules` for what a request within its limits is.
+ghost use mathlib.Core.Path.{_≡_};
+ghost use Prim.Native.Nat.{_<_};
+ghost use lib.ListN.{length};
+ghost use Rattle.interface.specs.Numbers.{PageBytes, Sandboxes};
+ghost use Rattle.interface.specs.Requests.{Map, Write};
+ghost use Rattle.table.specs.Store.{kept, Ranged};
+ghost use Rattle.state.specs.World.{worldOf, pagesIn};
+ghost use Rattle.rules.specs.Ready.{Fit, Ready};
+ghost use Rattle.memory.specs.Parts.{Asked, LeftBy, StoreStepped};
+use frames::Held;
+use freeing::store::free_range;
+use gathering::gathered;
+use interface::PageNo;
+use interface::Request;
+use reuse::Left;
+use reuse::map;
+use rewinding::store::rewind;
+use state::sandbox::Machine;
+use state::sandbox::Sandbox;
+use table::entry::move_fronts;
+use writing::write;
 
-pub use store::store_after;
-pub use value::value_of;
+// The store and the runs after an accepted request.
+pub fn store_after(
+    machine: Machine,
+    pool: &mut [u8],
+    table: &mut [u16],
+    image: &[u8],
+    q: Request,
+) -> Left
+    requires { ⌜ Asked (now image) q (worldOf machine (now pool) (now table)) ⌝ }
+    ensures { λ r. ⌜ (let w = worldOf machine (now (pool .entry)) (now (table .entry)) in
+        StoreStepped (now (image .entry)) q w (kept (r .held) (now (pool .exit)) (now (table .exit))) (r .runs)) ⌝ }
+{
+    let code = q.code;
+    let k = q.sandbox as usize;
+    let held = machine.held;
+    let sandboxes = machine.sandboxes;
+    let b = sandboxes[k];
+    match code {
+        Request::MAP => map(held, table, b, q),
+        Request::WRITE => write(machine, pool, table, image, q),
+        _ => without_frames(held, pool, table, image, b, q),
+    }
+}
+
+// The store and the runs after a request that takes no frame: any but a map and a write.
+fn without_frames(
+    held: Held,
+    pool: &mut [u8],
+    table: &mut [u16],
+    image: &[u8],
+    b: Sandbox,
+    q: Request,
+) -> Left
+    requires { ⌜ (q .code ≡ Map → ⊥) ⌝ }
+    requires { ⌜ (q .code ≡ Write → ⊥) ⌝ }
+    requires { ⌜ q .sandbox < Sandboxes ⌝ }
+    requires { ⌜ Fit q ⌝ }
+    requires { ⌜ Ready (pagesIn (length (now image))) (b .rec) ⌝ }
+    requires { ⌜ Ranged PageBytes (now pool) (now table) ⌝ }
+    ensures { λ r. ⌜ (let before = kept held (now (pool .entry)) (now (table .entry)) in
+        LeftBy (now (image .entry)) q b before (kept (r .held) (now (pool .exit)) (now (table .exit))) (r .runs)) ⌝ }
+{
+    let code = q.code;
+    let s = q.sandbox as u8;
+    let runs = b.runs;
+    match code {
+        Request::UNMAP => {
+            let h = free_range(held, pool, table, s, PageNo(q.p1 as u8), q.p2 as u8);
+            Left {
+                held: h,
+                runs: runs,
+            }
+        }
+        Request::SNAPSHOT => {
+            move_fronts(table, s);
+            Left {
+                held: held,
+                runs: runs,
+            }
+        }
+        Request::REWIND => {
+            let present = b.rec.present;
+            let left = gathered(table, present, runs, s);
+            let h = rewind(held, pool, table, image, b.rec, s);
+            Left {
+                held: h,
+                runs: left,
+            }
+        }
+        _ => Left {
+            held: held,
+            runs: runs,
+        },
+    }
+}

@@ -13,7 +13,7 @@ use Rattle.interface.specs.Answers.{Answered}
 use Rattle.interface.specs.Refusals.{View, isTaken, archiveRefusal}
 use Rattle.records.specs.Record.{copyOf}
 use Rattle.state.specs.World.{World, sandboxAt}
-use Rattle.machine.specs.Step.{viewAt}
+use Rattle.step.specs.Step.{viewAt}
 use Rattle.soundness.specs.Test.{soundb}
 use Rattle.layout.specs.Layout.{isState}
 use Rattle.layout.specs.Claims.{machineOf}

@@ -17,7 +17,7 @@ use Rattle.state.specs.Sound.{Sound}
 use Rattle.layout.specs.Layout.{stateSize, isState, Shaped}
 use Rattle.layout.specs.Claims.{machineOf}
 use Rattle.layout.proofs.Claims.{decodes-back, passes, sound-is-shaped, fresh-is-zero}
-use Rattle.machine.specs.Step.{Stepped}
+use Rattle.step.specs.Step.{Stepped}
 use Rattle.plain.specs.Machine.{fresh}
 use Rattle.simulation.specs.Lent.{Lent}
 use Rattle.simulation.proofs.SoundLaws.{agrees-sound, started-agrees}

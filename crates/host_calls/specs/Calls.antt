@@ -14,7 +14,7 @@ use Rattle.state.specs.World.{World, worldOf}
 use Rattle.state.specs.Start.{startAnswer, startedBy}
 use Rattle.layout.specs.Layout.{stateSize, stateBytes, stateFrom, isState}
 use Rattle.layout.specs.Claims.{machineOf}
-use Rattle.machine.specs.Step.{Outcome, Stepped}
+use Rattle.step.specs.Step.{Outcome, Stepped}
 use Rattle.host_calls.specs.declared.Asked.{Asked}
 use Rattle.host_calls.specs.declared.Told.{Told}
 

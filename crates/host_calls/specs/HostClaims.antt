@@ -11,7 +11,7 @@ use Rattle.interface.specs.Slots.{allAre}
 use Rattle.interface.specs.Gaps.{Unmaps}
 use Rattle.pages.specs.Parts.{zeros}
 use Rattle.state.specs.World.{pagesIn, lengthsOk}
-use Rattle.machine.specs.Step.{viewAt}
+use Rattle.step.specs.Step.{viewAt}
 use Rattle.state.specs.Sound.{Sound}
 use Rattle.layout.specs.Rows.{Bytes}
 use Rattle.layout.specs.Layout.{stateSize, isState}

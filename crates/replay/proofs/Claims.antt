@@ -17,7 +17,7 @@ use Rattle.pages.specs.Parts.{listed}
 use Rattle.pages.proofs.ListedLaws.{listed-at, listed-same}
 use Rattle.areas.specs.Areas.{slots}
 use Rattle.state.specs.World.{World, sandboxAt}
-use Rattle.machine.specs.Step.{viewAt}
+use Rattle.step.specs.Step.{viewAt}
 use Rattle.soundness.specs.Test.{soundb}
 use Rattle.content.specs.Content.{copyRead}
 use Rattle.plain.specs.Machine.{Given, Pages, copySlots, viewOf, shares}

@@ -6,7 +6,7 @@ use Rattle.interface.specs.declared.request.Request.{Request}
 use Rattle.interface.specs.Refusals.{archiveRefusal}
 use Rattle.areas.specs.Areas.{slots}
 use Rattle.state.specs.World.{World, sandboxAt}
-use Rattle.machine.specs.Step.{viewAt}
+use Rattle.step.specs.Step.{viewAt}
 use Rattle.content.specs.Content.{copyRead}
 use Rattle.plain.specs.Machine.{Pages}
 use Rattle.archive.specs.Archive.{archive}

@@ -8,13 +8,13 @@ ghost use lib.ListN.{length};
 ghost use Rattle.interface.specs.Answers.{numberOf, valueOf};
 ghost use Rattle.lines.specs.Prints.{printedReply};
 ghost use Rattle.state.specs.World.{worldOf};
-ghost use Rattle.machine.specs.Parts.{outcomeOf};
+ghost use Rattle.performing.specs.Reply.{outcomeOf};
 ghost use Rattle.roll.specs.Play.{Turned, Replied};
 use interface::Answer;
 use interface::Refusal;
 use lines::Line;
-use machine::call::Reply;
-use machine::call::call;
+use performing::Reply;
+use machine::call;
 use printer::print_reply;
 use state::sandbox::Machine;
 

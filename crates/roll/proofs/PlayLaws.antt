@@ -15,7 +15,7 @@ use Rattle.lines.specs.Lines.{lineAt}
 use Rattle.lines.specs.Prints.{printedReply}
 use Rattle.lines.proofs.PrintLaws.{length-reply}
 use Rattle.state.specs.World.{World}
-use Rattle.machine.specs.Step.{Outcome}
+use Rattle.step.specs.Step.{Outcome}
 use Rattle.claims.specs.Demands.{Run, none, more}
 use Rattle.roll.specs.Play.{malformed, linesIn, requests, replies, printed, FitsLine, Fits, Turned, Replied, Played}
 

@@ -43,7 +43,7 @@ use Rattle.state.specs.World.{World, sandboxAt}
 use Rattle.table.specs.Backing.{backingPage}
 use Rattle.content.specs.Content.{pageUnder, pageRead, differing}
 use Rattle.memory.specs.Memory.{heldBy, valueAt}
-use Rattle.machine.specs.Step.{viewAt, Outcome, Stepped, step, numberAt}
+use Rattle.step.specs.Step.{viewAt, Outcome, Stepped, step, numberAt}
 use Rattle.roll.specs.Play.{FitsLine}
 
 -- each element is a byte

@@ -10,7 +10,7 @@ use Rattle.lines.specs.declared.Line.the-variants.{Call, Malformed}
 use Rattle.lines.specs.Lines.{lineAt}
 use Rattle.lines.specs.Prints.{UpTo, printedReply}
 use Rattle.state.specs.World.{World}
-use Rattle.machine.specs.Step.{Outcome, Stepped}
+use Rattle.step.specs.Step.{Outcome, Stepped}
 use Rattle.claims.specs.Demands.{Run}
 
 -- row 1, "line malformed (player only)", with value 0

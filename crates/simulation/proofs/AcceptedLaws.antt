@@ -18,7 +18,7 @@ use Rattle.state.specs.World.{World, sandboxAt, framesOf, pagesIn, sharesOf, ro
 use Rattle.state.specs.Sound.{SoundAt}
 use Rattle.soundness.proofs.TestLaws.{Tested, tested}
 use Rattle.memory.specs.Memory.{givesAt, storeAfter}
-use Rattle.machine.specs.Step.{viewAt, worldAfter, numberAt, Free, Outcome, Stepped}
+use Rattle.step.specs.Step.{viewAt, worldAfter, numberAt, Free, Outcome, Stepped}
 use Rattle.plain.specs.Machine.{Given, Kept, keptAfter, viewOf}
 use Rattle.simulation.specs.Lent.{Lent}
 use Rattle.simulation.proofs.StepLaws.{was-sound, was-accepted, number-is, accepted-leaves, frame-free}

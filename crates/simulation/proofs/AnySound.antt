@@ -39,7 +39,7 @@ use Rattle.state.specs.Sound.{SoundAt, Sound}
 use Rattle.areas.proofs.OrderLaws.{slots-inside}
 use Rattle.records.proofs.SettledLaws.{copied-slots}
 use Rattle.state.proofs.SoundLaws.{closed-sandbox}
-use Rattle.machine.specs.Step.{Outcome, Stepped}
+use Rattle.step.specs.Step.{Outcome, Stepped}
 use Rattle.plain.specs.Machine.{Given, Pages, Kept, Plain, closed, held, copySlots, copyBytes, backingByte}
 use Rattle.plain.specs.Claims.{Keeps, Reads}
 use Rattle.plain.proofs.KeptLaws.{keeps-closed, areas-none, mapped-none}

@@ -35,7 +35,7 @@ use Rattle.soundness.specs.Test.{keptOk, sandboxOk, sandboxesOk, soundb}
 use Rattle.rules.specs.After.{packedAfter, takenAfter, snapshotAfter}
 use Rattle.content.specs.Content.{pageUnder, pageRead}
 use Rattle.memory.specs.Memory.{givesAt, runsAfter, touched, storeAfter, heldBy, valueAt}
-use Rattle.machine.specs.Step.{numberAt, step}
+use Rattle.step.specs.Step.{numberAt, step}
 use Rattle.interface.specs.Examples.{Line, requestsOf, getsOf}
 use Rattle.plain.specs.Cases.{cases}
 

@@ -37,7 +37,7 @@ use Rattle.soundness.specs.Test.{soundb}
 use Rattle.state.specs.World.{World, sandboxAt, closedSandbox, framesOf, sharesOf, rowsOf}
 use Rattle.content.specs.Content.{pageRead, copyRead, differing}
 use Rattle.memory.specs.Memory.{givesAt, longestOf, runsAfter, storeAfter, heldBy, valueAt}
-use Rattle.machine.specs.Step.{viewAt, sandboxThen, worldAfter, numberAt, step, Outcome, Stepped}
+use Rattle.step.specs.Step.{viewAt, sandboxThen, worldAfter, numberAt, step, Outcome, Stepped}
 use Rattle.plain.specs.Machine.{Given, Kept, Plain, copySlots, copyBytes, shares, viewOf, keptAfter, coreValue, answer, after}
 use Rattle.plain.specs.Machine.{held as heldMarks, differing as plainDiffering, valueAt as plainValue, numberAt as plainNumber}
 use Rattle.plain.proofs.KeptLaws.{holds-after}

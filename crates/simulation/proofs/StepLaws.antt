@@ -24,7 +24,7 @@ use Rattle.table.specs.Store.{entry, frontOf}
 use Rattle.state.specs.World.{World, sandboxAt, framesOf, rowsOf}
 use Rattle.soundness.specs.Test.{soundb}
 use Rattle.memory.specs.Memory.{givesAt, longestOf}
-use Rattle.machine.specs.Step.{viewAt, worldAfter, numberAt, step, takes, gives, Free, OfLongest, Outcome, Stepped}
+use Rattle.step.specs.Step.{viewAt, worldAfter, numberAt, step, takes, gives, Free, OfLongest, Outcome, Stepped}
 
 -- a request that is accepted
 module _ (image : List ℕ) (w : World) (q : Request) (n : numberAt image w q ≡ 0) where

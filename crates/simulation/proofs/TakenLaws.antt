@@ -23,7 +23,7 @@ use Rattle.state.specs.Sound.{Sound}
 use Rattle.soundness.proofs.TestLaws.{Tested, tested, sound-of}
 use Rattle.soundness.proofs.Room.{holds, frame-there, kept-there}
 use Rattle.memory.specs.Memory.{givesAt, longestOf}
-use Rattle.machine.specs.Step.{viewAt, takes, gives, Free, OfLongest, Chosen}
+use Rattle.step.specs.Step.{viewAt, takes, gives, Free, OfLongest, Chosen}
 use Rattle.simulation.proofs.StepLaws.{was-accepted, Taking, taking, gives-takes}
 use Rattle.simulation.proofs.StoreSteps.{write-page}
 

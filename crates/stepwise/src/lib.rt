@@ -12,7 +12,7 @@ use interface::Answer;
 use interface::Refusal;
 use interface::Request;
 use layout::size::Size;
-use machine::call::call;
+use machine::call;
 use starting::start;
 
 // Starts a machine: writes a fresh state and clears pool and table. Answers 0, or 3 where a length is wrong: then pool and table stay as they are, and so does

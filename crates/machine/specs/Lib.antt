@@ -1,3 +1,0 @@
--- In reading order.
-pub mod Step
-pub mod Parts

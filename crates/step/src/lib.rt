@@ -1,0 +1,3 @@
+// The step of the machine: what a request answers and leaves, given the frame that a write takes and the one that it gives up. Definitions and laws, no code.
+// It promises: a refused call answers its row's number and leaves the world; what a sound state gives to the parts of an accepted call (proofs/CallLaws).
+// It stands on `soundness` for row 3, on `rules` for what becomes of a sandbox's record, and on `memory` for what becomes of the lent memory.
