@@ -1,3 +1,4 @@
+mod TableRuns
 pub mod CaseLaws
 pub mod OneSandbox
 pub mod TwoListsLaws
