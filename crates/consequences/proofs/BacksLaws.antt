@@ -29,7 +29,7 @@ use Rattle.kept.specs.Test.{keptTo, blankb, frameOk, spareb}
 use Rattle.areas.specs.Areas.{slots}
 use Rattle.state.specs.declared.sandbox.Sandbox.{Sandbox}
 use Rattle.state.specs.World.{World, sandboxAt, framesOf, pagesIn, lengthsOk, rowsOf}
-use Rattle.page_soundness.specs.Pages.{pagesOk}
+use Rattle.page_test.specs.Pages.{pagesOk}
 use Rattle.soundness.specs.Test.{runsOk, sandboxOk, sandboxesOk, runsOkAt, keptOk, soundb}
 use Rattle.soundness.proofs.TestLaws.{Tested, tested}
 use Rattle.content.specs.Content.{pageUnder, pageRead, copyRead, differing}

@@ -28,7 +28,7 @@ use Rattle.areas.specs.Areas.{slotIn}
 use Rattle.areas.specs.Formed.{goesOn, proper, isApart, isNone, placeOk, wellFormed}
 use Rattle.packing.specs.Pack.{continues, push, packTo}
 use Rattle.state.specs.World.{World, framesOf, started, rowsOf}
-use Rattle.page_soundness.specs.Pages.{pageOk, pagesOk}
+use Rattle.page_test.specs.Pages.{pageOk, pagesOk}
 use Rattle.soundness.specs.Test.{noneKept, runsOk, keptOk, recordOk, sandboxOk, sandboxesOk, soundb}
 use Rattle.rules.specs.After.{packedAfter, takenAfter, snapshotAfter}
 use Rattle.content.specs.Content.{pageUnder, pageRead}

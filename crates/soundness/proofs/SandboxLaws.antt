@@ -11,7 +11,7 @@ use Rattle.areas.specs.Formed.{wellFormed}
 use Rattle.areas.specs.Walk.{Formed}
 use Rattle.areas.proofs.FormedLaws.{formed}
 use Rattle.areas.proofs.WalkLaws.{settled}
-use Rattle.page_soundness.specs.Pages.{pagesOk}
+use Rattle.page_test.specs.Pages.{pagesOk}
 use Rattle.state.specs.declared.sandbox.Sandbox.{Sandbox}
 use Rattle.state.specs.World.{copyOf}
 use Rattle.soundness.specs.Test.{recordOk, sandboxOk, runsOk}

@@ -29,8 +29,8 @@ use Rattle.areas.specs.Areas.{slots, empty}
 use Rattle.areas.specs.Formed.{WellFormed, wellFormed}
 use Rattle.areas.proofs.FormedLaws.{formed, formed-of}
 use Rattle.areas.proofs.OrderLaws.{slots-inside, formed-empty}
-use Rattle.page_soundness.specs.Pages.{pagesOk}
-use Rattle.page_soundness.proofs.PageLaws.{AtPage, pages-true, pages-of}
+use Rattle.page_test.specs.Pages.{pagesOk}
+use Rattle.page_test.proofs.PageLaws.{AtPage, pages-true, pages-of}
 use Rattle.state.specs.declared.sandbox.Sandbox.{Sandbox}
 use Rattle.state.specs.World.{World, sandboxAt, sharesOf, copyOf, framesOf, pagesIn, lengthsOk, rowsOf}
 use Rattle.state.specs.Sound.{SoundAt, Sound}

@@ -19,7 +19,7 @@ use Rattle.kept.specs.Spare.{keptBy, Words}
 use Rattle.kept.specs.Test.{spareb}
 use Rattle.areas.specs.Areas.{slots}
 use Rattle.areas.specs.Formed.{wellFormed}
-use Rattle.page_soundness.specs.Pages.{pagesOk}
+use Rattle.page_test.specs.Pages.{pagesOk}
 use Rattle.state.specs.declared.sandbox.Sandbox.{Sandbox}
 use Rattle.state.specs.World.{World, sandboxAt, sharesOf, copyOf, framesOf, pagesIn, lengthsOk, rowsOf}
 

@@ -9,7 +9,7 @@ use Rattle.frames.specs.declared.Held.{Held}
 use Rattle.table.specs.Store.{Store, kept}
 use Rattle.areas.specs.Formed.{wellFormed}
 use Rattle.areas.specs.Walk.{Formed}
-use Rattle.page_soundness.specs.Pages.{pagesOk}
+use Rattle.page_test.specs.Pages.{pagesOk}
 use Rattle.soundness.proofs.SandboxLaws.{tested-formed, present-fails, snapshot-fails, pages-fail, charge-fails, record-decides}
 use Rattle.soundness.proofs.sound.sandbox_ok.Statement.{statement}
 use Rattle.soundness.proofs.sound.sandbox_ok.Tie as tie

@@ -20,7 +20,7 @@ use Rattle.areas.specs.Areas.{slots}
 use Rattle.areas.specs.Walk.{Formed}
 use Rattle.areas.proofs.SlotLaws.{advance-zero, follows-true}
 use Rattle.areas.proofs.WalkLaws.{between}
-use Rattle.page_soundness.specs.Pages.{pageOk, namesNone, pagesOk}
+use Rattle.page_test.specs.Pages.{pageOk, namesNone, pagesOk}
 
 -- ---- a page
 
