@@ -14,9 +14,9 @@ use Rattle.interface.specs.declared.page.Backing.{Backing}
 use Rattle.interface.specs.declared.page.Backing.the-variants.{Anonymous, Image}
 use Rattle.interface.specs.declared.request.Request.{Request}
 use Rattle.interface.specs.Slots.{isMapped, rightsAt, backingAt, startsArea, areas}
-use Rattle.lines.specs.Prints.{UpTo, numbersOf, printedRequest}
+use Rattle.columns.specs.Prints.{UpTo, numbersOf, printedRequest}
 use Rattle.lines.specs.Lines.{linesOf}
-use Rattle.lines.proofs.PrintLaws.{length-request}
+use Rattle.columns.proofs.PrintLaws.{length-request}
 use Rattle.plain.specs.Machine.{Given, Pages}
 use Rattle.archive.specs.Archive.{joined, only, kindOf, firstImage, mapAt, maps, differs, writeAt, writes}
 use Rattle.archive.specs.Archive.{readOnlyStart, protectAt, protects, closing, archive}

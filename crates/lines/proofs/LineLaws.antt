@@ -12,14 +12,14 @@ use Rattle.basics.specs.Ranges.{every}
 use Rattle.basics.proofs.TestLaws.{by-cases, never, and-both, and-of}
 use Rattle.basics.proofs.LoopLaws.{every-at, every-of}
 use Rattle.interface.specs.declared.request.Request.{Request}
-use Rattle.lines.specs.declared.Field.{Field}
-use Rattle.lines.specs.declared.Field.the-variants.{Number, Bad}
+use Rattle.columns.specs.declared.Field.{Field}
+use Rattle.columns.specs.declared.Field.the-variants.{Number, Bad}
 use Rattle.lines.specs.declared.Line.the-variants.{Call, Malformed}
-use Rattle.lines.specs.Prints.{printedField, printedLine, UpTo, numbersOf, printedRequest}
-use Rattle.lines.specs.Fields.{isNumber, numberIn}
+use Rattle.columns.specs.Prints.{printedField, printedLine, UpTo, numbersOf, printedRequest}
+use Rattle.columns.specs.Fields.{isNumber, numberIn}
 use Rattle.lines.specs.Lines.{fieldAt, hasNumber, numberAt, wellFormed, requestIn, parsed, bytesAt, lineAt, linesOf}
-use Rattle.lines.proofs.PrintLaws.{length-field, length-request}
-use Rattle.lines.proofs.FieldLaws.{field-said, field-small, field-says}
+use Rattle.columns.proofs.PrintLaws.{length-field, length-request}
+use Rattle.columns.proofs.FieldLaws.{field-said, field-small, field-says}
 
 -- ---- what is read was so printed
 

@@ -7,10 +7,10 @@ use lib.Dec.{eqb}
 use Rattle.basics.specs.Choice.{_when_else_}
 use Rattle.basics.specs.Ranges.{every}
 use Rattle.interface.specs.declared.request.Request.{Request}
-use Rattle.lines.specs.declared.Field.{Field}
+use Rattle.columns.specs.declared.Field.{Field}
 use Rattle.lines.specs.declared.Line.{Line}
 use Rattle.lines.specs.declared.Line.the-variants.{Call, Malformed}
-use Rattle.lines.specs.Fields.{isNumber, numberIn, fieldOf}
+use Rattle.columns.specs.Fields.{isNumber, numberIn, fieldOf}
 
 -- field k of a line, from 0 on: "fields of 6 columns"
 unfoldable pub fieldAt : List ℕ → ℕ → Field

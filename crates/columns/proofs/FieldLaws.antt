@@ -10,11 +10,11 @@ use lib.Dec.{eqb, ltb}
 use borrow.Author.Tests.{eqb-true, eqb-false, ltb-true, ltb-false, le-ltb, ne-eqb}
 use Rattle.basics.specs.Choice.{_when_else_}
 use Rattle.basics.proofs.TestLaws.{by-cases}
-use Rattle.lines.specs.declared.Field.{Field}
-use Rattle.lines.specs.declared.Field.the-variants.{Number, Bad}
-use Rattle.lines.specs.Prints.{lastDigit, column, columns, printedField}
-use Rattle.lines.specs.Fields.{withDigit, withColumn, columnsRead, fieldOf}
-use Rattle.lines.proofs.PrintLaws.{length-columns}
+use Rattle.columns.specs.declared.Field.{Field}
+use Rattle.columns.specs.declared.Field.the-variants.{Number, Bad}
+use Rattle.columns.specs.Prints.{lastDigit, column, columns, printedField}
+use Rattle.columns.specs.Fields.{withDigit, withColumn, columnsRead, fieldOf}
+use Rattle.columns.proofs.PrintLaws.{length-columns}
 
 -- what was read before a column, and what stands in it, where the number is then n
 pub record Read (shown : ℕ → ℕ) (before : Field) (byte n : ℕ) : Type 0 where

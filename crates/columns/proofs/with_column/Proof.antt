@@ -1,9 +1,9 @@
 -- One more column that is not the last: each way out is the row of the definition that its tests choose.
 use borrow.Author.Tests.{lt-ltb, le-ltb, eq-eqb, ne-eqb}
 use borrow.Author.Needs.{needs}
-use Rattle.lines.specs.Fields.{withColumn}
-use Rattle.lines.proofs.with_column.Statement.{statement}
-use Rattle.lines.proofs.with_column.Tie as tie
+use Rattle.columns.specs.Fields.{withColumn}
+use Rattle.columns.proofs.with_column.Statement.{statement}
+use Rattle.columns.proofs.with_column.Tie as tie
 
 enum-known-read : tie.Need-enum-known-read
 enum-known-read c = search needs

@@ -1,9 +1,9 @@
 -- Fields and a reply of document 01, computed on the definitions.
 use mathlib.Core.Path.{_≡_, refl}
 use mathlib.Core.List.{[], _∷_, map}
-use Rattle.lines.specs.declared.Field.the-variants.{Number, Bad}
-use Rattle.lines.specs.Prints.{columns, printedField, printedLine, printedReply}
-use Rattle.lines.specs.Fields.{withDigit, withColumn, columnsRead, fieldOf}
+use Rattle.columns.specs.declared.Field.the-variants.{Number, Bad}
+use Rattle.columns.specs.Prints.{columns, printedField, printedLine, printedReply}
+use Rattle.columns.specs.Fields.{withDigit, withColumn, columnsRead, fieldOf}
 
 -- "   300", "     0", "    05" (the example of refusal 1), " 65535", " 65536", 6 blanks, "   1 2", "1     ", a tab and "    1"
 fields : map fieldOf

@@ -5,8 +5,8 @@ use mathlib.Core.List.{List}
 use lib.ListN.{getD}
 use lib.Dec.{ltb, eqb}
 use Rattle.basics.specs.Choice.{_when_else_}
-use Rattle.lines.specs.declared.Field.{Field}
-use Rattle.lines.specs.declared.Field.the-variants.{Number, Bad}
+use Rattle.columns.specs.declared.Field.{Field}
+use Rattle.columns.specs.declared.Field.the-variants.{Number, Bad}
 
 -- what is read with one more column, which has a digit: "a number 0 to 65,535"
 unfoldable pub withDigit : Field → ℕ → Field

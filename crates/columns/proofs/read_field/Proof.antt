@@ -4,9 +4,9 @@ use mathlib.Core.Path.{_≡_, refl}
 use native.Mathlib.Omega.{arith}
 use native.Mathlib.Numerals.{add-one}
 use borrow.Author.Needs.{needs}
-use Rattle.lines.specs.Fields.{columnsRead, fieldOf}
-use Rattle.lines.proofs.read_field.Statement.{statement}
-use Rattle.lines.proofs.read_field.Tie as tie
+use Rattle.columns.specs.Fields.{columnsRead, fieldOf}
+use Rattle.columns.proofs.read_field.Statement.{statement}
+use Rattle.columns.proofs.read_field.Tie as tie
 
 abbrev Inv-loop : tie.InvT-loop
 Inv-loop part read₀ i₀ read i = (i ≤ 5) × (read ≡ columnsRead part i)

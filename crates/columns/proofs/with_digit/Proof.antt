@@ -1,9 +1,9 @@
 -- One more digit: each way out is the row of the definition that its tests choose.
 use borrow.Author.Tests.{lt-ltb, le-ltb}
 use borrow.Author.Needs.{needs}
-use Rattle.lines.specs.Fields.{withDigit}
-use Rattle.lines.proofs.with_digit.Statement.{statement}
-use Rattle.lines.proofs.with_digit.Tie as tie
+use Rattle.columns.specs.Fields.{withDigit}
+use Rattle.columns.proofs.with_digit.Statement.{statement}
+use Rattle.columns.proofs.with_digit.Tie as tie
 
 enum-known-read : tie.Need-enum-known-read
 enum-known-read c = search needs

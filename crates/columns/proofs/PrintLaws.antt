@@ -9,7 +9,7 @@ use lib.Dec.{eqb}
 use borrow.Author.Tests.{eqb-true}
 use Rattle.basics.proofs.TestLaws.{by-cases}
 use Rattle.interface.specs.declared.request.Request.{Request}
-use Rattle.lines.specs.Prints.{lastDigit, column, columns, printedField, printedLine, UpTo, numbersOf, printedRequest, printedReply}
+use Rattle.columns.specs.Prints.{lastDigit, column, columns, printedField, printedLine, UpTo, numbersOf, printedRequest, printedReply}
 
 pub length-columns : (k n : ℕ) → length (columns k n) ≡ k
 unfolding columns
