@@ -24,7 +24,7 @@ use frames::FrameNo;
 use frames::Free;
 use frames::Held;
 use interface::Request;
-use kept::grant;
+use granting::grant;
 use marks::Marks;
 use rules::first_of;
 use runs::Runs;

@@ -6,10 +6,10 @@ use native.Mathlib.Omega.{arith}
 use lib.ListN.{length, length-set}
 use borrow.Author.Needs.{needs}
 use Rattle.table.specs.Store.{kept}
 use Rattle.kept.specs.Spare.{leftOf, adoptTo}
 use Rattle.kept.proofs.AdoptLaws.{adopt-more, left-more, least-low}
-use Rattle.kept.proofs.grant.Statement.{statement}
-use Rattle.kept.proofs.grant.Tie as tie
+use Rattle.granting.proofs.grant.Statement.{statement}
+use Rattle.granting.proofs.grant.Tie as tie
 
 abbrev Inv-loop : tie.InvT-loop
 Inv-loop table₀ first n g₀ i₀ table g i =

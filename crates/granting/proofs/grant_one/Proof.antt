@@ -1,9 +1,9 @@
 -- One entry and one mark set are what the definition takes a frame by, with no byte of the pool.
 use borrow.Author.Needs.{needs}
-use Rattle.kept.proofs.grant_one.Statement.{statement}
-use Rattle.kept.proofs.grant_one.Tie as tie
-use Rattle.kept.proofs.grant_one.Reads as reads
-use Rattle.kept.proofs.grant_one.Lts as lts
+use Rattle.granting.proofs.grant_one.Statement.{statement}
+use Rattle.granting.proofs.grant_one.Tie as tie
+use Rattle.granting.proofs.grant_one.Reads as reads
+use Rattle.granting.proofs.grant_one.Lts as lts
 use Rattle.frames.proofs.Held.least.Reads as least-reads
 use Rattle.frames.proofs.Held.with.Reads as with-reads
 use Rattle.frames.proofs.Held.without.Reads as without-reads

@@ -4,10 +4,10 @@ use Prim.Native.Nat.{_≤_, _-_}
 use native.Mathlib.Omega.{arith}
 use borrow.Author.Needs.{needs}
 use Rattle.runs.specs.Row.{row}
 use Rattle.kept.specs.Test.{runsTo}
 use Rattle.kept.proofs.TestLaws.{none-added, runs-more}
-use Rattle.kept.proofs.add_runs.Statement.{statement}
-use Rattle.kept.proofs.add_runs.Tie as tie
+use Rattle.kept_soundness.proofs.add_runs.Statement.{statement}
+use Rattle.kept_soundness.proofs.add_runs.Tie as tie
 
 abbrev Inv-loop : tie.InvT-loop
 Inv-loop runs m₀ i₀ m i = (i ≤ 8) × (m ≡ runsTo (row runs) m₀ i)

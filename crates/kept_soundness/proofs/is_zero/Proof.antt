@@ -9,8 +9,8 @@ use lib.ListN.{getD}
 use borrow.Author.Needs.{needs}
 use Rattle.basics.specs.Ranges.{every}
 use Rattle.basics.proofs.LoopLaws.{every-last}
-use Rattle.kept.proofs.is_zero.Statement.{statement}
-use Rattle.kept.proofs.is_zero.Tie as tie
+use Rattle.kept_soundness.proofs.is_zero.Statement.{statement}
+use Rattle.kept_soundness.proofs.is_zero.Tie as tie
 
 -- the test of byte i
 abbrev of : List ℕ → ℕ → Bool

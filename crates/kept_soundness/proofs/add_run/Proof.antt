@@ -1,7 +1,7 @@
 -- The definition, as it is computed.
 use borrow.Author.Needs.{needs}
-use Rattle.kept.proofs.add_run.Statement.{statement}
-use Rattle.kept.proofs.add_run.Tie as tie
+use Rattle.kept_soundness.proofs.add_run.Statement.{statement}
+use Rattle.kept_soundness.proofs.add_run.Tie as tie
 
 apart-requires : tie.Need-apart-requires
 apart-requires c κs = search needs

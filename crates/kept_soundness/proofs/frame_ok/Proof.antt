@@ -2,8 +2,8 @@
 use mathlib.Core.Path.{_∙_}
 use borrow.Author.Needs.{needs}
 use borrow.Author.Tests.{lt-ltb, le-ltb}
-use Rattle.kept.proofs.frame_ok.Statement.{statement}
-use Rattle.kept.proofs.frame_ok.Tie as tie
+use Rattle.kept_soundness.proofs.frame_ok.Statement.{statement}
+use Rattle.kept_soundness.proofs.frame_ok.Tie as tie
 
 returns : tie.Need-returns
 returns c = rw (le-ltb _ _ (c .if1 .taken))

@@ -6,10 +6,10 @@ use lib.Dec.{eqb}
 use lib.ListN.{getD}
 use Rattle.basics.specs.Ranges.{every}
 use Rattle.pages.proofs.PartLaws.{part-is-frame}
 use Rattle.kept.specs.Test.{blankb}
 use borrow.Author.Needs.{needs}
-use Rattle.kept.proofs.is_blank.Statement.{statement}
-use Rattle.kept.proofs.is_blank.Tie as tie
+use Rattle.kept_soundness.proofs.is_blank.Statement.{statement}
+use Rattle.kept_soundness.proofs.is_blank.Tie as tie
 
 -- the way back from where a fact is needed to where it was learned
 abbrev at-start : tie.After-is-zero → tie.Start

@@ -7,10 +7,10 @@ use borrow.Author.Tests.{not-true, not-false}
 use Rattle.basics.specs.Ranges.{every}
 use Rattle.frames.specs.Frames.{mark, countHeld}
 use Rattle.frames.proofs.FrameLaws.{count-without}
 use Rattle.kept.specs.Test.{frameOk}
 use Rattle.kept.proofs.TestLaws.{none-left, least-there, least-fails, least-passes}
-use Rattle.kept.proofs.frames_ok.Statement.{statement}
-use Rattle.kept.proofs.frames_ok.Tie as tie
+use Rattle.kept_soundness.proofs.frames_ok.Statement.{statement}
+use Rattle.kept_soundness.proofs.frames_ok.Tie as tie
 
 abbrev Inv-loop : tie.InvT-loop
 Inv-loop pool frames rest₀ left₀ rest left = (left ≡ countHeld rest) × (every (frameOk frames pool rest₀) 0 128 ≡ every (frameOk frames pool rest) 0 128)
