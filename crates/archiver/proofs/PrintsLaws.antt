@@ -15,7 +15,7 @@ use Rattle.lines.specs.Lines.{linesOf}
 use Rattle.state.specs.World.{World, lengthsOk}
 use Rattle.soundness.specs.Test.{soundb}
 use Rattle.plain.specs.Machine.{Given, Pages, viewOf, shares}
-use Rattle.plain.specs.Lists.{upTo}
+use Rattle.plain_claims.specs.Lists.{upTo}
 use Rattle.claims.proofs.Claims.{claim-start}
 use Rattle.roll.specs.Replies.{lent}
 use Rattle.roll.specs.Play.{linesIn, requests}

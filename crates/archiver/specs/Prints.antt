@@ -13,7 +13,7 @@ use Rattle.lines.specs.Lines.{linesOf}
 use Rattle.state.specs.World.{World, lengthsOk}
 use Rattle.state.specs.Start.{startedBy}
 use Rattle.plain.specs.Machine.{Given, Pages, Plain}
-use Rattle.plain.specs.Lists.{upTo}
+use Rattle.plain_claims.specs.Lists.{upTo}
 use Rattle.roll.specs.Play.{linesIn, requests}
 use Rattle.roll.specs.Replies.{lent}
 use Rattle.archive.specs.Archive.{archive}

@@ -22,10 +22,10 @@ use Rattle.state.specs.World.{World, sandboxAt, pagesIn, rowsOf}
 use Rattle.state.specs.Sound.{Sound}
 use Rattle.machine.specs.Step.{Outcome, Stepped}
 use Rattle.plain.specs.Machine.{Given, Plain, fresh, numberAt, answer, after, answers}
-use Rattle.plain.specs.Lists.{upTo, Then, Rewound}
-use Rattle.plain.proofs.KeptLaws.{frames-suffice, next-write}
-use Rattle.plain.proofs.TwoListsLaws.{answers-append, length-answers}
-use Rattle.plain.proofs.Claims.{claim-two-lists, claim-rewound}
+use Rattle.plain_claims.specs.Lists.{upTo, Then, Rewound}
+use Rattle.plain_claims.proofs.KeptLaws.{frames-suffice, next-write}
+use Rattle.plain_claims.proofs.TwoListsLaws.{answers-append, length-answers}
+use Rattle.plain_claims.proofs.Claims.{claim-two-lists, claim-rewound}
 use Rattle.simulation.specs.Lent.{Lent}
 use Rattle.simulation.specs.Agrees.{Agrees}
 use Rattle.simulation.proofs.ReadSteps.{page-read, frame-is, some-entry}

@@ -25,7 +25,7 @@ use Rattle.content.specs.Content.{pageRead}
 use Rattle.memory.specs.Memory.{heldBy}
 use Rattle.machine.specs.Step.{viewAt, Chosen, Outcome, Stepped}
 use Rattle.plain.specs.Machine.{Given, fresh, copySlots, copyBytes, answers}
-use Rattle.plain.specs.Lists.{upTo, naming, toldLater, Rewound}
+use Rattle.plain_claims.specs.Lists.{upTo, naming, toldLater, Rewound}
 use Rattle.simulation.specs.Lent.{Lent}
 use Rattle.claims.specs.Touches.{Touches}
 

@@ -38,7 +38,7 @@ use Rattle.plain.specs.StillClean.{stillClean}
 use Rattle.plain.specs.OverGaps.{overGaps}
 use Rattle.plain.specs.KeptRuns.{keptRuns}
 use Rattle.plain.proofs.CaseLaws.{kept-runs}
-use Rattle.plain.proofs.Claims.{claim-cases, claim-turned-back, claim-still-clean, claim-over-gaps}
+use Rattle.plain_claims.proofs.Claims.{claim-cases, claim-turned-back, claim-still-clean, claim-over-gaps}
 use Rattle.simulation.specs.Lent.{Lent}
 use Rattle.simulation.proofs.StepLaws.{number-is, refused-leaves}
 use Rattle.simulation.proofs.SoundLaws.{started-agrees}

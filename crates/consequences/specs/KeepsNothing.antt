@@ -12,8 +12,8 @@ use Rattle.areas.specs.Areas.{slots}
 use Rattle.state.specs.World.{World, sandboxAt}
 use Rattle.content.specs.Content.{pageRead}
 use Rattle.plain.specs.Machine.{Given, fresh}
-use Rattle.plain.specs.Lists.{toldTo}
-use Rattle.plain.specs.KeepsNothing.{bareAnswers, bareUpTo}
+use Rattle.plain_claims.specs.Lists.{toldTo}
+use Rattle.plain_claims.specs.KeepsNothing.{bareAnswers, bareUpTo}
 use Rattle.claims.specs.Demands.{RunFrom}
 
 -- after a list of requests with these answers, in the world v

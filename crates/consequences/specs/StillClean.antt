@@ -16,8 +16,8 @@ use Rattle.areas.specs.Areas.{slots}
 use Rattle.state.specs.World.{World, sandboxAt, framesOf, pagesIn}
 use Rattle.machine.specs.Step.{Outcome, Stepped}
 use Rattle.plain.specs.Machine.{Given}
-use Rattle.plain.specs.Lists.{upTo, Rewound}
-use Rattle.plain.specs.Claims.{compareOf, copyAnswer}
+use Rattle.plain_claims.specs.Lists.{upTo, Rewound}
+use Rattle.plain_claims.specs.Claims.{compareOf, copyAnswer}
 use Rattle.claims.specs.Demands.{RunFrom, Took}
 
 -- ---- "no byte of its back frame can alter the answer"

@@ -7,7 +7,7 @@ use lib.ListN.{length}
 use Rattle.interface.specs.declared.request.Request.{Request}
 use Rattle.interface.specs.Answers.{Answered}
 use Rattle.state.specs.World.{sandboxAt}
-use Rattle.plain.specs.Lists.{upTo}
+use Rattle.plain_claims.specs.Lists.{upTo}
 use Rattle.roll.specs.Play.{linesIn, requests}
 use Rattle.archive.specs.Segments.{AllTaken}
 use Rattle.archive.specs.Written.{plainWritten}

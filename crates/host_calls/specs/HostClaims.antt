@@ -16,7 +16,7 @@ use Rattle.state.specs.Sound.{Sound}
 use Rattle.layout.specs.Rows.{Bytes}
 use Rattle.layout.specs.Layout.{stateSize, isState}
 use Rattle.plain.specs.Machine.{Given, fresh, answers}
-use Rattle.plain.specs.Lists.{naming, toldLater, Rewound}
+use Rattle.plain_claims.specs.Lists.{naming, toldLater, Rewound}
 use Rattle.claims.specs.Demands.{Run, RunFrom, Demand1, AsSnapshot, Frames, Promise, Took}
 use Rattle.consequences.specs.OverGaps.{pagesOf, OverGaps}
 use Rattle.host_calls.specs.declared.Told.{Told}

@@ -16,7 +16,7 @@ use Rattle.table.specs.Store.{frontOf, backOf}
 use Rattle.state.specs.World.{World, worldOf, freshMachine, sandboxAt}
 use Rattle.state.specs.Start.{startedBy}
 use Rattle.plain.specs.Machine.{Given, held, copyBytes}
-use Rattle.plain.specs.Lists.{upTo}
+use Rattle.plain_claims.specs.Lists.{upTo}
 use Rattle.simulation.specs.Lent.{Lent}
 use Rattle.simulation.proofs.HeldSteps.{used-one, entries-same}
 use Rattle.claims.specs.Demands.{Run, none, more, RunFrom}

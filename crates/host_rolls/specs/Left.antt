@@ -12,7 +12,7 @@ use Rattle.marks.specs.Named.{used, usedBelow}
 use Rattle.marks.specs.Marks.{from}
 use Rattle.table.specs.Store.{frontOf, backOf}
 use Rattle.plain.specs.Machine.{Given, Kept, copySlots, copyBytes, held, shares}
-use Rattle.plain.specs.Lists.{upTo, Rewound}
+use Rattle.plain_claims.specs.Lists.{upTo, Rewound}
 
 -- entry k of a table: "An entry is 0 for none, else a frame number plus one"
 abbrev pub Names : List ℕ → ℕ → ℕ → Type 0

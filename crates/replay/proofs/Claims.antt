@@ -21,7 +21,7 @@ use Rattle.machine.specs.Step.{viewAt}
 use Rattle.soundness.specs.Test.{soundb}
 use Rattle.content.specs.Content.{copyRead}
 use Rattle.plain.specs.Machine.{Given, Pages, copySlots, viewOf, shares}
-use Rattle.plain.specs.Lists.{upTo}
+use Rattle.plain_claims.specs.Lists.{upTo}
 use Rattle.claims.specs.Demands.{RunFrom}
 use Rattle.simulation.specs.Lent.{Lent}
 use Rattle.simulation.specs.Agrees.{Agrees}

@@ -13,7 +13,7 @@ use Rattle.areas.specs.Areas.{slots}
 use Rattle.state.specs.World.{World, sandboxAt}
 use Rattle.content.specs.Content.{pageRead, copyRead}
 use Rattle.plain.specs.Machine.{Given}
-use Rattle.plain.specs.Lists.{upTo}
+use Rattle.plain_claims.specs.Lists.{upTo}
 use Rattle.claims.specs.Demands.{RunFrom}
 use Rattle.roll.specs.Play.{linesIn, requests}
 use Rattle.archive.specs.Segments.{AllTaken}

@@ -39,9 +39,9 @@ use Rattle.areas.proofs.OrderLaws.{slots-inside}
 use Rattle.state.proofs.SettledLaws.{copied-slots}
 use Rattle.machine.specs.Step.{Outcome, Stepped}
 use Rattle.plain.specs.Machine.{Given, Pages, Kept, Plain, closed, held, copySlots, copyBytes, backingByte}
-use Rattle.plain.specs.Claims.{Keeps, Reads}
-use Rattle.plain.proofs.KeptLaws.{keeps-closed, areas-none, mapped-none}
-use Rattle.plain.proofs.ReadLaws.{reads-fresh}
+use Rattle.plain_claims.specs.Claims.{Keeps, Reads}
+use Rattle.plain_claims.proofs.KeptLaws.{keeps-closed, areas-none, mapped-none}
+use Rattle.plain_claims.proofs.ReadLaws.{reads-fresh}
 use Rattle.simulation.specs.Lent.{Lent}
 use Rattle.simulation.specs.Agrees.{pageIf, AgreesAt, Agrees}
 use Rattle.simulation.proofs.HeldSteps.{used-count}

@@ -32,8 +32,8 @@ use Rattle.state.specs.declared.sandbox.Sandbox.{Sandbox}
 use Rattle.state.specs.World.{pagesIn, copyOf}
 use Rattle.rules.specs.After.{changes, packedAfter, presentAfter, takenAfter, snapshotAfter}
 use Rattle.plain.specs.Machine.{Given, Pages, Core, Kept, copySlots, keptAfter, viewOf}
-use Rattle.plain.specs.Claims.{Keeps}
-use Rattle.plain.proofs.KeptLaws.{keeps-accepted}
+use Rattle.plain_claims.specs.Claims.{Keeps}
+use Rattle.plain_claims.proofs.KeptLaws.{keeps-accepted}
 use Rattle.simulation.specs.Agrees.{AgreesAt}
 
 -- the image page behind a page of well formed areas exists

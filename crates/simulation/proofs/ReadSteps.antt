@@ -25,7 +25,7 @@ use Rattle.state.specs.World.{pagesIn}
 use Rattle.table.specs.Backing.{backingPage}
 use Rattle.content.specs.Content.{pageUnder, pageRead, copyPage, copyRead}
 use Rattle.plain.specs.Machine.{Given, Kept, copySlots, copyBytes, backingByte}
-use Rattle.plain.specs.Claims.{Keeps, Reads}
+use Rattle.plain_claims.specs.Claims.{Keeps, Reads}
 use Rattle.simulation.specs.Lent.{Lent}
 use Rattle.simulation.specs.Agrees.{pageIf, AgreesAt}
 use Rattle.simulation.proofs.AreaSteps.{image-at}

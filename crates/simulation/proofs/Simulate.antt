@@ -40,10 +40,10 @@ use Rattle.memory.specs.Memory.{givesAt, longestOf, runsAfter, storeAfter, held
 use Rattle.machine.specs.Step.{viewAt, sandboxThen, worldAfter, numberAt, step, Outcome, Stepped}
 use Rattle.plain.specs.Machine.{Given, Kept, Plain, copySlots, copyBytes, shares, viewOf, keptAfter, coreValue, answer, after}
 use Rattle.plain.specs.Machine.{held as heldMarks, differing as plainDiffering, valueAt as plainValue, numberAt as plainNumber}
-use Rattle.plain.proofs.KeptLaws.{holds-after}
-use Rattle.plain.proofs.ReadLaws.{reads-after}
-use Rattle.plain.proofs.OneSandbox.{after-others}
-use Rattle.plain.proofs.Corollaries.{refused-changes-nothing}
+use Rattle.plain_claims.proofs.KeptLaws.{holds-after}
+use Rattle.plain_claims.proofs.ReadLaws.{reads-after}
+use Rattle.plain_claims.proofs.OneSandbox.{after-others}
+use Rattle.plain_claims.proofs.Corollaries.{refused-changes-nothing}
 use Rattle.simulation.specs.Lent.{Lent}
 use Rattle.simulation.specs.Agrees.{AgreesAt, Agrees}
 use Rattle.simulation.proofs.StepLaws.{gave-up, frame-free}

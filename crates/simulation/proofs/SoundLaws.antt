@@ -19,9 +19,9 @@ use Rattle.state.specs.Sound.{SoundAt, Sound}
 use Rattle.soundness.specs.Test.{soundb}
 use Rattle.soundness.proofs.TestLaws.{sound-of}
 use Rattle.plain.specs.Machine.{Given, Kept, Plain, shares, fresh, closed}
-use Rattle.plain.specs.Claims.{Keeps, Reads}
-use Rattle.plain.proofs.KeptLaws.{holds-fresh}
-use Rattle.plain.proofs.ReadLaws.{reads-fresh}
+use Rattle.plain_claims.specs.Claims.{Keeps, Reads}
+use Rattle.plain_claims.proofs.KeptLaws.{holds-fresh}
+use Rattle.plain_claims.proofs.ReadLaws.{reads-fresh}
 use Rattle.simulation.specs.Lent.{Lent}
 use Rattle.simulation.specs.Agrees.{AgreesAt, Agrees}
 use Rattle.simulation.proofs.AreaSteps.{copy-same}

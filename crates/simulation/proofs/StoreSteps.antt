@@ -36,7 +36,7 @@ use Rattle.kept.specs.Spare.{Rows, Spare}
 use Rattle.content.specs.Content.{copyPage}
 use Rattle.memory.specs.Memory.{touched, keepsFront, storeAfter}
 use Rattle.plain.specs.Machine.{Given, Kept, copySlots, copyBytes, stored, bytesAfter, frontAfter, backAfter, keptAfter, viewOf}
-use Rattle.plain.specs.Claims.{Keeps, Reads}
+use Rattle.plain_claims.specs.Claims.{Keeps, Reads}
 use Rattle.simulation.specs.Lent.{Lent}
 use Rattle.simulation.specs.Agrees.{pageIf, AgreesAt}
 use Rattle.simulation.proofs.MapSteps.{Stored, inside-out, stored-map}

@@ -17,7 +17,7 @@ use Rattle.areas.specs.Formed.{WellFormed}
 use Rattle.state.specs.declared.sandbox.Sandbox.{Sandbox}
 use Rattle.state.specs.World.{World, sandboxAt, pagesIn, closedSandbox, rowsOf}
 use Rattle.plain.specs.Machine.{Given, Kept, Plain, copySlots, copyBytes}
-use Rattle.plain.specs.Claims.{Holds, Reads}
+use Rattle.plain_claims.specs.Claims.{Holds, Reads}
 
 -- a page with these bytes, where it is marked
 abbrev pub pageIf : Bool → (ℕ → ℕ) → Option (List ℕ)

@@ -13,12 +13,12 @@ use Rattle.interface.specs.Refusals.{applies, refusal}
 use Rattle.interface.specs.Runs.{isSpared, runsRewound}
 use Rattle.interface.proofs.AcceptedLaws.{accepted}
 use Rattle.interface.proofs.RunLaws.{spared-uncommitted}
 use Rattle.plain.specs.Machine.{Given, Kept, Plain, copySlots, copyBytes, put, numberAt, after}
 use Rattle.plain.specs.Machine.{bytesAfter, frontAfter, backAfter, copiedBackAfter, runsAfter, keptAfter}
-use Rattle.plain.specs.Lists.{upTo}
-use Rattle.plain.specs.Claims.{Keeps, Reads, RefusedChangesNothing, ReadsChangeNothing, RewindTwice, OnlyOpenMeetsOthers}
-use Rattle.plain.proofs.RunLaws.{runs-idle}
-use Rattle.plain.proofs.Claims.{claim-always}
+use Rattle.plain_claims.specs.Lists.{upTo}
+use Rattle.plain_claims.specs.Claims.{Keeps, Reads, RefusedChangesNothing, ReadsChangeNothing, RewindTwice, OnlyOpenMeetsOthers}
+use Rattle.plain_claims.proofs.RunLaws.{runs-idle}
+use Rattle.plain_claims.proofs.Claims.{claim-always}
 
 pub refused-changes-nothing : (g : Given) → RefusedChangesNothing g
 unfolding after

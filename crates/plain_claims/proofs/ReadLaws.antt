@@ -16,10 +16,10 @@ use Rattle.interface.proofs.SlotLaws.{committed-rights, uncommitted-rights, bac
 use Rattle.interface.proofs.SlotLaws.{uncommitted-mapped, uncommitted-of, one-mark, untaken-copied}
 use Rattle.interface.proofs.KindLaws.{Kind, kind, isMap, isUnmap, isProtect, isWrite, isSnapshot, isRewind, isOther}
 use Rattle.interface.proofs.AcceptedLaws.{accepted}
 use Rattle.plain.specs.Machine.{Given, Kept, Plain, fresh, copySlots, copyBytes, stored, backingByte, viewOf, shares, numberAt, after}
 use Rattle.plain.specs.Machine.{bytesAfter, frontAfter, backAfter, keptAfter}
-use Rattle.plain.specs.Claims.{Keeps, Holds, Reads}
-use Rattle.plain.proofs.RunLaws.{map-front-old}
+use Rattle.plain_claims.specs.Claims.{Keeps, Holds, Reads}
+use Rattle.plain_claims.proofs.RunLaws.{map-front-old}
 
 module _ (g : Given) (q : Request) (k : Kept) (total : ℕ) (a : Accepted (viewOf g total (k .core)) q) (h : Keeps k) (r : Reads g k) where
   -- a write leaves the bytes of a page that has no front after it

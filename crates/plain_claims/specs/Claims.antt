@@ -17,9 +17,9 @@ use Rattle.interface.specs.Limits.{within}
 use Rattle.interface.specs.Refusals.{isTaken}
 use Rattle.interface.specs.Examples.{ok, refused, call, inSandbox}
 use Rattle.interface.specs.Gaps.{Unmaps, mappedAlone, allOk}
 use Rattle.plain.specs.Machine.{Given, Core, Kept, Plain, fresh, closed, held, copySlots, copyBytes, backingByte, shares, viewOf}
 use Rattle.plain.specs.Machine.{numberAt, answer, answers, after, afterAll}
-use Rattle.plain.specs.Lists.{upTo, Then, naming, toldLater, Rewound}
+use Rattle.plain_claims.specs.Lists.{upTo, Then, naming, toldLater, Rewound}
 
 -- "two lists .. : up to and with an accepted snapshot of the sandbox they are the same; each goes on with calls of its own up to an accepted rewind of
 -- that sandbox; after it, the calls naming that sandbox are the same in the same order, with any calls of others between them. Each of these

@@ -11,9 +11,9 @@ use Rattle.interface.specs.Numbers.{PageCount}
 use Rattle.interface.specs.declared.request.Request.{Request}
 use Rattle.interface.specs.Answers.{Answered}
 use Rattle.interface.specs.Requests.{_is_, Report}
 use Rattle.plain.specs.Machine.{Given, Core, Traces, Kept, Plain, fresh, coreAfter, frontAlone, backAfter, copiedBackAfter}
 use Rattle.plain.specs.Machine.{mayTell, numberAt, put, answer, answers}
-use Rattle.plain.specs.Lists.{upTo, toldTo}
+use Rattle.plain_claims.specs.Lists.{upTo, toldTo}
 
 -- what an accepted request leaves: no map takes a run, no rewind keeps one, and so there never is any
 abbrev pub bareTraces : Request → Core → Traces → Traces

@@ -23,10 +23,10 @@ use Rattle.interface.proofs.SlotLaws.{mapped-rights, committed-rights, mapped-c
 use Rattle.interface.proofs.KindLaws.{Kind, kind, isMap, isUnmap, isProtect, isWrite, isSnapshot, isRewind, isOther}
 use Rattle.interface.proofs.AcceptedLaws.{accepted, map-fits}
 use Rattle.interface.proofs.ChargeLaws.{charge-covers}
 use Rattle.plain.specs.Machine.{Given, Kept, Plain, fresh, closed, held, copySlots, viewOf, shares, put, numberAt, after}
 use Rattle.plain.specs.Machine.{frontAfter, backAfter, copiedBackAfter, runsAfter, keptAfter}
-use Rattle.plain.specs.Claims.{Keeps, Holds, Covered, NextWrite, NextRewind}
-use Rattle.plain.proofs.RunLaws.{map-front-new, held-map, held-unmap, held-snapshot, held-rewind, held-write}
+use Rattle.plain_claims.specs.Claims.{Keeps, Holds, Covered, NextWrite, NextRewind}
+use Rattle.plain_claims.proofs.RunLaws.{map-front-new, held-map, held-unmap, held-snapshot, held-rewind, held-write}
 
 -- the slots of the copy that an accepted request leaves
 pub copy-slots : (g : Given) (q : Request) (k : Kept)

@@ -19,14 +19,14 @@ use Rattle.interface.specs.Gaps.{unmapOf, allOk}
 use Rattle.interface.proofs.GapLaws.{without, none-in, without-none, unmap-fits, unmap-then, unmap-accepted, unmaps-of}
 use Rattle.interface.proofs.AcceptedLaws.{accepted}
 use Rattle.interface.proofs.AloneLaws.{Unmapping, alone}
 use Rattle.plain.specs.Machine.{Given, Kept, Plain, shares, viewOf, put, numberAt, answer, answers, after, afterAll, coreValue}
 use Rattle.plain.specs.Machine.{bytesAfter, frontAfter, backAfter, copiedBackAfter, runsAfter, keptAfter}
-use Rattle.plain.specs.Lists.{upTo}
-use Rattle.plain.specs.Claims.{Keeps, Holds, Reads, UnmapsAfter, slotsBefore, UnmapOfNothing, UnmapsAlone}
-use Rattle.plain.proofs.KeptLaws.{holds-after}
-use Rattle.plain.proofs.ReadLaws.{reads-after}
-use Rattle.plain.proofs.Corollaries.{put-same}
-use Rattle.plain.proofs.Claims.{claim-always}
+use Rattle.plain_claims.specs.Lists.{upTo}
+use Rattle.plain_claims.specs.Claims.{Keeps, Holds, Reads, UnmapsAfter, slotsBefore, UnmapOfNothing, UnmapsAlone}
+use Rattle.plain_claims.proofs.KeptLaws.{holds-after}
+use Rattle.plain_claims.proofs.ReadLaws.{reads-after}
+use Rattle.plain_claims.proofs.Corollaries.{put-same}
+use Rattle.plain_claims.proofs.Claims.{claim-always}
 
 -- ---- what is kept for a sandbox with n pages from a on unmapped
 

@@ -10,10 +10,10 @@ use Rattle.interface.specs.Requests.{_is_, Rewind}
 use Rattle.interface.specs.Outcome.{slotsAfter, copyAfter}
 use Rattle.interface.specs.Refusals.{isTaken}
 use Rattle.interface.proofs.AcceptedLaws.{accepted}
 use Rattle.plain.specs.Machine.{Given, Pages, Core, bytesAfter, coreAfter, copySlots}
-use Rattle.plain.specs.Lists.{upTo, Rewound, back, still}
-use Rattle.plain.specs.Claims.{Restored}
-use Rattle.plain.proofs.TwoListsLaws.{then-core}
+use Rattle.plain_claims.specs.Lists.{upTo, Rewound, back, still}
+use Rattle.plain_claims.specs.Claims.{Restored}
+use Rattle.plain_claims.proofs.TwoListsLaws.{then-core}
 
 pub taken-copy : (c : Core) → isTaken (copySlots c) ≡ true → (d : Pages) × (c .copy ≡ some d)
 taken-copy c h = go (c .copy) h

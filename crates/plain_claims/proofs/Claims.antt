@@ -4,19 +4,19 @@ use mathlib.Core.Path.{_≡_}
 use mathlib.Core.Bool.{true}
 use mathlib.Core.List.{List, [], _∷_, _++_}
 use Rattle.interface.specs.declared.request.Request.{Request}
 use Rattle.plain.specs.Machine.{Given, Plain, fresh, after, afterAll}
-use Rattle.plain.specs.Lists.{upTo}
-use Rattle.plain.specs.Claims.{TwoLists, RewoundIsRestored, Holds, Reads, Always, CleanAfterSnapshot, CleanWhileRewound, CleanReadsCopy}
+use Rattle.plain_claims.specs.Lists.{upTo}
+use Rattle.plain_claims.specs.Claims.{TwoLists, RewoundIsRestored, Holds, Reads, Always, CleanAfterSnapshot, CleanWhileRewound, CleanReadsCopy}
 use Rattle.plain.specs.Cases.{cases, casesOver, noImage, allGiven}
 use Rattle.plain.specs.TurnedBack.{turnedBackCases}
 use Rattle.plain.specs.StillClean.{stillClean}
 use Rattle.plain.specs.OverGaps.{overGaps}
 use Rattle.plain.proofs.CaseLaws.{starred-cases, turned-back, still-clean, over-gaps}
-use Rattle.plain.proofs.TwoListsLaws.{two-lists}
-use Rattle.plain.proofs.RewoundLaws.{rewound-restored}
-use Rattle.plain.proofs.KeptLaws.{holds-fresh, holds-after, frames-suffice, next-write, next-rewind}
-use Rattle.plain.proofs.ReadLaws.{reads-fresh, reads-after}
-use Rattle.plain.proofs.CleanLaws.{clean-after-snapshot, clean-while-rewound, clean-reads-copy}
+use Rattle.plain_claims.proofs.TwoListsLaws.{two-lists}
+use Rattle.plain_claims.proofs.RewoundLaws.{rewound-restored}
+use Rattle.plain_claims.proofs.KeptLaws.{holds-fresh, holds-after, frames-suffice, next-write, next-rewind}
+use Rattle.plain_claims.proofs.ReadLaws.{reads-fresh, reads-after}
+use Rattle.plain_claims.proofs.CleanLaws.{clean-after-snapshot, clean-while-rewound, clean-reads-copy}
 
 -- the starred cases get their answers
 pub claim-cases : allGiven (casesOver noImage cases) ≡ true

@@ -7,10 +7,10 @@ use lib.Dec.{eqb}
 use Rattle.basics.specs.Ranges.{sum}
 use Rattle.basics.proofs.TestLaws.{by-cases, when-cases}
 use Rattle.interface.specs.declared.request.Request.{Request}
 use Rattle.plain.specs.Machine.{Given, Core, Plain, fresh, held, shares, numberAt, answer, after, answers, afterAll}
-use Rattle.plain.specs.Lists.{told, toldTo}
-use Rattle.plain.specs.KeepsNothing.{bareAfter, bareAnswers, bareAll, Alike, AlikeAfterAll, ToldAlike, CountsMarks}
-use Rattle.plain.proofs.OneSandbox.{toldThen, told-own}
+use Rattle.plain_claims.specs.Lists.{told, toldTo}
+use Rattle.plain_claims.specs.KeepsNothing.{bareAfter, bareAnswers, bareAll, Alike, AlikeAfterAll, ToldAlike, CountsMarks}
+use Rattle.plain_claims.proofs.OneSandbox.{toldThen, told-own}
 
 -- the same cores
 abbrev SameCores : Plain → Plain → Type 0

@@ -21,12 +21,12 @@ use Rattle.interface.specs.Accepted.{Accepted}
 use Rattle.interface.specs.Examples.{ok}
 use Rattle.interface.proofs.AcceptedLaws.{accepted}
 use Rattle.interface.proofs.CompareLaws.{agree-self, agree-mapped, agree-same, difference-none, none-differs}
 use Rattle.plain.specs.Machine.{Given, Core, Plain, copySlots, copyBytes, differing, coreValue, viewOf, shares, numberAt, answer}
-use Rattle.plain.specs.Lists.{upTo, Then, Rewound, back, still}
-use Rattle.plain.specs.Claims.{Keeps, Restored, compareOf, copyAnswer, CleanReadsCopy}
-use Rattle.plain.proofs.OneSandbox.{since-taken}
-use Rattle.plain.proofs.TwoListsLaws.{then-core}
-use Rattle.plain.proofs.RewoundLaws.{rewound-restored}
+use Rattle.plain_claims.specs.Lists.{upTo, Then, Rewound, back, still}
+use Rattle.plain_claims.specs.Claims.{Keeps, Restored, compareOf, copyAnswer, CleanReadsCopy}
+use Rattle.plain_claims.proofs.OneSandbox.{since-taken}
+use Rattle.plain_claims.proofs.TwoListsLaws.{then-core}
+use Rattle.plain_claims.proofs.RewoundLaws.{rewound-restored}
 
 -- pages that are those of the copy nowhere differ from it
 restored-clean : (c : Core) → Restored c → differing c ≡ 64

@@ -15,9 +15,9 @@ use Rattle.interface.specs.Outcome.{slotsAfter, copyAfter}
 use Rattle.interface.specs.Refusals.{applies, refusal}
 use Rattle.interface.specs.Accepted.{Accepted}
 use Rattle.interface.proofs.AcceptedLaws.{accepted}
 use Rattle.plain.specs.Machine.{Given, Pages, Core, Kept, Plain, viewOf, shares, bytesAfter, coreAfter, keptAfter}
 use Rattle.plain.specs.Machine.{mayTell, numberAt, coreValue, answer, after}
-use Rattle.plain.specs.Lists.{told}
+use Rattle.plain_claims.specs.Lists.{told}
 
 -- a request of the sandbox itself, the shares of all being this many together
 unfoldable pub keptThen : Given → ℕ → Request → Kept → Kept
