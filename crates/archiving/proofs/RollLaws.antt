@@ -25,9 +25,10 @@ use Rattle.content.proofs.ReadingLaws.{backing-there}
 use Rattle.archive.specs.Archive.{joined, only, opening, maps, differs, writeAt, writes, protects, closing, archive}
 use Rattle.replay.specs.Snapshot.{snapshotOf, archiveOf}
 use Rattle.segments.specs.declared.Snapshot.{Snapshot}
-use Rattle.segments.specs.ByPages.{byteLine, backPage, writesAt, writesOf, Readable}
+use Rattle.page_writes.specs.PageLines.{byteLine, backPage}
+use Rattle.segments.specs.ByPages.{writesAt, writesOf, Readable}
 use Rattle.archiving.specs.Whole.{rollOf}
-use Rattle.segments.proofs.ByPagesLaws.{joined-none}
+use Rattle.page_writes.proofs.PageLaws.{joined-none}
 use Rattle.segments.proofs.AreaLaws.{maps-by-areas, protects-by-areas}
 
 joined-below : {A : Type 0} (x y : ℕ → List A) (n : ℕ) → ((i : ℕ) → i < n → x i ≡ y i) → joined x n ≡ joined y n

@@ -11,11 +11,11 @@ use Rattle.pages.specs.Parts.{frame}
 use Rattle.table.specs.Store.{backOf}
 use Rattle.printing.specs.Put.{put}
 use Rattle.printing.proofs.PutLaws.{put-nothing}
-use Rattle.segments.specs.ByPages.{bytesOf, pageLines}
-use Rattle.segments.proofs.ByPagesLaws.{unbacked-none, unmapped-none, backed-lines}
+use Rattle.page_writes.specs.PageLines.{bytesOf, pageLines}
+use Rattle.page_writes.proofs.PageLaws.{unbacked-none, unmapped-none, backed-lines}
 use borrow.Author.Needs.{needs}
-use Rattle.segments.proofs.writes.put_page.Statement.{statement}
-use Rattle.segments.proofs.writes.put_page.Tie as tie
+use Rattle.page_writes.proofs.put_page.Statement.{statement}
+use Rattle.page_writes.proofs.put_page.Tie as tie
 
 abbrev lines : tie.Start → List Request
 lines c =

@@ -6,8 +6,8 @@ use lib.ListN.{getD}
 use Prim.Native.Nat.{ℕ}
 use mathlib.Core.Path.{ap}
 use borrow.Author.Needs.{needs}
-use Rattle.segments.proofs.writes.backing_byte.Statement.{statement}
-use Rattle.segments.proofs.writes.backing_byte.Tie as tie
+use Rattle.page_writes.proofs.backing_byte.Statement.{statement}
+use Rattle.page_writes.proofs.backing_byte.Tie as tie
 
 enum-told : tie.Need-enum-told
 enum-told c = search needs

@@ -5,11 +5,11 @@ use native.Mathlib.Omega.{arith}
 use Rattle.interface.specs.declared.request.Request.{Request}
 use Rattle.pages.specs.Parts.{frame}
 use Rattle.printing.proofs.PutLaws.{Turn, turn-first, turn-room, turn-next, turn-last}
-use Rattle.segments.specs.ByPages.{byteLine}
-use Rattle.segments.proofs.ByPagesLaws.{byte-line}
+use Rattle.page_writes.specs.PageLines.{byteLine}
+use Rattle.page_writes.proofs.PageLaws.{byte-line}
 use borrow.Author.Needs.{needs}
-use Rattle.segments.proofs.writes.put_bytes.Statement.{statement}
-use Rattle.segments.proofs.writes.put_bytes.Tie as tie
+use Rattle.page_writes.proofs.put_bytes.Statement.{statement}
+use Rattle.page_writes.proofs.put_bytes.Tie as tie
 
 abbrev Inv-loop : tie.InvT-loop
 Inv-loop pool image page f out₀ backing next₀ j₀ out next j =
