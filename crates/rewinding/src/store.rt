@@ -12,7 +12,7 @@ ghost use Rattle.rules.specs.Ready.{Ready};
 ghost use Rattle.content.specs.Content.{copyPage};
 ghost use Rattle.memory.specs.Memory.{keepsFront};
 use areas::area::Areas;
-use filling::store::restore_page;
+use restoring::restore_page;
 use frames::Held;
 use interface::PageNo;
 use interface::Slot;

@@ -9,8 +9,8 @@ use Rattle.table.specs.Backing.{backingPage}
 use Rattle.table.specs.Virtual.{frontAt, backAt}
 use Rattle.table.proofs.RewindLaws.{rewind-none}
 use Rattle.table.proofs.PageLaws.{restore-free, restore-fill}
-use Rattle.filling.proofs.store.restore_page.Statement.{statement}
-use Rattle.filling.proofs.store.restore_page.Tie as tie
+use Rattle.restoring.proofs.restore_page.Statement.{statement}
+use Rattle.restoring.proofs.restore_page.Tie as tie
 
 -- ---- what is known behind each test
 

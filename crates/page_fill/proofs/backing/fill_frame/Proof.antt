@@ -4,8 +4,8 @@ use native.Mathlib.Omega.{arith}
 use borrow.Author.Needs.{needs}
 use Rattle.pages.proofs.PartLaws.{part-is-frame}
 use Rattle.table.specs.Backing.{backingEnd}
-use Rattle.filling.proofs.backing.fill_frame.Statement.{statement}
-use Rattle.filling.proofs.backing.fill_frame.Tie as tie
+use Rattle.page_fill.proofs.backing.fill_frame.Statement.{statement}
+use Rattle.page_fill.proofs.backing.fill_frame.Tie as tie
 
 -- behind the arms
 abbrev cleared : tie.After-clear-frame → tie.After-enum-told

@@ -2,8 +2,8 @@
 use borrow.Author.Needs.{needs}
 use Rattle.table.specs.Backing.{backingPage}
 use Rattle.table.proofs.PageLaws.{page-there}
-use Rattle.filling.proofs.store.fill_frame.Statement.{statement}
-use Rattle.filling.proofs.store.fill_frame.Tie as tie
+use Rattle.page_fill.proofs.fill_frame.Statement.{statement}
+use Rattle.page_fill.proofs.fill_frame.Tie as tie
 
 -- behind the frame that is named
 abbrev behind : tie.After-frame-of → tie.Start
