@@ -13,7 +13,7 @@ use Rattle.state.specs.World.{World, sandboxAt}
 use Rattle.soundness.specs.Test.{soundb}
 use Rattle.archive.specs.Written.{writtenAs}
 use Rattle.replay.specs.Snapshot.{archiveOf, archiveNumber, written}
-use Rattle.archiving.specs.Whole.{left, fitted}
+use Rattle.whole_roll.specs.Whole.{left, fitted}
 
 module _ (image : List ℕ) (w : World) (s : ℕ) (out : List ℕ) where
   pub refused-3 : soundb image w ≡ false → left (Refused Unsound) out ≡ written image w s out

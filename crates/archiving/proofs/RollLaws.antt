@@ -27,7 +27,7 @@ use Rattle.replay.specs.Snapshot.{snapshotOf, archiveOf}
 use Rattle.segments.specs.declared.Snapshot.{Snapshot}
 use Rattle.page_writes.specs.PageLines.{byteLine, backPage}
 use Rattle.segments.specs.ByPages.{writesAt, writesOf, Readable}
-use Rattle.archiving.specs.Whole.{rollOf}
+use Rattle.whole_roll.specs.Whole.{rollOf}
 use Rattle.page_writes.proofs.PageLaws.{joined-none}
 use Rattle.segments.proofs.AreaLaws.{maps-by-areas, protects-by-areas}
 

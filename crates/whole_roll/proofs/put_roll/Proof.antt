@@ -9,11 +9,11 @@ use Rattle.printing.specs.Put.{placed, put, Room}
 use Rattle.printing.proofs.PutLaws.{next-room, next-put}
 use Rattle.segments.specs.ByAreas.{mapsOf, protectsOf}
 use Rattle.segments.specs.ByPages.{writesOf}
-use Rattle.archiving.specs.Whole.{toMaps, toWrites, toProtects, rollOf}
-use Rattle.archiving.proofs.WholeLaws.{room-open, room-maps, room-writes, room-protects, room-roll, whole}
+use Rattle.whole_roll.specs.Whole.{toMaps, toWrites, toProtects, rollOf}
+use Rattle.whole_roll.proofs.WholeLaws.{room-open, room-maps, room-writes, room-protects, room-roll, whole}
 use borrow.Author.Needs.{needs}
-use Rattle.archiving.proofs.whole.put_roll.Statement.{statement}
-use Rattle.archiving.proofs.whole.put_roll.Tie as tie
+use Rattle.whole_roll.proofs.put_roll.Statement.{statement}
+use Rattle.whole_roll.proofs.put_roll.Tie as tie
 
 -- what is put
 

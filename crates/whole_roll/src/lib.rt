@@ -1,9 +1,11 @@
-// The whole roll: counted, or written; and written only where it fits.
+// The whole archive roll of a snapshot, segment by segment: counted, or written into lent output; and written only where it fits.
+// It promises: the lines are those of `rollOf`, and what is answered and left is `fitted` (specs/Whole). Where the roll does not fit every byte of the output stays.
+// It stands on `segments` for the roll's maps, writes and protects, and on `printing` for a line put.
 ghost use mathlib.Core.Path.{_≡_};
 ghost use Rattle.interface.specs.Requests.{requestOf};
 ghost use Rattle.printing.specs.Put.{placed, put, Room};
 ghost use Rattle.segments.specs.ByPages.{Readable};
-ghost use Rattle.archiving.specs.Whole.{rollOf, left, fitted};
+ghost use Rattle.whole_roll.specs.Whole.{rollOf, left, fitted};
 use interface::Answer;
 use interface::Refusal;
 use interface::Request;

@@ -4,11 +4,11 @@ use mathlib.Core.List.{List}
 use native.Mathlib.Omega.{arith}
 use lib.ListN.{length}
 use Rattle.interface.specs.declared.request.Request.{Request}
-use Rattle.archiving.specs.Whole.{rollOf}
-use Rattle.archiving.proofs.WholeLaws.{roll-most, count-room, too-long, fits-room, fits-in}
+use Rattle.whole_roll.specs.Whole.{rollOf}
+use Rattle.whole_roll.proofs.WholeLaws.{roll-most, count-room, too-long, fits-room, fits-in}
 use borrow.Author.Needs.{needs}
-use Rattle.archiving.proofs.whole.put_fitting.Statement.{statement}
-use Rattle.archiving.proofs.whole.put_fitting.Tie as tie
+use Rattle.whole_roll.proofs.put_fitting.Statement.{statement}
+use Rattle.whole_roll.proofs.put_fitting.Tie as tie
 
 abbrev roll : tie.Start → List Request
 roll c = rollOf (c .args .image .now) (c .args .pool .now) (c .args .table .now) (c .args .snapshot)

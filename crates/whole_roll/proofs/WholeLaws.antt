@@ -21,7 +21,7 @@ use Rattle.segments.specs.ByAreas.{mapsOf, protectsOf}
 use Rattle.segments.specs.ByPages.{writesOf}
 use Rattle.segments.proofs.ByAreasLaws.{maps-most, protects-most}
 use Rattle.segments.proofs.ByPagesLaws.{writes-most}
-use Rattle.archiving.specs.Whole.{toMaps, toWrites, toProtects, rollOf, left, fitted}
+use Rattle.whole_roll.specs.Whole.{toMaps, toWrites, toProtects, rollOf, left, fitted}
 
 -- ---- the segments
 
