@@ -20,7 +20,7 @@ use Rattle.interface.specs.Limits.{within}
 use Rattle.interface.specs.Outcome.{firstOf, slotsAfter, copyAfter}
 use Rattle.interface.specs.Refusals.{View, allMapped, applies, refusal}
 use Rattle.interface.specs.Examples.{refused, requestsOf, getsOf, call₁}
-use Rattle.frames.specs.Word.{bit, putBit}
+use Rattle.words.specs.Word.{bit, putBit}
 use Rattle.frames.specs.Frames.{mark, held as heldMark}
 use Rattle.pages.specs.Parts.{zeros}
 use Rattle.marks.specs.Marks.{addEntry, marksTo, marksb}

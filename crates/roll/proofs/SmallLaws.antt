@@ -30,7 +30,7 @@ use Rattle.interface.proofs.ChargeLaws.{mapped-small}
 use Rattle.frames.specs.declared.Held.{Held}
 use Rattle.frames.specs.Frames.{held, countHeld}
 use Rattle.frames.proofs.FrameLaws.{held-lt}
-use Rattle.frames.proofs.SumLaws.{sum-le}
+use Rattle.words.proofs.SumLaws.{sum-le}
 use Rattle.pages.specs.Parts.{frame}
 use Rattle.pages.proofs.PartLaws.{frame-at, getD-zeros}
 use Rattle.marks.specs.Marks.{marksTo, from}

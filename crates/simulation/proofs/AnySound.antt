@@ -17,7 +17,7 @@ use Rattle.interface.proofs.ChargeLaws.{rewind-charge}
 use Rattle.basics.specs.Ranges.{one}
 use Rattle.frames.specs.Frames.{noneHeld, countHeld}
 use Rattle.frames.proofs.FrameLaws.{none-count, held-zero}
-use Rattle.frames.proofs.SumLaws.{sum-same}
+use Rattle.words.proofs.SumLaws.{sum-same}
 use Rattle.marks.specs.Named.{used}
 use Rattle.marks.specs.Marks.{from}
 use Rattle.marks.proofs.MarkLaws.{used-add}

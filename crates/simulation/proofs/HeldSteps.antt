@@ -8,7 +8,7 @@ use lib.ListN.{getD}
 use borrow.Author.Tests.{eq-eqb, ne-eqb}
 use Rattle.basics.specs.Ranges.{one, count, sum}
 use Rattle.interface.specs.Runs.{runPlaces}
-use Rattle.frames.proofs.SumLaws.{sum-same}
+use Rattle.words.proofs.SumLaws.{sum-same}
 use Rattle.marks.specs.Named.{used, usedBelow}
 use Rattle.marks.specs.Marks.{from}
 use Rattle.marks.proofs.NamedLaws.{by-entry}

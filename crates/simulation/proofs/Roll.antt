@@ -12,7 +12,7 @@ use Rattle.interface.specs.Outcome.{firstOf, slotsAfter, copyAfter}
 use Rattle.interface.specs.Refusals.{allMapped, applies, refusal}
 use Rattle.frames.specs.declared.Free.{Free}
 use Rattle.frames.specs.declared.Free.the-variants.{Frame, None}
-use Rattle.frames.specs.Word.{bit, putBit}
+use Rattle.words.specs.Word.{bit, putBit}
 use Rattle.frames.specs.Frames.{held, mark, countHeld, greatest, leastHeld, bothHeld, apartHeld}
 use Rattle.basics.specs.Rows.{best, movedUp, walkTo, walked}
 use Rattle.basics.specs.Rows as rows

@@ -6,7 +6,7 @@ use native.Mathlib.Omega.{arith}
 use lib.ListN.{length, getD-replicate}
 use Rattle.frames.specs.Frames.{noneHeld, countHeld}
 use Rattle.frames.proofs.FrameLaws.{none-count, held-zero}
-use Rattle.frames.proofs.SumLaws.{sum-same}
+use Rattle.words.proofs.SumLaws.{sum-same}
 use Rattle.runs.specs.Row.{row, noRuns}
 use Rattle.kept.proofs.StoreRuns.{none-kept}
 use Rattle.table.specs.Store.{Store, frontOf, backOf, fresh as freshStore}

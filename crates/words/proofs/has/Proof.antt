@@ -4,9 +4,9 @@ use Prim.Native.Nat.{ℕ, _/_, _^_}
 use lib.Dec.{eqb}
 use lib.Bits.{and-mask}
 use borrow.Author.Needs.{needs}
-use Rattle.frames.specs.Word.{bit}
-use Rattle.frames.proofs.has.Statement.{statement}
-use Rattle.frames.proofs.has.Tie as tie
+use Rattle.words.specs.Word.{bit}
+use Rattle.words.proofs.has.Statement.{statement}
+use Rattle.words.proofs.has.Tie as tie
 
 shr-result : tie.Need-shr-result
 shr-result c = search needs

@@ -1,8 +1,8 @@
 -- `w | 1 << k` puts 1 at place k, and `w & !(1 << k)` puts 0 there.
 use borrow.Author.Needs.{needs}
-use Rattle.frames.proofs.OperatorLaws.{one-shl, or-is-put, and-is-put}
-use Rattle.frames.proofs.put.Statement.{statement}
-use Rattle.frames.proofs.put.Tie as tie
+use Rattle.words.proofs.OperatorLaws.{one-shl, or-is-put, and-is-put}
+use Rattle.words.proofs.put.Statement.{statement}
+use Rattle.words.proofs.put.Tie as tie
 
 shl-result : tie.Need-shl-result
 shl-result c = search needs

@@ -2,9 +2,9 @@
 use native.Mathlib.Nat.{lt-of-le-of-lt}
 use lib.Dec.{lit<}
 use lib.Count.{trailing-le}
-use Rattle.frames.proofs.PairLaws.{trailing-lowest}
-use Rattle.frames.proofs.lowest_set.Statement.{statement}
-use Rattle.frames.proofs.lowest_set.Tie as tie
+use Rattle.words.proofs.TrailingLaws.{trailing-lowest}
+use Rattle.words.proofs.lowest_set.Statement.{statement}
+use Rattle.words.proofs.lowest_set.Tie as tie
 
 cast-result : tie.Need-cast-result
 cast-result c = record { fits = lt-of-le-of-lt (trailing-le 64 _) (lit< tt) }

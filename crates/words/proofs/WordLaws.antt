@@ -8,8 +8,8 @@ use lib.Arith.{lt-one, digits-div}
 use lib.Pow.{pow-mono}
 use lib.Count.{ones, ones-step}
 use Rattle.basics.specs.Ranges.{sum}
-use Rattle.frames.specs.Word.{bit, putBit}
-use Rattle.frames.proofs.SumLaws.{sum-same, sum-first}
+use Rattle.words.specs.Word.{bit, putBit}
+use Rattle.words.proofs.SumLaws.{sum-same, sum-first}
 
 -- ---- a bit, by halves
 

@@ -6,8 +6,8 @@ use native.Mathlib.Omega.{arith}
 use lib.Arith.{lt-one}
 use lib.Pow.{pow-pos, pow-lt, field, mod-mod-pow, shl-exact}
 use lib.Bits.{bitAnd, bitOr, and-step, or-add-and, and-high}
-use Rattle.frames.specs.Word.{bit, putBit}
-use Rattle.frames.proofs.WordLaws.{bit-zero, bit-suc, bit-le, half-lt}
+use Rattle.words.specs.Word.{bit, putBit}
+use Rattle.words.proofs.WordLaws.{bit-zero, bit-suc, bit-le, half-lt}
 
 and-one : (w k : ℕ) → bitAnd w (2 ^ k) ≡ bit w k * 2 ^ k
 unfolding bit
