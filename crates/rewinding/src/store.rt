@@ -12,10 +12,10 @@ ghost use Rattle.rules.specs.Ready.{Ready};
 ghost use Rattle.content.specs.Content.{copyPage};
 ghost use Rattle.memory.specs.Memory.{keepsFront};
 use areas::area::Areas;
-use restoring::restore_page;
 use frames::Held;
 use interface::PageNo;
 use interface::Slot;
+use restoring::restore_page;
 use state::sandbox::Sandbox;
 use table::page::VirtualPage;
 
