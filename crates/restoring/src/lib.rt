@@ -1,7 +1,7 @@
 // One page restored: a rewind gives a committed page's front the snapshot's bytes, and gives up any other front.
 // It promises: what is left is the store that table/specs/Store defines of it (`rewindPage`); the laws of it stand in `table`.
-// It stands on `page_fill` for the bytes that a frame gets, on `freeing`, for a front that is given up, on `table` for entries and the store, on `frames` for the
-// held marks, and on `slots` and `interface` for what stands at a page.
+// It stands on `page_fill` for the bytes that a frame gets, on `freeing`, for a front that is given up, on `table` for entries and the store, on `frames` for
+// the held marks, and on `slots` and `interface` for what stands at a page.
 ghost use mathlib.Core.Path.{_≡_};
 ghost use Rattle.interface.specs.Numbers.{PageBytes};
 ghost use Rattle.interface.specs.Slots.{isCommitted, backingAt};

@@ -1,5 +1,5 @@
 // The whole archive roll of a snapshot, segment by segment: counted, or written into lent output; and written only where it fits.
-// It promises: the lines are those of `rollOf`, and what is answered and left is `fitted` (specs/Whole). Where the roll does not fit every byte of the output stays.
+// It promises: the lines are those of `rollOf`, and what is answered and left is `fitted` (specs/Whole). A roll that does not fit leaves every byte.
 // It stands on `segments` for the roll's maps, writes and protects, and on `printing` for a line put.
 ghost use mathlib.Core.Path.{_≡_};
 ghost use Rattle.interface.specs.Requests.{requestOf};
