@@ -14,7 +14,7 @@ use Rattle.state.specs.World.{World, worldOf}
 use Rattle.roll.specs.Play.{Played}
 use Rattle.roll.proofs.PlayLaws.{played-none}
 use Rattle.roll.proofs.JoinLaws.{joins, counts-on, played-alone}
-use Rattle.player.specs.Conversation.{Turn, goesOn, Answers, Conversation, full, last, next, rollOf, repliesOf, allWritten, Talked}
+use Rattle.conversation.specs.Conversation.{Turn, goesOn, Answers, Conversation, full, last, next, rollOf, repliesOf, allWritten, Talked}
 
 -- ---- a turn
 

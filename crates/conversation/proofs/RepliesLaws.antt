@@ -6,8 +6,8 @@ use lib.ListN.{length, drop}
 use lib.Seq.{drop-nil}
 use Rattle.lines.specs.Lines.{linesOf}
 use Rattle.roll.proofs.RepliesLaws.{replies-are-plain, replies-are-refusals}
-use Rattle.player.specs.Conversation.{rollOf, repliesOf}
-use Rattle.player.specs.Replies.{SaysPlain, SaysRefusals, UnreadableIsRefused}
+use Rattle.conversation.specs.Conversation.{rollOf, repliesOf}
+use Rattle.conversation.specs.Replies.{SaysPlain, SaysRefusals, UnreadableIsRefused}
 use Rattle.image_file.proofs.ImageLaws.{unreadable-is-wrong}
 
 -- nothing stands behind them

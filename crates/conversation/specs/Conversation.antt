@@ -9,7 +9,7 @@ use Rattle.lines.specs.Lines.{linesOf}
 use Rattle.state.specs.declared.sandbox.Machine.{Machine}
 use Rattle.state.specs.World.{World, worldOf}
 use Rattle.roll.specs.Play.{Played}
-use Rattle.player.specs.declared.Progress.{Progress}
+use Rattle.conversation.specs.declared.Progress.{Progress}
 
 -- a turn: the bytes read, the reply's bytes as they are handed on, and whether these were written
 pub record Turn : Type 0 where
