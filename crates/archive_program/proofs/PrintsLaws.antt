@@ -31,8 +31,8 @@ use Rattle.replay.specs.Snapshot.{archiveNumber, written}
 use Rattle.replay.proofs.Claims.{written-as-plain}
 use Rattle.archiving.specs.Whole.{left}
 use Rattle.image_file.proofs.ImageLaws.{unreadable-is-wrong}
-use Rattle.archiver.specs.Performed.{handedOn}
-use Rattle.archiver.specs.Prints.{AnswersPlain, PrintsArchive, RefusesWrongLength, RefusesUnreadable}
+use Rattle.archive_program.specs.Performed.{handedOn}
+use Rattle.archive_program.specs.Prints.{AnswersPlain, PrintsArchive, RefusesWrongLength, RefusesUnreadable}
 
 -- ---- right lengths
 

@@ -23,7 +23,7 @@ use Rattle.archiving.specs.Whole.{left}
 use Rattle.roll_input.specs.Input.{RollPlayed}
 use Rattle.image_file.specs.declared.Found.the-variants.{Unreadable}
 use Rattle.image_file.specs.Image.{imageBytes}
-use Rattle.archiver.specs.Performed.{Performed, handedOn}
+use Rattle.archive_program.specs.Performed.{Performed, handedOn}
 
 -- the plain machine after all that was read
 abbrev pub plainAfter : (g : Given) {image : List ℕ} {w v : World} → RollPlayed image w v → Plain

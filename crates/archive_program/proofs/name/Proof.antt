@@ -2,9 +2,9 @@
 use borrow.Author.Needs.{needs}
 use borrow.Author.Tests.{lt-ltb, le-ltb, eq-eqb, ne-eqb}
 use native.Mathlib.Omega.{arith}
-use Rattle.archiver.specs.Sandbox.{named}
-use Rattle.archiver.proofs.name.Statement.{statement}
-use Rattle.archiver.proofs.name.Tie as tie
+use Rattle.archive_program.specs.Sandbox.{named}
+use Rattle.archive_program.proofs.name.Statement.{statement}
+use Rattle.archive_program.proofs.name.Tie as tie
 
 returns : tie.Need-returns
 unfolding named
