@@ -1,7 +1,7 @@
 -- An answer printed is its number and its value printed, by what the two helpers ensure.
 use borrow.Author.Needs.{needs}
-use Rattle.replying.proofs.print.Statement.{statement}
-use Rattle.replying.proofs.print.Tie as tie
+use Rattle.reply_text.proofs.print.Statement.{statement}
+use Rattle.reply_text.proofs.print.Tie as tie
 
 number-requires : tie.Need-number-requires
 number-requires c κs = search needs
