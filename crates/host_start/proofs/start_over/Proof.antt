@@ -3,8 +3,8 @@ use mathlib.Core.Path.{_∙_}
 use Rattle.host_calls.proofs.CallLaws.{start-short, start-long}
 use Rattle.host_calls.specs.Calls.{Handed, handed}
 use borrow.Author.Needs.{needs}
-use Rattle.stepwise.proofs.start_over.Statement.{statement}
-use Rattle.stepwise.proofs.start_over.Tie as tie
+use Rattle.host_start.proofs.start_over.Statement.{statement}
+use Rattle.host_start.proofs.start_over.Tie as tie
 
 -- what the caller handed over
 abbrev hands : tie.Start → Handed
