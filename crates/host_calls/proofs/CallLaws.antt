@@ -19,9 +19,9 @@ use Rattle.layout.specs.Rows.{Bytes}
 use Rattle.layout.specs.Layout.{stateSize, stateBytes, stateFrom, isState, Shaped}
 use Rattle.layout.specs.Claims.{machineOf}
 use Rattle.layout.proofs.Claims.{decodes-back, passes, only-canonical, gives-shaped, sound-is-shaped}
-use Rattle.performing.specs.declared.Reply.{Reply}
+use Rattle.step.specs.declared.Reply.{Reply}
 use Rattle.step.specs.Step.{numberAt, Outcome, Stepped}
-use Rattle.performing.specs.Reply.{outcomeOf}
+use Rattle.step.specs.Reply.{outcomeOf}
 use Rattle.simulation.proofs.StepLaws.{was-sound, refused-leaves}
 use Rattle.claims.proofs.Claims.{claim-1}
 use Rattle.host_calls.specs.declared.Told.{Told}

@@ -1,7 +1,7 @@
 // What a start and a call at a time are to a host that keeps the state as bytes beside its pool and table, and what it gets of them: definitions and theorems.
 // The code is in `host_start` and `stepwise`; here is what a host asks, and what it is told, as both cross to C.
 // It promises (specs/HostClaims) that calls in turn are a run of the machine, so that each demand is true of them, in bytes.
-// It stands on `machine` for the step, on `layout` for the bytes, on `codes` for numbers, and on `claims` and `consequences` for what is promised.
+// It stands on `step` for the step, on `layout` for the bytes, on `codes` for numbers, and on `claims` and `consequences` for what is promised.
 ghost use mathlib.Core.Path.{_≡_};
 ghost use Rattle.host_calls.specs.Calls.{toldBy, answerTold, requestIn, noState};
 use interface::Answer;

@@ -7,15 +7,15 @@ ghost use Prim.Native.Nat.{_+_, _*_, _≤_};
 ghost use lib.ListN.{length};
 ghost use Rattle.interface.specs.Answers.{valueOf};
 ghost use Rattle.state.specs.World.{worldOf};
-ghost use Rattle.performing.specs.Reply.{outcomeOf};
+ghost use Rattle.step.specs.Reply.{outcomeOf};
 ghost use Rattle.roll.specs.Play.{Turned, Replied};
 use interface::Answer;
 use interface::Refusal;
 use lines::Line;
 use machine::call;
-use performing::Reply;
 use reply_text::print_answer;
 use state::sandbox::Machine;
+use step::Reply;
 
 // A roll that is being played: the machine, the number of the roll's first line, and how many lines are answered.
 pub struct Playing {

@@ -3,8 +3,8 @@ use mathlib.Core.List.{List}
 use Prim.Native.Nat.{ℕ}
 use Rattle.interface.specs.Answers.{answered}
 use Rattle.state.specs.World.{worldOf}
 use Rattle.step.specs.Step.{Outcome}
-use Rattle.performing.specs.declared.Reply.{Reply}
+use Rattle.step.specs.declared.Reply.{Reply}
 
 -- over the pool and the table that are left
 abbrev pub outcomeOf : Reply → List ℕ → List ℕ → Outcome
