@@ -6,7 +6,7 @@ ghost use mathlib.Core.List.{_++_};
 ghost use Prim.Native.Nat.{_+_, _*_, _≤_};
 ghost use lib.ListN.{length, take, drop};
 ghost use Rattle.interface.specs.Answers.{numberOf, valueOf};
-ghost use Rattle.lines.specs.Prints.{printedReply};
+ghost use Rattle.columns.specs.Prints.{printedReply};
 use interface::Answer;
 use lines::Line;
 use printer::print_reply;
