@@ -69,7 +69,7 @@ run-cons (more {o = o} {as′ = rest} s r) = record { outcome = o; rest = rest; 
 
 module _ (image : List ℕ) (s : ℕ) (row : s < 4) where
   abbrev slotsIn : World → Slots
-  slotsIn w = slots (recordAt w s .present)
+  slotsIn w = slots (sandboxAt w s .rec .present)
 
   record Good (w : World) : Type 0 where
     sound : Sound image w
@@ -77,7 +77,7 @@ module _ (image : List ℕ) (s : ℕ) (row : s < 4) where
 
   -- the sandbox with these areas
   abbrev placed : World → Areas → Sandbox
-  placed w present = record { rec = withPresent present (recordAt w s); runs = sandboxAt w s .runs }
+  placed w present = record { rec = withPresent present (sandboxAt w s .rec); runs = sandboxAt w s .runs }
 
   abbrev unmappedAt : World → ℕ → ℕ → World
   unmappedAt w a n = record {

@@ -39,7 +39,7 @@ use Rattle.content.specs.Content.{pageRead, copyRead, differing}
 use Rattle.memory.specs.Memory.{givesAt, longestOf, runsAfter, storeAfter, heldBy, valueAt}
 use Rattle.step.specs.Step.{viewAt, sandboxThen, worldAfter, numberAt, step, Outcome, Stepped}
 use Rattle.plain.specs.Machine.{Given, Kept, Plain, copySlots, copyBytes, shares, viewOf, keptAfter, coreValue, answer, after}
-use Rattle.plain.specs.Machine.{held as heldMarks, differing as plainDiffering, valueAt as plainValue, numberAt as plainNumber}
+use Rattle.plain.specs.Machine.{framesHeld, differing as plainDiffering, valueAt as plainValue, numberAt as plainNumber}
 use Rattle.plain_claims.proofs.KeptLaws.{holds-after}
 use Rattle.plain_claims.proofs.ReadLaws.{reads-after}
 use Rattle.plain_claims.proofs.OneSandbox.{after-others}
@@ -105,7 +105,7 @@ module _ {C : ℕ → Type 0} (g : Given) (w : World) (p : Plain) (A : Agrees C 
       ap (λ (x : ℕ). used (getD (w .store .table) x 0)) (omega arith)
       ∙ used-one (w .store) (backOf s i) (p s .traces .back i) _ (A .each s l .backs i m))
 
-  pub held-same : s < 4 → heldBy (w .store) s + keptBy (rowsOf w s) ≡ heldMarks (p s .traces)
+  pub held-same : s < 4 → heldBy (w .store) s + keptBy (rowsOf w s) ≡ framesHeld (p s .traces)
   held-same l = ap (λ (x : ℕ). x + keptBy (rowsOf w s)) held-counts ∙ holds-same g (w .store) s (sandboxAt w s) (p s) (A .each s l)
 
 -- ---- an accepted request
