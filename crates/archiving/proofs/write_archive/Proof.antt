@@ -1,6 +1,6 @@
 -- The archive of a sandbox is the definition's: what each test shows, and from it the answer behind it.
 use Prim.Native.Nat.{ℕ, _<_}
-use mathlib.Core.Path.{_≡_, sym, _∙_}
+use mathlib.Core.Path.{_≡_, sym, ap, _∙_}
 use mathlib.Core.Bool.{true, false}
 use mathlib.Core.List.{List}
 use native.Mathlib.Omega.{arith}
@@ -9,7 +9,7 @@ use borrow.Author.Tests.{not-true, not-false}
 use Rattle.basics.proofs.ListLaws.{getD-any}
 use Rattle.basics.proofs.TestLaws.{length-mapped}
 use Rattle.state.specs.declared.sandbox.Sandbox.{Sandbox}
-use Rattle.state.specs.World.{World, worldOf, sandboxAt, recordAt, closedSandbox}
+use Rattle.state.specs.World.{World, worldOf, recordAt, closedSandbox}
 use Rattle.soundness.specs.Test.{soundb}
 use Rattle.state.proofs.SharesLaws.{zeroSandbox}
 use Rattle.archiving.proofs.RollLaws.{readable, roll-here}
@@ -60,8 +60,8 @@ behindRow c = behindState (c .before)
 in-row : (c : tie.Else2) → behindRow c .args .sandbox < 4
 in-row c = omega (arith, c .if2 .left)
 
-same : (c : tie.Else2) → sandboxIn (behindRow c) ≡ sandboxAt (worldIn (behindRow c)) (behindRow c .args .sandbox)
-same c = same-sandbox (behindRow c) (in-row c)
+same : (c : tie.Else2) → sandboxIn (behindRow c) .rec ≡ recordAt (worldIn (behindRow c)) (behindRow c .args .sandbox)
+same c = ap (λ (b : Sandbox). b .rec) (same-sandbox (behindRow c) (in-row c))
 
 abbrev behindOpen : tie.Else3 → tie.Else2
 behindOpen c = c .before .before .before .before
