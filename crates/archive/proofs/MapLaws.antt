@@ -19,13 +19,13 @@ use Rattle.interface.specs.declared.page.Slot.{Slot}
 use Rattle.interface.specs.declared.page.Slot.the-variants.{Unmapped, Mapped}
 use Rattle.interface.specs.declared.request.Request.{Request}
 use Rattle.interface.specs.Requests.{requestOf, Map}
-use Rattle.interface.specs.Slots.{Slots, isMapped, backingAt, advance, joins, previous, startsArea, areas, mappedPages, chargeOf, allAre}
+use Rattle.interface.specs.Slots.{Slots, isMapped, backingAt, advance, joins, previous, startsArea, areas, mappedPages, chargeOf, allAre, kindOf, startOf}
 use Rattle.interface.specs.Limits.{backingOk}
 use Rattle.interface.specs.Outcome.{pageOn, newPage, firstOf, slotsAfter, copyAfter}
 use Rattle.interface.specs.Refusals.{refusal}
 use Rattle.interface.proofs.SlotLaws.{unmapped, beyond}
 use Rattle.plain.specs.Machine.{Given, Pages, Core, viewOf, backingByte, newBytes, bytesAfter, coreAfter}
-use Rattle.archive.specs.Archive.{only, endFrom, pagesFrom, kindOf, firstImage, mapAt, maps}
+use Rattle.archive.specs.Archive.{only, endFrom, pagesFrom, mapAt, maps}
 use Rattle.archive.proofs.IsSnapshot.{HasImage, IsSnapshot}
 use Rattle.archive.specs.Segments.{Goes, built, remade, writable, unmarked}
 use Rattle.archive.specs.Segments.{blank as blankOf}
@@ -56,12 +56,12 @@ previous-remade r f zero = refl
 previous-remade r f (suc i) = refl
 
 -- p3 and p4 of a map tell the backing
-pub backing-told : (b : Backing) → (Anonymous when eqb (kindOf b) 0 else Image (record { 0 = firstImage b })) ≡ b
+pub backing-told : (b : Backing) → (Anonymous when eqb (kindOf b) 0 else Image (record { 0 = startOf b })) ≡ b
 backing-told Anonymous = refl
 backing-told (Image p) = refl
 
 pub backing-ok : (s i n images : ℕ) (b : Backing) → 1 ≤ n → HasImage images (advance b (n - 1))
-    → backingOk images (requestOf Map s i n (kindOf b) (firstImage b) 3) ≡ true
+    → backingOk images (requestOf Map s i n (kindOf b) (startOf b) 3) ≡ true
 backing-ok s i n images Anonymous m there = refl
 backing-ok s i n images (Image p) m there = le-leb (p .0 + n) images (omega arith)
 
@@ -187,7 +187,7 @@ module _ (g : Given) (s share : ℕ) (row : s < 4) (d : Pages) (h : IsSnapshot (
     unfolding copyAfter
     map-accepted =
         map-taken (viewOf g 0 (built share (mappedTo i) (blankTo i))) refl s row refl i (pagesFrom f i)
-        (kindOf (backingAt (f i))) (firstImage (backingAt (f i)))
+        (kindOf (backingAt (f i))) (startOf (backingAt (f i)))
         l (start-some f i l starts) (start-inside f i l starts)
         (backing-ok s i (pagesFrom f i) (length (g .image) / 256) (backingAt (f i)) (start-some f i l starts) last-image) map-free
         (rw map-slots (mapped-charge (i + pagesFrom f i))) (rw map-slots (mapped-areas (i + pagesFrom f i)))

@@ -25,7 +25,7 @@ use Rattle.interface.proofs.KindLaws.{Kind, kind, isMap, isUnmap, isProtect, is
 use Rattle.interface.proofs.AcceptedLaws.{accepted}
 use Rattle.plain.specs.Machine.{Given, Pages, Core, Kept, Plain, fresh, copyBytes, backingByte, newBytes, stored, bytesAfter, pagesAfter, coreAfter}
 use Rattle.plain.specs.Machine.{viewOf, shares, numberAt, after, afterAll}
-use Rattle.plain.specs.Lists.{upTo}
+use Rattle.plain_claims.specs.Lists.{upTo}
 use Rattle.archive.proofs.IsSnapshot.{HasImage, InOrder}
 
 -- one page with its bytes

@@ -15,11 +15,11 @@ use Rattle.interface.specs.Requests.{requestOf, Open}
 use Rattle.interface.specs.Slots.{isMapped, mappedPages, uncommittedPages, chargeOf}
 use Rattle.interface.specs.Outcome.{slotsAfter, copyAfter}
 use Rattle.plain.specs.Machine.{Given, Pages, Core, Kept, fresh, copySlots, viewOf, shares, bytesAfter, numberAt, answer, after, answers, afterAll}
-use Rattle.plain.specs.Lists.{upTo}
-use Rattle.plain.specs.Claims.{Keeps}
-use Rattle.plain.proofs.KeptLaws.{mapped-none, areas-none}
-use Rattle.plain.proofs.TwoListsLaws.{accepted-core}
-use Rattle.plain.proofs.Claims.{claim-always}
+use Rattle.plain_claims.specs.Lists.{upTo}
+use Rattle.plain_claims.specs.Claims.{Keeps}
+use Rattle.plain_claims.proofs.KeptLaws.{mapped-none, areas-none}
+use Rattle.plain_claims.proofs.TwoListsLaws.{accepted-core}
+use Rattle.plain_claims.proofs.Claims.{claim-always}
 use Rattle.archive.specs.Archive.{joined, only, opening, maps, differs, writeAt, writes, protects, closing, archive}
 use Rattle.archive.specs.Claims.{Alike, Occurs, Rebuilds, InSegments, Replay, OnlyIf, IfAlike}
 use Rattle.archive.proofs.IsSnapshot.{IsSnapshot}

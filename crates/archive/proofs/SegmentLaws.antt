@@ -9,8 +9,8 @@ use Rattle.interface.specs.Answers.{Answered}
 use Rattle.interface.specs.Refusals.{refusal}
 use Rattle.basics.proofs.TestLaws.{when-cases}
 use Rattle.plain.specs.Machine.{Given, Core, Plain, viewOf, shares, coreAfter, numberAt, answer, answers, afterAll}
-use Rattle.plain.proofs.OneSandbox.{shares-apart}
-use Rattle.plain.proofs.TwoListsLaws.{after-append, answers-append, accepted-core}
+use Rattle.plain_claims.proofs.OneSandbox.{shares-apart}
+use Rattle.plain_claims.proofs.TwoListsLaws.{after-append, answers-append, accepted-core}
 use Rattle.archive.specs.Archive.{joined, only}
 use Rattle.archive.specs.Segments.{AllTaken, Goes}
 

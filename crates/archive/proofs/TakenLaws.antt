@@ -18,7 +18,7 @@ module _ (v : View) (sound : v .sound ≡ true) (s : ℕ) (row : s < 4) where
       rw (sound, lt-ltb s 4 row, o, le-leb 1 share l, le-leb share 128 m, le-ltb _ _ p, le-ltb share _ c, le-ltb 8 _ a)
 
   module _ (opened : v .opened ≡ true) where
-    pub map-taken : (i n kind p : ℕ) → i < 64 → 1 ≤ n → i + n ≤ 64 → backingOk (v .imagePages) (requestOf Map s i n kind p 3) ≡ true
+    pub map-taken : (i n kind p : ℕ) → i < 64 → 1 ≤ n → i + n ≤ 64 → backingOk (v .images) (requestOf Map s i n kind p 3) ≡ true
         → allAre false (v .slots) i n ≡ true
         → chargeThen v (requestOf Map s i n kind p 3) ≤ v .share → areas (slotsThen v (requestOf Map s i n kind p 3)) ≤ 8
         → refusal v (requestOf Map s i n kind p 3) ≡ 0

@@ -13,12 +13,12 @@ use Rattle.basics.proofs.CountLaws.{count-small, count-le}
 use Rattle.interface.specs.declared.page.Backing.{Backing}
 use Rattle.interface.specs.declared.page.Backing.the-variants.{Anonymous, Image}
 use Rattle.interface.specs.declared.request.Request.{Request}
-use Rattle.interface.specs.Slots.{isMapped, rightsAt, backingAt, startsArea, areas}
-use Rattle.lines.specs.Prints.{UpTo, numbersOf, printedRequest}
+use Rattle.interface.specs.Slots.{isMapped, rightsAt, backingAt, startsArea, areas, kindOf, startOf}
+use Rattle.columns.specs.Prints.{UpTo, numbersOf, printedRequest}
 use Rattle.lines.specs.Lines.{linesOf}
-use Rattle.lines.proofs.PrintLaws.{length-request}
+use Rattle.columns.proofs.PrintLaws.{length-request}
 use Rattle.plain.specs.Machine.{Given, Pages}
-use Rattle.archive.specs.Archive.{joined, only, kindOf, firstImage, mapAt, maps, differs, writeAt, writes}
+use Rattle.archive.specs.Archive.{joined, only, mapAt, maps, differs, writeAt, writes}
 use Rattle.archive.specs.Archive.{readOnlyStart, protectAt, protects, closing, archive}
 use Rattle.archive.specs.Text.{printedRoll, Sayable}
 use Rattle.archive.specs.Claims.{LinesCounted, Longest}
@@ -64,7 +64,7 @@ kind-small : (b : Backing) → kindOf b ≤ 1
 kind-small Anonymous = omega arith
 kind-small (Image p) = omega arith
 
-image-small : (images : ℕ) (b : Backing) → images ≤ 64 → HasImage images b → firstImage b ≤ 64
+image-small : (images : ℕ) (b : Backing) → images ≤ 64 → HasImage images b → startOf b ≤ 64
 image-small images Anonymous h k = omega arith
 image-small images (Image p) h k = omega arith
 

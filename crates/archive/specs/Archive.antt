@@ -5,11 +5,9 @@ use mathlib.Core.List.{List, [], _∷_, _++_}
 use lib.Dec.{eqb}
 use Rattle.basics.specs.Choice.{_when_else_}
 use Rattle.basics.specs.Ranges.{lowest}
-use Rattle.interface.specs.declared.page.Backing.{Backing}
-use Rattle.interface.specs.declared.page.Backing.the-variants.{Anonymous, Image}
 use Rattle.interface.specs.declared.request.Request.{Request}
 use Rattle.interface.specs.Requests.{requestOf, Open, Map, Protect, Write, Snapshot}
-use Rattle.interface.specs.Slots.{Slots, isMapped, rightsAt, backingAt, joins, previous, startsArea}
+use Rattle.interface.specs.Slots.{Slots, isMapped, rightsAt, backingAt, kindOf, startOf, joins, previous, startsArea}
 use Rattle.plain.specs.Machine.{Pages, backingByte}
 
 -- the lists f 0 to f (n - 1), one behind the other
@@ -36,15 +34,6 @@ endFrom f i = lowest (λ j. not (joins (previous f j) (f j))) i (64 - i)
 abbrev pub pagesFrom : Slots → ℕ → ℕ
 pagesFrom f i = endFrom f (i + 1) - i
 
--- a map's p3 and p4: "p3 backing, 0 anonymous, 1 image; p4 first image page (0 when anonymous)"
-abbrev pub kindOf : Backing → ℕ
-kindOf Anonymous = 0
-kindOf (Image p) = 1
-
-abbrev pub firstImage : Backing → ℕ
-firstImage Anonymous = 0
-firstImage (Image p) = p .0
-
 -- ---- the segments of the roll; "every line naming the sandbox by its own number"
 
 -- "open with its share"
@@ -53,7 +42,7 @@ opening s share = requestOf Open s share 0 0 0 0 ∷ []
 
 -- "one map a snapshot area in page order, at named pages with rights 3"
 abbrev pub mapAt : ℕ → Slots → ℕ → Request
-mapAt s f i = requestOf Map s i (pagesFrom f i) (kindOf (backingAt (f i))) (firstImage (backingAt (f i))) 3
+mapAt s f i = requestOf Map s i (pagesFrom f i) (kindOf (backingAt (f i))) (startOf (backingAt (f i))) 3
 
 unfoldable pub maps : ℕ → Slots → List Request
 maps s f = joined (λ i. only (startsArea f i) (mapAt s f i)) 64

@@ -10,7 +10,7 @@ use Rattle.interface.specs.Numbers.{Sandboxes}
 use Rattle.interface.specs.declared.request.Request.{Request}
 use Rattle.interface.specs.Slots.{isMapped, areas}
 use Rattle.plain.specs.Machine.{Given, Pages, fresh, answers}
-use Rattle.plain.specs.Lists.{upTo}
+use Rattle.plain_claims.specs.Lists.{upTo}
 use Rattle.archive.specs.Archive.{differs, readOnlyStart, archive}
 use Rattle.archive.specs.Segments.{AllTaken, Segments}
 

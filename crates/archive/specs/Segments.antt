@@ -12,7 +12,7 @@ use Rattle.interface.specs.declared.request.Request.{Request}
 use Rattle.interface.specs.Answers.{Answered}
 use Rattle.interface.specs.Slots.{Slots, isMapped, backingAt}
 use Rattle.plain.specs.Machine.{Given, Pages, Core, Plain, fresh, backingByte, answers, afterAll}
-use Rattle.plain.specs.Lists.{upTo}
+use Rattle.plain_claims.specs.Lists.{upTo}
 use Rattle.archive.specs.Archive.{opening, maps, writes, protects, closing}
 
 -- every call was accepted

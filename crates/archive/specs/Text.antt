@@ -2,7 +2,7 @@
 use Prim.Native.Nat.{ℕ}
 use mathlib.Core.List.{List, [], _∷_, _++_}
 use Rattle.interface.specs.declared.request.Request.{Request}
-use Rattle.lines.specs.Prints.{UpTo, numbersOf, printedRequest}
+use Rattle.columns.specs.Prints.{UpTo, numbersOf, printedRequest}
 
 -- "A line is 7 fields of 6 columns and a line feed, 43 bytes"
 unfoldable pub printedRoll : List Request → List ℕ

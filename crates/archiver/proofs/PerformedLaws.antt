@@ -18,7 +18,7 @@ use Rattle.soundness.specs.Test.{soundb}
 use Rattle.archive.specs.Written.{Written, writtenAs}
 use Rattle.archive.proofs.RowLaws.{allowed}
 use Rattle.replay.specs.Snapshot.{archiveOf, archiveNumber, written}
-use Rattle.archiving.specs.Whole.{left}
+use Rattle.whole_roll.specs.Whole.{left}
 
 number-fits : (image : List ℕ) (w : World) (s room : ℕ) → archiveNumber image w s room ≡ 0 → length (archiveOf image w s) * 43 ≤ room
 unfolding archiveNumber

@@ -15,7 +15,7 @@ use Rattle.lines.specs.Lines.{linesOf}
 use Rattle.state.specs.World.{World, lengthsOk}
 use Rattle.soundness.specs.Test.{soundb}
 use Rattle.plain.specs.Machine.{Given, Pages, viewOf, shares}
-use Rattle.plain.specs.Lists.{upTo}
+use Rattle.plain_claims.specs.Lists.{upTo}
 use Rattle.claims.proofs.Claims.{claim-start}
 use Rattle.roll.specs.Replies.{lent}
 use Rattle.roll.specs.Play.{linesIn, requests}
@@ -29,7 +29,7 @@ use Rattle.archive.proofs.Replay.{opened}
 use Rattle.archive.proofs.TextLaws.{length-roll, longest}
 use Rattle.replay.specs.Snapshot.{archiveNumber, written}
 use Rattle.replay.proofs.Claims.{written-as-plain}
-use Rattle.archiving.specs.Whole.{left}
+use Rattle.whole_roll.specs.Whole.{left}
 use Rattle.image_file.proofs.ImageLaws.{unreadable-is-wrong}
 use Rattle.archiver.specs.Performed.{handedOn}
 use Rattle.archiver.specs.Prints.{AnswersPlain, PrintsArchive, RefusesWrongLength, RefusesUnreadable}

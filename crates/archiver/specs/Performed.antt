@@ -7,7 +7,7 @@ use Rattle.interface.specs.declared.answer.Answer.{Answer}
 use Rattle.interface.specs.Answers.{valueOf}
 use Rattle.state.specs.World.{World}
 use Rattle.replay.specs.Snapshot.{written}
-use Rattle.archiving.specs.Whole.{left}
+use Rattle.whole_roll.specs.Whole.{left}
 use Rattle.roll_input.specs.Input.{RollPlayed}
 
 -- The roll is played from a world, and answer and output are those of the archive roll of what it leaves.

@@ -13,13 +13,13 @@ use Rattle.lines.specs.Lines.{linesOf}
 use Rattle.state.specs.World.{World, lengthsOk}
 use Rattle.state.specs.Start.{startedBy}
 use Rattle.plain.specs.Machine.{Given, Pages, Plain}
-use Rattle.plain.specs.Lists.{upTo}
+use Rattle.plain_claims.specs.Lists.{upTo}
 use Rattle.roll.specs.Play.{linesIn, requests}
 use Rattle.roll.specs.Replies.{lent}
 use Rattle.archive.specs.Archive.{archive}
 use Rattle.archive.specs.Text.{printedRoll}
 use Rattle.archive.specs.Written.{plainWritten}
-use Rattle.archiving.specs.Whole.{left}
+use Rattle.whole_roll.specs.Whole.{left}
 use Rattle.roll_input.specs.Input.{RollPlayed}
 use Rattle.image_file.specs.declared.Found.the-variants.{Unreadable}
 use Rattle.image_file.specs.Image.{imageBytes}

@@ -9,11 +9,11 @@ use Rattle.interface.specs.declared.answer.Answer.the-variants.{Refused}
 use Rattle.interface.specs.declared.answer.Refusal.the-variants.{Unsound, NotOpen, NoSnapshot}
 use Rattle.interface.specs.declared.request.Request.{Request}
 use Rattle.interface.specs.Refusals.{archiveRefusal}
-use Rattle.state.specs.World.{World, sandboxAt}
+use Rattle.state.specs.World.{World, recordAt}
 use Rattle.soundness.specs.Test.{soundb}
 use Rattle.archive.specs.Written.{writtenAs}
 use Rattle.replay.specs.Snapshot.{archiveOf, archiveNumber, written}
-use Rattle.archiving.specs.Whole.{left, fitted}
+use Rattle.whole_roll.specs.Whole.{left, fitted}
 
 module _ (image : List ℕ) (w : World) (s : ℕ) (out : List ℕ) where
   pub refused-3 : soundb image w ≡ false → left (Refused Unsound) out ≡ written image w s out
@@ -26,16 +26,16 @@ module _ (image : List ℕ) (w : World) (s : ℕ) (out : List ℕ) where
     refused-4 l = rw (sound, le-ltb s 4 l)
 
     module _ (row : s < 4) where
-      pub refused-closed : sandboxAt w s .rec .opened ≡ false → left (Refused NotOpen) out ≡ written image w s out
+      pub refused-closed : recordAt w s .opened ≡ false → left (Refused NotOpen) out ≡ written image w s out
       unfolding written archiveNumber archiveRefusal writtenAs
       refused-closed e = rw (sound, lt-ltb s 4 row, e)
 
-      module _ (opened : sandboxAt w s .rec .opened ≡ true) where
-        pub refused-8 : sandboxAt w s .rec .taken ≡ false → left (Refused NoSnapshot) out ≡ written image w s out
+      module _ (opened : recordAt w s .opened ≡ true) where
+        pub refused-8 : recordAt w s .taken ≡ false → left (Refused NoSnapshot) out ≡ written image w s out
         unfolding written archiveNumber archiveRefusal writtenAs
         refused-8 e = rw (sound, lt-ltb s 4 row, opened, e)
 
-        pub filed : sandboxAt w s .rec .taken ≡ true → (answer : Answer) (now : List ℕ) (roll : List Request) → roll ≡ archiveOf image w s
+        pub filed : recordAt w s .taken ≡ true → (answer : Answer) (now : List ℕ) (roll : List Request) → roll ≡ archiveOf image w s
             → left answer now ≡ fitted roll out → left answer now ≡ written image w s out
         unfolding written archiveNumber archiveRefusal fitted
         filed taken answer now roll is x = x ∙ ap (λ l. fitted l out) is ∙ rw (sound, lt-ltb s 4 row, opened, taken)

@@ -1,4 +1,3 @@
 -- In reading order.
-pub mod WholeLaws
 pub mod RollLaws
 pub mod ArchivedLaws

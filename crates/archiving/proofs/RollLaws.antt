@@ -9,6 +9,7 @@ use Rattle.basics.proofs.TestLaws.{by-cases}
 use Rattle.interface.specs.declared.page.Slot.{Slot}
 use Rattle.interface.specs.declared.request.Request.{Request}
 use Rattle.interface.specs.Slots.{isMapped}
+use Rattle.interface.specs.Numbers.{pagesIn}
 use Rattle.table.specs.Store.{contents}
 use Rattle.table.proofs.FiledLaws.{filed-ranged}
 use Rattle.areas.specs.Areas.{slots}
@@ -16,7 +17,7 @@ use Rattle.areas.specs.Formed.{WellFormed}
 use Rattle.areas.specs.Walk.{Formed}
 use Rattle.areas.proofs.FormedLaws.{near}
 use Rattle.state.specs.declared.sandbox.Sandbox.{Sandbox}
-use Rattle.state.specs.World.{World, sandboxAt, framesOf, pagesIn}
+use Rattle.state.specs.World.{World, sandboxAt, framesOf}
 use Rattle.soundness.specs.Test.{soundb}
 use Rattle.soundness.proofs.TestLaws.{tested}
 use Rattle.plain.specs.Machine.{Pages}
@@ -25,9 +26,10 @@ use Rattle.content.proofs.ReadingLaws.{backing-there}
 use Rattle.archive.specs.Archive.{joined, only, opening, maps, differs, writeAt, writes, protects, closing, archive}
 use Rattle.replay.specs.Snapshot.{snapshotOf, archiveOf}
 use Rattle.segments.specs.declared.Snapshot.{Snapshot}
-use Rattle.segments.specs.ByPages.{byteLine, backPage, writesAt, writesOf, Readable}
-use Rattle.archiving.specs.Whole.{rollOf}
-use Rattle.segments.proofs.ByPagesLaws.{joined-none}
+use Rattle.page_writes.specs.PageLines.{byteLine, backPage}
+use Rattle.segments.specs.ByPages.{writesAt, writesOf, Readable}
+use Rattle.whole_roll.specs.Whole.{rollOf}
+use Rattle.page_writes.proofs.PageLaws.{joined-none}
 use Rattle.segments.proofs.AreaLaws.{maps-by-areas, protects-by-areas}
 
 joined-below : {A : Type 0} (x y : ℕ → List A) (n : ℕ) → ((i : ℕ) → i < n → x i ≡ y i) → joined x n ≡ joined y n

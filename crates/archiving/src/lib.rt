@@ -1,19 +1,17 @@
 // The archive roll of a sandbox's snapshot, written into lent output: "A roll for the archive box".
 // It promises: whatever is lent, answer and output are those of `written` (`replay`, specs/Snapshot). A refusal leaves every byte of the output; else the roll
 // stands at its start, and what is past it stays. State, pool, table and image are only read.
-// It stands on `segments` and `printing` for the lines, on `soundness` for the test of the state, and on `replay` for what is promised.
+// It stands on `whole_roll` for the roll, on `segments` for the snapshot, on `soundness` for the test of the state, and on `replay` for what is promised.
 ghost use mathlib.Core.Path.{_≡_};
 ghost use Rattle.state.specs.World.{worldOf};
 ghost use Rattle.replay.specs.Snapshot.{written};
-ghost use Rattle.archiving.specs.Whole.{left};
-use crate::whole::put_fitting;
+ghost use Rattle.whole_roll.specs.Whole.{left};
 use interface::Answer;
 use interface::Refusal;
 use segments::Snapshot;
 use soundness::sound::sound;
 use state::sandbox::Machine;
-
-pub mod whole;
+use whole_roll::put_fitting;
 
 // "The answer is the number of lines; output memory past them is untouched. .. any refusal leaves all output memory untouched."
 pub fn write_archive(

@@ -14,18 +14,19 @@ use Rattle.interface.specs.Requests.{Write, Snapshot, Rewind, pageOf}
 use Rattle.interface.specs.Slots.{Slots, isMapped, rightsAt}
 use Rattle.interface.specs.Limits.{within}
 use Rattle.interface.specs.Examples.{refused}
+use Rattle.interface.specs.Numbers.{pagesIn}
 use Rattle.frames.proofs.FrameLaws.{held-or, lt-or-ge}
 use Rattle.kept.proofs.SpareLaws.{run-kept}
 use Rattle.table.specs.Store.{entry, frontOf, backOf}
 use Rattle.areas.specs.Areas.{slots}
-use Rattle.state.specs.World.{World, sandboxAt, pagesIn, rowsOf}
+use Rattle.state.specs.World.{World, sandboxAt, recordAt, rowsOf}
 use Rattle.state.specs.Sound.{Sound}
 use Rattle.step.specs.Step.{Outcome, Stepped}
 use Rattle.plain.specs.Machine.{Given, Plain, fresh, numberAt, answer, after, answers}
-use Rattle.plain.specs.Lists.{upTo, Then, Rewound}
-use Rattle.plain.proofs.KeptLaws.{frames-suffice, next-write}
-use Rattle.plain.proofs.TwoListsLaws.{answers-append, length-answers}
-use Rattle.plain.proofs.Claims.{claim-two-lists, claim-rewound}
+use Rattle.plain_claims.specs.Lists.{upTo, Then, Rewound}
+use Rattle.plain_claims.proofs.KeptLaws.{frames-suffice, next-write}
+use Rattle.plain_claims.proofs.TwoListsLaws.{answers-append, length-answers}
+use Rattle.plain_claims.proofs.Claims.{claim-two-lists, claim-rewound}
 use Rattle.simulation.specs.Lent.{Lent}
 use Rattle.simulation.specs.Agrees.{Agrees}
 use Rattle.simulation.proofs.ReadSteps.{page-read, frame-is, some-entry}
@@ -80,9 +81,9 @@ module _ (g : Given) (L : Lent g) (qs : List Request) (v : World) (A : Agrees (�
         counted = λ s l. held-counts g v (upTo g qs) A s;
       }
 
-  write-taken : (q : Request) (o : Outcome) → Stepped (g .image) v q o → q .code ≡ Write → q .sandbox < 4 → sandboxAt v (q .sandbox) .rec .opened ≡ true
-      → within (pagesIn (length (g .image))) q ≡ true → isMapped (slots (sandboxAt v (q .sandbox) .rec .present) (pageOf q)) ≡ true
-      → rightsAt (slots (sandboxAt v (q .sandbox) .rec .present) (pageOf q)) ≡ 3
+  write-taken : (q : Request) (o : Outcome) → Stepped (g .image) v q o → q .code ≡ Write → q .sandbox < 4 → recordAt v (q .sandbox) .opened ≡ true
+      → within (pagesIn (length (g .image))) q ≡ true → isMapped (slots (recordAt v (q .sandbox) .present) (pageOf q)) ≡ true
+      → rightsAt (slots (recordAt v (q .sandbox) .present) (pageOf q)) ≡ 3
       → (o .answer .number ≡ 0) × ((f : ℕ) × (entry (o .world .store) (frontOf (q .sandbox) (pageOf q)) ≡ suc f))
   write-taken q o s e l opened limits there right =
       let a = A .each (q .sandbox) l in

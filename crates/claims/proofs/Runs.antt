@@ -11,7 +11,7 @@ use Rattle.state.proofs.LentLaws.{lengths-true}
 use Rattle.state.proofs.StartLaws.{start-world}
 use Rattle.step.specs.Step.{step, Outcome, Stepped}
 use Rattle.plain.specs.Machine.{Given, Plain, fresh, after, answers, afterAll}
-use Rattle.plain.specs.Lists.{upTo}
+use Rattle.plain_claims.specs.Lists.{upTo}
 use Rattle.simulation.specs.Lent.{Lent}
 use Rattle.simulation.specs.Agrees.{Agrees}
 use Rattle.simulation.proofs.SoundLaws.{agrees-sound, started-agrees}

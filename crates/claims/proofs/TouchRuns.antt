@@ -20,7 +20,7 @@ use Rattle.interface.proofs.RunLaws.{run-low, granted-le, granted-run, longest-
 use Rattle.frames.specs.declared.Held.{Held}
 use Rattle.frames.specs.Frames.{held, mark}
 use Rattle.frames.proofs.FrameLaws.{lt-or-ge}
-use Rattle.frames.proofs.SumLaws.{sum-same}
+use Rattle.words.proofs.SumLaws.{sum-same}
 use Rattle.pages.specs.Parts.{frame}
 use Rattle.table.specs.Store.{Store, entry, frontOf, contents, Tidy}
 use Rattle.table.proofs.StoreLaws.{contents-none}

@@ -17,6 +17,7 @@ use Rattle.interface.specs.Runs.{takesRun}
 use Rattle.interface.specs.Limits.{pagesOk, usesTwo, within}
 use Rattle.interface.proofs.RunLaws.{granted-run}
 use Rattle.interface.proofs.KindLaws.{Kind, isMap, isUnmap, isProtect, isWrite, isSnapshot, isRewind, isOther}
+use Rattle.interface.specs.Numbers.{pagesIn}
 use Rattle.frames.specs.Frames.{held, mark}
 use Rattle.frames.proofs.FrameLaws.{lt-or-ge}
 use Rattle.pages.specs.Parts.{frame, zeros, setFrame}
@@ -33,7 +34,6 @@ use Rattle.kept.proofs.StoreRuns.{grant-entry}
 use Rattle.areas.specs.Areas.{slots}
 use Rattle.areas.specs.Formed.{WellFormed}
 use Rattle.state.specs.declared.sandbox.Sandbox.{Sandbox}
-use Rattle.state.specs.World.{pagesIn}
 use Rattle.table.specs.Backing.{backingPage}
 use Rattle.content.specs.Content.{pageUnder, pageRead, copyPage}
 use Rattle.memory.specs.Memory.{framesFor, touched, keepsFront, storeAfter}
@@ -286,4 +286,5 @@ module _ (image : List ℕ) (f : ℕ) (q : Request) (b : Sandbox) (n : ℕ) (st 
       let stay = moveTo-pool (q .sandbox * 128) st 64 in rw e (record { bytes = rw (stay .0); marked = rw (stay .1) })
   left-after x unnamed untaken ungot (isRewind e) =
       rw e
-      (rewindTo-left 256 n st tidy x (q .sandbox * 128) (keepsFront (b .rec)) (copyPage image (b .rec)) copy-whole 64 (λ i l z. unnamed i (names-rewind b q e i l) z))
+      (rewindTo-left 256 n st tidy x (q .sandbox * 128) (keepsFront (b .rec)) (copyPage image (b .rec)) copy-whole 64
+      (λ i l z. unnamed i (names-rewind b q e i l) z))

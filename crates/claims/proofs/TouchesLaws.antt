@@ -16,6 +16,7 @@ use Rattle.interface.specs.Runs.{takesRun}
 use Rattle.interface.proofs.AcceptedLaws.{map-fits}
 use Rattle.interface.proofs.RunLaws.{run-low, granted-le}
 use Rattle.interface.proofs.KindLaws.{kind}
+use Rattle.interface.specs.Numbers.{pagesIn}
 use Rattle.frames.specs.Frames.{held, mark}
 use Rattle.frames.proofs.FrameLaws.{lt-or-ge}
 use Rattle.pages.specs.Parts.{frame, setFrame}
@@ -27,7 +28,7 @@ use Rattle.kept.specs.Spare.{keptAt}
 use Rattle.kept.proofs.SpareLaws.{run-kept}
 use Rattle.state.specs.declared.sandbox.Sandbox.{Sandbox}
 use Rattle.records.specs.declared.Record.{Record}
-use Rattle.state.specs.World.{World, sandboxAt, closedSandbox, framesOf, pagesIn, rowsOf}
+use Rattle.state.specs.World.{World, sandboxAt, closedSandbox, framesOf, rowsOf}
 use Rattle.rules.specs.After.{changes, recordAfter}
 use Rattle.content.specs.Content.{pageRead}
 use Rattle.memory.specs.Memory.{placeFor, framesFor, storeAfter}
@@ -91,7 +92,8 @@ module _ (image : List ℕ) (w : World) (q : Request) (o : Outcome) (s : Stepped
     unchanged x₁ x₂ x₃ x₄ x₅ =
         sandboxes-are image w q o s n
         ∙ ap (λ (r : Runs). set (w .sandboxes) (q .sandbox) (record { rec = recordAfter q (b .rec); runs = r })) (runs-same image w q o s n x₅ x₄ g)
-        ∙ ap (λ (c : Record). set (w .sandboxes) (q .sandbox) (record { rec = c; runs = b .runs })) (record-same q (b .rec) x₁ x₂ x₃ x₄ (met image w q o s n .opened x₁))
+        ∙ ap (λ (c : Record). set (w .sandboxes) (q .sandbox) (record { rec = c; runs = b .runs }))
+        (record-same q (b .rec) x₁ x₂ x₃ x₄ (met image w q o s n .opened x₁))
         ∙ set-getD (w .sandboxes) (q .sandbox) closedSandbox
 
     state : leavesSandboxes q ≡ true → o .world .sandboxes ≡ w .sandboxes

@@ -11,6 +11,7 @@ use Rattle.interface.specs.Requests.{_is_, Write, Snapshot, Rewind, pageOf}
 use Rattle.interface.specs.Slots.{isMapped, rightsAt, mappedPages, copied}
 use Rattle.interface.specs.Limits.{within}
 use Rattle.interface.specs.Refusals.{refusal}
+use Rattle.interface.specs.Numbers.{pagesIn}
 use Rattle.pages.specs.Parts.{frame, zeros, listed}
 use Rattle.frames.specs.Frames.{held}
 use Rattle.kept.specs.Spare.{keptBy, Spare, Words}
@@ -18,14 +19,14 @@ use Rattle.marks.specs.Named.{usedBelow}
 use Rattle.marks.specs.Marks.{from}
 use Rattle.table.specs.Store.{entry, frontOf, backOf, contents}
 use Rattle.areas.specs.Areas.{slots}
-use Rattle.state.specs.World.{World, sandboxAt, sharesOf, pagesIn, started, lengthsOk, rowsOf}
+use Rattle.state.specs.World.{World, sandboxAt, recordAt, sharesOf, started, lengthsOk, rowsOf}
 use Rattle.state.specs.Start.{startedBy}
 use Rattle.state.specs.Sound.{Sound}
 use Rattle.content.specs.Content.{pageRead}
 use Rattle.memory.specs.Memory.{heldBy}
 use Rattle.step.specs.Step.{viewAt, Chosen, Outcome, Stepped}
 use Rattle.plain.specs.Machine.{Given, fresh, copySlots, copyBytes, answers}
-use Rattle.plain.specs.Lists.{upTo, naming, toldLater, Rewound}
+use Rattle.plain_claims.specs.Lists.{upTo, naming, toldLater, Rewound}
 use Rattle.simulation.specs.Lent.{Lent}
 use Rattle.claims.specs.Touches.{Touches}
 
@@ -93,9 +94,9 @@ Demand2 g = (qs : List Request) (as′ : List Answered) (v : World) → RunFrom 
 module _ (g : Given) (qs : List Request) (v : World) where
   -- "a rewound sandbox has exactly the mappings, rights and bytes the plain machine copied at its snapshot"
   pub record AsSnapshot (s : ℕ) : Type 0 where
-    pub mappings : slots (sandboxAt v s .rec .present) ≡ copied (copySlots (upTo g qs s .core))
-    pub bytes : (i : ℕ) → i < 64 → isMapped (slots (sandboxAt v s .rec .present) i) ≡ true
-        → pageRead (g .image) (v .store) (sandboxAt v s .rec) s i ≡ listed 256 (copyBytes (upTo g qs s .core .copy) i)
+    pub mappings : slots (recordAt v s .present) ≡ copied (copySlots (upTo g qs s .core))
+    pub bytes : (i : ℕ) → i < 64 → isMapped (slots (recordAt v s .present) i) ≡ true
+        → pageRead (g .image) (v .store) (recordAt v s) s i ≡ listed 256 (copyBytes (upTo g qs s .core .copy) i)
     -- "In a rewound sandbox each front and back is that of a snapshot page and holds the copy's bytes of it."
     pub fronts : (i f : ℕ) → i < 64 → entry (v .store) (frontOf s i) ≡ suc f
         → (isMapped (copied (copySlots (upTo g qs s .core)) i) ≡ true) × (frame 256 (v .store .pool) f ≡ listed 256 (copyBytes (upTo g qs s .core .copy) i))
@@ -121,14 +122,14 @@ module _ (g : Given) (qs : List Request) (v : World) where
 
   -- "no sandbox holds more than its share; no accepted mapping ever lacks a frame"
   pub record Promise : Type 0 where
-    pub share : (s : ℕ) → s < 4 → usedBelow (from (s * 128) (v .store .table)) 128 + keptBy (rowsOf v s) ≤ sandboxAt v s .rec .share
+    pub share : (s : ℕ) → s < 4 → usedBelow (from (s * 128) (v .store .table)) 128 + keptBy (rowsOf v s) ≤ recordAt v s .share
     -- "a sandbox's mapped pages and backs together are at most its share, the shares together at most the pool"
-    pub covered : (s : ℕ) → s < 4 → mappedPages (slots (sandboxAt v s .rec .present)) + usedBelow (from (s * 128 + 64) (v .store .table)) 64 ≤ sandboxAt v s .rec .share
+    pub covered : (s : ℕ) → s < 4 → mappedPages (slots (recordAt v s .present)) + usedBelow (from (s * 128 + 64) (v .store .table)) 64 ≤ recordAt v s .share
     pub pooled : sharesOf v ≤ g .frames
     -- "a next write within its limits, to any mapped page with rights 3, is accepted and leaves the page with a front"
-    pub next : (q : Request) (o : Outcome) → Stepped (g .image) v q o → q .code ≡ Write → q .sandbox < 4 → sandboxAt v (q .sandbox) .rec .opened ≡ true
-        → within (pagesIn (length (g .image))) q ≡ true → isMapped (slots (sandboxAt v (q .sandbox) .rec .present) (pageOf q)) ≡ true
-        → rightsAt (slots (sandboxAt v (q .sandbox) .rec .present) (pageOf q)) ≡ 3
+    pub next : (q : Request) (o : Outcome) → Stepped (g .image) v q o → q .code ≡ Write → q .sandbox < 4 → recordAt v (q .sandbox) .opened ≡ true
+        → within (pagesIn (length (g .image))) q ≡ true → isMapped (slots (recordAt v (q .sandbox) .present) (pageOf q)) ≡ true
+        → rightsAt (slots (recordAt v (q .sandbox) .present) (pageOf q)) ≡ 3
         → (o .answer .number ≡ 0) × ((f : ℕ) × (entry (o .world .store) (frontOf (q .sandbox) (pageOf q)) ≡ suc f))
     -- a write that gives up a frame has one to give up, and one that takes a frame finds one (that its page's front entry alone names it afterwards, and no run
     -- keeps it, is `alone` in Touches)

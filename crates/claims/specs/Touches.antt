@@ -22,7 +22,7 @@ use Rattle.runs.specs.Row.{row, withRunAt}
 use Rattle.kept.specs.Spare.{keptIn, keptAt, leftOf}
 use Rattle.areas.specs.Areas.{slots}
 use Rattle.state.specs.declared.sandbox.Sandbox.{Sandbox}
-use Rattle.state.specs.World.{World, sandboxAt, withRuns, framesOf, rowsOf}
+use Rattle.state.specs.World.{World, sandboxAt, recordAt, withRuns, framesOf, rowsOf}
 use Rattle.content.specs.Content.{pageRead}
 use Rattle.memory.specs.Memory.{placeFor, framesFor, longestOf}
 use Rattle.step.specs.Step.{takes, gives, OfLongest, Outcome}
@@ -102,7 +102,7 @@ pub record Touches (image : List ℕ) (w : World) (q : Request) (o : Outcome) (t
   pub gathered : q .code ≡ Rewind → (f : ℕ) → 1 ≤ keptIn (rowsOf (o .world) (q .sandbox)) f
       → (1 ≤ keptIn (rowsOf w (q .sandbox)) f)
       ⊎ ((i : ℕ) × ((i < 64)
-      × ((isSpared (slots (sandboxAt w (q .sandbox) .rec .present) i) ≡ true) × (entry (w .store) (frontOf (q .sandbox) i) ≡ suc f))))
+      × ((isSpared (slots (recordAt w (q .sandbox) .present) i) ≡ true) × (entry (w .store) (frontOf (q .sandbox) i) ≡ suc f))))
   -- no other call changes a run
   pub runs : takesRun q ≡ false → (q is Rewind) ≡ false → gives image w q ≡ false → (s : ℕ) → sandboxAt (o .world) s .runs ≡ sandboxAt w s .runs
   -- a snapshot moves entries only: no byte of the pool and no mark changes
@@ -128,7 +128,7 @@ pub record Touches (image : List ℕ) (w : World) (q : Request) (o : Outcome) (t
       → o .world .store ≡ kept (w .store .marks) (set (w .store .pool) (f * 256 + offsetOf q) (q .p2)) (w .store .table)
   -- "a page without a front first takes an unheld frame and fills it with what the page reads": one mark, one frame, one entry
   pub filled : takes image w q ≡ true
-      → let reads = pageRead image (w .store) (sandboxAt w (q .sandbox) .rec) (q .sandbox) (pageOf q) in
+      → let reads = pageRead image (w .store) (recordAt w (q .sandbox)) (q .sandbox) (pageOf q) in
       o .world .store
       ≡ kept (mark (w .store .marks) taken 1) (set (setFrame 256 (w .store .pool) taken reads) (taken * 256 + offsetOf q) (q .p2))
       (set (w .store .table) (frontOf (q .sandbox) (pageOf q)) (suc taken))

@@ -17,6 +17,7 @@ use Rattle.interface.specs.Requests.{Compare}
 use Rattle.interface.specs.Slots.{isCommitted, rightsAt}
 use Rattle.interface.specs.Compare.{agree}
 use Rattle.interface.proofs.CompareLaws.{agree-bytes, difference-same}
+use Rattle.interface.specs.Numbers.{pagesIn}
 use Rattle.frames.specs.declared.Held.{Held}
 use Rattle.frames.specs.Frames.{held, apartHeld}
 use Rattle.frames.proofs.PairLaws.{apart-true}
@@ -29,8 +30,8 @@ use Rattle.kept.specs.Test.{keptTo, blankb, frameOk, spareb}
 use Rattle.areas.specs.Areas.{slots}
 use Rattle.records.specs.declared.Record.{Record}
 use Rattle.state.specs.declared.sandbox.Sandbox.{Sandbox}
-use Rattle.state.specs.World.{World, sandboxAt, framesOf, pagesIn, lengthsOk, rowsOf}
-use Rattle.page_soundness.specs.Pages.{pagesOk}
+use Rattle.state.specs.World.{World, sandboxAt, recordAt, framesOf, lengthsOk, rowsOf}
+use Rattle.page_test.specs.Pages.{pagesOk}
 use Rattle.run_soundness.specs.Test.{runsOk}
 use Rattle.soundness.specs.Test.{sandboxOk, sandboxesOk, runsOkAt, keptOk, soundb}
 use Rattle.soundness.proofs.TestLaws.{Tested, tested}
@@ -125,7 +126,7 @@ module _ (image : List ℕ) (w v : World) (E : AlikeButBacks w v) where
 
   module _ (T : Tested image w) (s : ℕ) (row : s < 4) where
     abbrev b : Record
-    b = sandboxAt w s .rec
+    b = recordAt w s
 
     abbrev sameIn : World → ℕ → Bool
     sameIn u i = sameBytes 256 (pageRead image (u .store) b s i) (copyRead image (u .store) b s i)

@@ -4,8 +4,8 @@ use Rattle.interface.specs.Slots.{Slots, isMapped}
 use Rattle.pages.specs.Parts.{listed}
 use Rattle.state.specs.World.{sandboxAt}
 use Rattle.plain.specs.Machine.{Given, Core}
-use Rattle.plain.specs.Lists.{upTo, toldTo}
-use Rattle.plain.proofs.KeepsNothingLaws.{alike-after-all, told-alike}
+use Rattle.plain_claims.specs.Lists.{upTo, toldTo}
+use Rattle.plain_claims.proofs.KeepsNothingLaws.{alike-after-all, told-alike}
 use Rattle.simulation.specs.Lent.{Lent}
 use Rattle.simulation.proofs.ReadSteps.{page-read}
 use Rattle.claims.proofs.Runs.{list-agrees, demand-2}

@@ -22,6 +22,7 @@ use Rattle.interface.specs.Gaps.{Unmaps, isHole, unmapOf, mappedAlone, allOk}
 use Rattle.interface.proofs.GapLaws.{without, none-in, without-none, unmap-fits, unmap-then, unmap-accepted, unmap-hole, unmap-over-gap, unmaps-of}
 use Rattle.interface.proofs.AcceptedLaws.{accepted}
 use Rattle.interface.proofs.AloneLaws.{Unmapping, alone}
+use Rattle.interface.specs.Numbers.{pagesIn}
 use Rattle.table.specs.Store.{entry, frontOf, freeTo}
 use Rattle.table.proofs.FreeLaws.{freeTo-join, freeTo-none}
 use Rattle.areas.specs.declared.area.Areas.{Areas}
@@ -33,7 +34,7 @@ use Rattle.packing.proofs.PackLaws.{areas-fit}
 use Rattle.packing.proofs.KeptLaws.{repack-slots, pack-slots}
 use Rattle.state.specs.declared.sandbox.Sandbox.{Sandbox}
 use Rattle.records.specs.Record.{withPresent}
-use Rattle.state.specs.World.{World, sandboxAt, closedSandbox, pagesIn}
+use Rattle.state.specs.World.{World, sandboxAt, recordAt, closedSandbox}
 use Rattle.state.specs.Sound.{SoundAt, Sound}
 use Rattle.soundness.proofs.TestLaws.{sound-of}
 use Rattle.areas.proofs.OrderLaws.{slots-inside}
@@ -68,15 +69,15 @@ run-cons (more {o = o} {as′ = rest} s r) = record { outcome = o; rest = rest; 
 
 module _ (image : List ℕ) (s : ℕ) (row : s < 4) where
   abbrev slotsIn : World → Slots
-  slotsIn w = slots (sandboxAt w s .rec .present)
+  slotsIn w = slots (recordAt w s .present)
 
   record Good (w : World) : Type 0 where
     sound : Sound image w
-    opened : sandboxAt w s .rec .opened ≡ true
+    opened : recordAt w s .opened ≡ true
 
   -- the sandbox with these areas
   abbrev placed : World → Areas → Sandbox
-  placed w present = record { rec = withPresent present (sandboxAt w s .rec); runs = sandboxAt w s .runs }
+  placed w present = record { rec = withPresent present (recordAt w s); runs = sandboxAt w s .runs }
 
   abbrev unmappedAt : World → ℕ → ℕ → World
   unmappedAt w a n = record {
@@ -90,8 +91,8 @@ module _ (image : List ℕ) (s : ℕ) (row : s < 4) where
 
     unmapped-none : (a n : ℕ) → a + n ≤ 64 → ((i : ℕ) → inside a n i ≡ true → isMapped (slotsIn w i) ≡ false) → unmappedAt w a n ≡ w
     unmapped-none a n l u =
-        let present : pack (without a n (slotsIn w)) .areas ≡ sandboxAt w s .rec .present =
-        ap (λ (f : Slots). pack f .areas) (without-none (slotsIn w) a n u) ∙ pack-slots _ (sandboxAt w s .rec .present) (own .rec .present) in
+        let present : pack (without a n (slotsIn w)) .areas ≡ recordAt w s .present =
+        ap (λ (f : Slots). pack f .areas) (without-none (slotsIn w) a n u) ∙ pack-slots _ (recordAt w s .present) (own .rec .present) in
         let sandboxes : set (w .sandboxes) s (placed w (pack (without a n (slotsIn w)) .areas)) ≡ w .sandboxes =
         rw present (set-getD (w .sandboxes) s closedSandbox) in
         let store : freeTo 256 (frontOf s a) (w .store) n ≡ w .store =
@@ -111,7 +112,7 @@ module _ (image : List ℕ) (s : ℕ) (row : s < 4) where
           (omega (arith, G .sound .row))
 
       packed-slots : slots (pack (without a n (slotsIn w)) .areas) ≡ without a n (slotsIn w)
-      packed-slots = repack-slots _ (sandboxAt w s .rec .present) (own .rec .present) a n Unmap (areas-fit (without a n (slotsIn w)) few) l
+      packed-slots = repack-slots _ (recordAt w s .present) (own .rec .present) a n Unmap (areas-fit (without a n (slotsIn w)) few) l
 
       unmapped-slots : slotsIn (unmappedAt w a n) ≡ without a n (slotsIn w)
       unmapped-slots = ap (λ (b : Sandbox). slots (b .rec .present)) here ∙ packed-slots
@@ -129,7 +130,7 @@ module _ (image : List ℕ) (s : ℕ) (row : s < 4) where
 -- ---- one unmap
 
 settled : (image : List ℕ) (w : World) → Sound image w → (s : ℕ) → s < 4 → Settled (viewAt image w s)
-settled image w S s l = settled-of (pagesIn (length image)) (sandboxAt w s .rec) (S .each s l .rec) _ _ _ _
+settled image w S s l = settled-of (pagesIn (length image)) (recordAt w s) (S .each s l .rec) _ _ _ _
 
 module _ (image : List ℕ) (w : World) (q : Request) (o : Outcome) (S : Sound image w) (u : Unmaps (viewAt image w (q .sandbox)) q)
     (t : Stepped image w q o) where
@@ -203,7 +204,7 @@ module _ (image : List ℕ) (s : ℕ) (row : s < 4) where
     Good = Good image s row;
     unmapped = unmappedAt image s row;
     Leads = Leading;
-    few = λ w G. few-areas _ (sandboxAt w s .rec .present) (own image s row w G .rec .present);
+    few = λ w G. few-areas _ (recordAt w s .present) (own image s row w G .rec .present);
     none = unmapped-none image s row;
     nil = λ w as′ v run. run-nil run;
     fits = fits-after;
@@ -236,7 +237,7 @@ over-gaps image w q o S u t =
     record {
       answered =
           told ∙ rw (unmap-hole _ q (sound-of image w S) v u
-          (slots-inside _ (sandboxAt w (q .sandbox) .rec .present) (own image (q .sandbox) (u .row) w good .rec .present)))
+          (slots-inside _ (recordAt w (q .sandbox) .present) (own image (q .sandbox) (u .row) w good .rec .present)))
           (by-cases (eqb (areas f) 8 && isHole f (q .p1) (q .p2)) (λ e. rw e) (λ e. rw e));
       gap = λ i b m. told ∙ rw (unmap-over-gap _ q (sound-of image w S) v u i b m);
       nothing = λ clear.

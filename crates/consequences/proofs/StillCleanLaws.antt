@@ -7,11 +7,11 @@ use Rattle.interface.specs.declared.request.Request.{Request}
 use Rattle.interface.specs.Answers.{Answered}
 use Rattle.interface.specs.Requests.{Snapshot, Rewind}
 use Rattle.plain.specs.Machine.{Given, Plain, fresh, answer, answers, afterAll}
-use Rattle.plain.specs.Lists.{upTo, back}
-use Rattle.plain.specs.Claims.{compareOf}
-use Rattle.plain.proofs.TwoListsLaws.{after-append}
-use Rattle.plain.proofs.Claims.{claim-clean-after-snapshot, claim-clean-while-rewound, claim-clean-reads-copy}
-use Rattle.plain.proofs.Corollaries.{reads-change-nothing}
+use Rattle.plain_claims.specs.Lists.{upTo, back}
+use Rattle.plain_claims.specs.Claims.{compareOf}
+use Rattle.plain_claims.proofs.TwoListsLaws.{after-append}
+use Rattle.plain_claims.proofs.Claims.{claim-clean-after-snapshot, claim-clean-while-rewound, claim-clean-reads-copy}
+use Rattle.plain_claims.proofs.Corollaries.{reads-change-nothing}
 use Rattle.simulation.specs.Lent.{Lent}
 use Rattle.claims.proofs.Runs.{demand-2}
 use Rattle.claims.proofs.Demand3Laws.{answer-at, took-then}

@@ -20,25 +20,26 @@ use Rattle.interface.specs.Limits.{within}
 use Rattle.interface.specs.Outcome.{firstOf, slotsAfter, copyAfter}
 use Rattle.interface.specs.Refusals.{View, allMapped, applies, refusal}
 use Rattle.interface.specs.Examples.{refused, requestsOf, getsOf, call₁}
-use Rattle.frames.specs.Word.{bit, putBit}
+use Rattle.interface.specs.Numbers.{pagesIn}
+use Rattle.words.specs.Word.{bit, putBit}
 use Rattle.frames.specs.Frames.{mark, held as heldMark}
 use Rattle.pages.specs.Parts.{zeros}
 use Rattle.marks.specs.Marks.{addEntry, marksTo, marksb}
-use Rattle.state.specs.World.{World, worldOf, freshMachine, started, pagesIn, lengthsOk}
+use Rattle.state.specs.World.{World, worldOf, freshMachine, started, lengthsOk}
 use Rattle.state.specs.Start.{startedBy}
 use Rattle.state.specs.Lengths.{Lending, lendings}
 use Rattle.soundness.specs.Test.{soundb}
 use Rattle.state.proofs.LentLaws.{lengths-true}
 use Rattle.step.specs.Step.{Outcome, Stepped, numberAt}
 use Rattle.step.proofs.CallLaws.{number-two, number-three}
-use Rattle.plain.specs.Machine.{Given, fresh, closed, valueAt, coreValue, held, answer, answers}
+use Rattle.plain.specs.Machine.{Given, fresh, closed, valueAt, coreValue, framesHeld, answer, answers}
 use Rattle.plain.specs.Cases.{Case, casesOver, noImage, cases, sameAnswer, sameAnswers, allGiven}
 use Rattle.plain.specs.TurnedBack.{turnedBackCases}
 use Rattle.plain.specs.StillClean.{stillClean}
 use Rattle.plain.specs.OverGaps.{overGaps}
 use Rattle.plain.specs.KeptRuns.{keptRuns}
 use Rattle.plain.proofs.CaseLaws.{kept-runs}
-use Rattle.plain.proofs.Claims.{claim-cases, claim-turned-back, claim-still-clean, claim-over-gaps}
+use Rattle.plain_claims.proofs.Claims.{claim-cases, claim-turned-back, claim-still-clean, claim-over-gaps}
 use Rattle.simulation.specs.Lent.{Lent}
 use Rattle.simulation.proofs.StepLaws.{number-is, refused-leaves}
 use Rattle.simulation.proofs.SoundLaws.{started-agrees}
@@ -119,10 +120,10 @@ module _ (image : List ℕ) (w : World) (wrong : lengthsOk (length (w .store .po
 
 -- what the first request is decided from
 abbrev firstView : ℕ → ℕ → View
-firstView frames imagePages = record {
+firstView frames images = record {
   sound = true;
   frames = frames;
-  imagePages = imagePages;
+  images = images;
   shares = 0;
   opened = false;
   share = 0;
@@ -163,7 +164,7 @@ all-get-lent (c ∷ cs) e =
     (λ pool table image p t i o s. lent-answer pool table image q o s ∙ rw (p, t, i) (same-answer _ _ (given .0)), all-get-lent cs (given .1))
 
 pub lendings-get : AllGetLent lendings
-unfolding lendingsOk lentAnswer within allMapped firstOf slotsAfter copyAfter applies refusal coreValue held
+unfolding lendingsOk lentAnswer within allMapped firstOf slotsAfter copyAfter applies refusal coreValue framesHeld
     count sum every lowest inside over follows joins areas mappedPages uncommittedPages lowestGap chargeOf
 lendings-get = all-get-lent lendings refl
 

@@ -9,11 +9,11 @@ use Rattle.interface.specs.Answers.{Answered}
 use Rattle.interface.specs.Slots.{isMapped}
 use Rattle.pages.specs.Parts.{listed}
 use Rattle.areas.specs.Areas.{slots}
-use Rattle.state.specs.World.{World, sandboxAt}
+use Rattle.state.specs.World.{World, recordAt}
 use Rattle.content.specs.Content.{pageRead}
 use Rattle.plain.specs.Machine.{Given, fresh}
-use Rattle.plain.specs.Lists.{toldTo}
-use Rattle.plain.specs.KeepsNothing.{bareAnswers, bareUpTo}
+use Rattle.plain_claims.specs.Lists.{toldTo}
+use Rattle.plain_claims.specs.KeepsNothing.{bareAnswers, bareUpTo}
 use Rattle.claims.specs.Demands.{RunFrom}
 
 -- after a list of requests with these answers, in the world v
@@ -21,10 +21,10 @@ pub record AsKeepingNothing (g : Given) (qs : List Request) (as′ : List Answer
   -- "refusals": each sandbox is told that machine's numbers and values, call 9's value apart
   pub told : (s : ℕ) → toldTo s qs as′ ≡ toldTo s qs (bareAnswers g fresh qs)
   -- "Places": its pages, with their rights
-  pub places : (s : ℕ) → s < 4 → slots (sandboxAt v s .rec .present) ≡ bareUpTo g qs s .core .pages .slots
+  pub places : (s : ℕ) → s < 4 → slots (recordAt v s .present) ≡ bareUpTo g qs s .core .pages .slots
   -- "bytes": what each of them reads
-  pub bytes : (s i : ℕ) → s < 4 → i < 64 → isMapped (slots (sandboxAt v s .rec .present) i) ≡ true
-      → pageRead (g .image) (v .store) (sandboxAt v s .rec) s i ≡ listed 256 (bareUpTo g qs s .core .pages .bytes i)
+  pub bytes : (s i : ℕ) → s < 4 → i < 64 → isMapped (slots (recordAt v s .present) i) ≡ true
+      → pageRead (g .image) (v .store) (recordAt v s) s i ≡ listed 256 (bareUpTo g qs s .core .pages .bytes i)
 
 -- of every list from a fresh state
 abbrev pub KeepsNothing : Given → Type 0

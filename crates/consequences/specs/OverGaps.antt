@@ -12,14 +12,14 @@ use Rattle.interface.specs.Slots.{Slots, isMapped, areas, allAre}
 use Rattle.interface.specs.Examples.{ok, refused}
 use Rattle.interface.specs.Gaps.{Unmaps, isHole, mappedAlone, allOk}
 use Rattle.areas.specs.Areas.{slots}
-use Rattle.state.specs.World.{World, sandboxAt}
+use Rattle.state.specs.World.{World, recordAt}
 use Rattle.state.specs.Sound.{Sound}
 use Rattle.step.specs.Step.{viewAt, Outcome, Stepped}
 use Rattle.claims.specs.Demands.{Run}
 
 -- the pages of the sandbox that a request names
 abbrev pub pagesOf : World → Request → Slots
-pagesOf w q = slots (sandboxAt w (q .sandbox) .rec .present)
+pagesOf w q = slots (recordAt w (q .sandbox) .present)
 
 -- from the world w, the unmap q has the outcome o
 pub record OverGaps (image : List ℕ) (w : World) (q : Request) (o : Outcome) : Type 0 where

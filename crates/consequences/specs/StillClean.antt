@@ -10,14 +10,15 @@ use Rattle.interface.specs.Requests.{_is_, Read, Snapshot, Rewind, Compare}
 use Rattle.interface.specs.Slots.{isCommitted, rightsAt}
 use Rattle.interface.specs.Limits.{within}
 use Rattle.interface.specs.Examples.{ok, refused}
+use Rattle.interface.specs.Numbers.{pagesIn}
 use Rattle.pages.specs.Parts.{frame}
 use Rattle.table.specs.Store.{entry, frontOf, backOf}
 use Rattle.areas.specs.Areas.{slots}
-use Rattle.state.specs.World.{World, sandboxAt, framesOf, pagesIn}
+use Rattle.state.specs.World.{World, recordAt, framesOf}
 use Rattle.step.specs.Step.{Outcome, Stepped}
 use Rattle.plain.specs.Machine.{Given}
-use Rattle.plain.specs.Lists.{upTo, Rewound}
-use Rattle.plain.specs.Claims.{compareOf, copyAnswer}
+use Rattle.plain_claims.specs.Lists.{upTo, Rewound}
+use Rattle.plain_claims.specs.Claims.{compareOf, copyAnswer}
 use Rattle.claims.specs.Demands.{RunFrom, Took}
 
 -- ---- "no byte of its back frame can alter the answer"
@@ -26,8 +27,8 @@ use Rattle.claims.specs.Demands.{RunFrom, Took}
 pub record PassedOver (w : World) (s i : ℕ) : Type 0 where
   pub row : s < 4
   pub page : i < 64
-  pub committed : isCommitted (slots (sandboxAt w s .rec .present) i) ≡ true
-  pub rights : rightsAt (slots (sandboxAt w s .rec .present) i) ≡ rightsAt (slots (sandboxAt w s .rec .snapshot) i)
+  pub committed : isCommitted (slots (recordAt w s .present) i) ≡ true
+  pub rights : rightsAt (slots (recordAt w s .present) i) ≡ rightsAt (slots (recordAt w s .snapshot) i)
   pub frontless : entry (w .store) (frontOf s i) ≡ 0
 
 -- two worlds that differ in nothing but bytes of back frames of such pages

@@ -9,6 +9,7 @@ use Rattle.interface.specs.declared.page.Backing.the-variants.{Anonymous, Image
 use Rattle.interface.specs.declared.page.Slot.{Slot}
 use Rattle.interface.specs.declared.page.PageNo.{PageNo}
 use Rattle.interface.specs.Slots.{backingAt}
+use Rattle.interface.specs.Numbers.{pagesIn}
 use Rattle.table.specs.Store.{Store}
 use Rattle.table.specs.Backing.{backingEnd}
 use Rattle.table.specs.Virtual.{bytesUnder, bytesRead}
@@ -16,7 +17,6 @@ use Rattle.areas.specs.declared.area.Areas.{Areas}
 use Rattle.areas.specs.Areas.{slots}
 use Rattle.areas.specs.Formed.{WellFormed, ImagesExist}
 use Rattle.records.specs.declared.Record.{Record}
-use Rattle.state.specs.World.{pagesIn}
 use Rattle.records.proofs.ImageLaws.{image-exists}
 use Rattle.content.specs.Content.{pageUnder, pageRead}
 

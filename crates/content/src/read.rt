@@ -2,11 +2,10 @@
 ghost use mathlib.Core.Path.{_≡_};
 ghost use Prim.Native.Nat.{_<_};
 ghost use lib.ListN.{length, getD};
-ghost use Rattle.interface.specs.Numbers.{PageBytes, Sandboxes};
+ghost use Rattle.interface.specs.Numbers.{PageBytes, Sandboxes, pagesIn};
 ghost use Rattle.frames.specs.declared.Held.{Held as Words};
 ghost use Rattle.interface.specs.Requests.{Read, pageOf, offsetOf};
 ghost use Rattle.table.specs.Store.{kept, Ranged};
-ghost use Rattle.state.specs.World.{pagesIn};
 ghost use Rattle.rules.specs.Ready.{Fit, Ready};
 ghost use Rattle.content.specs.Content.{pageRead};
 use interface::PageNo;

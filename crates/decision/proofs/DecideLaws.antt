@@ -37,16 +37,16 @@ module _ (v : View) (q : Request) where
   Behind = Past (applies v q)
 
   -- row 6, by the test of the limits
-  pub limits-row : not (within (v .imagePages) q) ≡ applies v q OutsideLimits
+  pub limits-row : not (within (v .images) q) ≡ applies v q OutsideLimits
   unfolding applies
   limits-row = refl
 
   -- ---- what the rows before allow to be asked
 
   -- behind row 6 the request is within its limits
-  pub fit-of : v .imagePages ≤ 64 → Behind SnapshotTaken → Fit q
+  pub fit-of : v .images ≤ 64 → Behind SnapshotTaken → Fit q
   unfolding applies
-  fit-of h p = fit (v .imagePages) q h (not-false _ (p .0))
+  fit-of h p = fit (v .images) q h (not-false _ (p .0))
 
   -- rows 10 and 11 of a map
   module _ (p : Behind NotWritable) (isMap : (q is Map) ≡ true) where
@@ -74,7 +74,7 @@ module _ (v : View) (q : Request) where
       (λ t. rw (t, firstOf) (free-named p isMap t))
 
   -- behind row 11 what it would leave can be computed
-  pub passed-of : v .imagePages ≤ 64 → Behind NotWritable → Passed v q
+  pub passed-of : v .images ≤ 64 → Behind NotWritable → Passed v q
   unfolding applies
   passed-of h p =
       let mapped = p .1 .1 in

@@ -6,10 +6,10 @@
 ghost use mathlib.Core.Path.{_≡_};
 ghost use Prim.Native.Nat.{_<_};
 ghost use lib.ListN.{length};
-ghost use Rattle.interface.specs.Numbers.{PageBytes, Sandboxes};
+ghost use Rattle.interface.specs.Numbers.{PageBytes, Sandboxes, pagesIn};
 ghost use Rattle.interface.specs.Requests.{Map, Write};
 ghost use Rattle.table.specs.Store.{kept, Ranged};
-ghost use Rattle.state.specs.World.{worldOf, pagesIn};
+ghost use Rattle.state.specs.World.{worldOf};
 ghost use Rattle.rules.specs.Ready.{Fit, Ready};
 ghost use Rattle.memory.specs.Parts.{Asked, LeftBy, StoreStepped};
 use frames::Held;

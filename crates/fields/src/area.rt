@@ -1,33 +1,22 @@
 // An area in bytes.
 ghost use mathlib.Core.Path.{_≡_};
 ghost use lib.ListN.{length};
-ghost use mathlib.Core.List.{[], _∷_};
-ghost use Rattle.interface.specs.Slots.{startOf};
-ghost use Rattle.layout.specs.Layout.{areaSize, kindOf, areaBytes, backingFrom, areaFrom, isArea};
+ghost use Rattle.layout.specs.Layout.{areaSize, areaBytes, backingFrom, areaFrom, isArea};
 use crate::word::flag;
 use areas::area::Area;
 use interface::Backing;
 use interface::ImagePageNo;
 use interface::PageNo;
+use interface::Request;
 use layout::size::AreaAt;
+use slots::kind_of;
+use slots::start_of;
 
 // The kinds of a backing.
 struct Kind;
 
 impl Kind {
-    const ANONYMOUS: u8 = 0;
-
-    const IMAGE: u8 = 1;
-}
-
-// The last two bytes of an area: the kind of its backing, and the first image page, 0 of an anonymous one.
-fn backing_bytes(backing: Backing) -> [u8; 2]
-    ensures { λ r. ⌜ r ≡ kindOf backing ∷ startOf backing ∷ [] ⌝ }
-{
-    match backing {
-        Backing::Anonymous => [Kind::ANONYMOUS, 0],
-        Backing::Image(first) => [Kind::IMAGE, first.0],
-    }
+    const IMAGE: u8 = Request::IMAGE as u8;
 }
 
 fn backing_from(kind: u8, page: u8) -> Backing
@@ -45,13 +34,12 @@ pub fn encode_area(area: Area, out: &mut [u8])
     ensures { λ r. ⌜ now (out .exit) ≡ areaBytes area ⌝ }
 {
     let backing = area.backing;
-    let last = backing_bytes(backing);
     out[AreaAt::FIRST] = area.first.0;
     out[AreaAt::PAGES] = area.pages;
     out[AreaAt::RIGHTS] = area.rights;
     out[AreaAt::MARK] = flag(area.committed);
-    out[AreaAt::KIND] = last[0];
-    out[AreaAt::IMAGE_PAGE] = last[1];
+    out[AreaAt::KIND] = kind_of(backing);
+    out[AreaAt::IMAGE_PAGE] = start_of(backing);
 }
 
 pub fn decode_area(bytes: &[u8]) -> Area

@@ -11,7 +11,7 @@ use Rattle.state.specs.World.{worldOf}
 use Rattle.layout.specs.Layout.{isState, stateFrom}
 use Rattle.archive.specs.Written.{writtenAs}
 use Rattle.replay.specs.Snapshot.{written}
-use Rattle.archiving.specs.Whole.{left as leaves}
+use Rattle.whole_roll.specs.Whole.{left as leaves}
 use Rattle.host_calls.specs.declared.Told.{Told}
 use Rattle.host_calls.specs.Calls.{Handed, toldBy}
 use Rattle.filing.specs.Filed.{left, filed}

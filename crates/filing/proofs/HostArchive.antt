@@ -12,7 +12,7 @@ use Rattle.interface.specs.declared.request.Request.{Request}
 use Rattle.interface.specs.Answers.{Answered}
 use Rattle.interface.specs.Refusals.{View, isTaken, archiveRefusal}
 use Rattle.records.specs.Record.{copyOf}
-use Rattle.state.specs.World.{World, sandboxAt}
+use Rattle.state.specs.World.{World, recordAt}
 use Rattle.step.specs.Step.{viewAt}
 use Rattle.soundness.specs.Test.{soundb}
 use Rattle.layout.specs.Layout.{isState}
@@ -35,8 +35,8 @@ use Rattle.filing.specs.HostArchive.{Replays, HostArchive, HostFiles}
 
 -- ---- what is not refused
 
-taken-of : (w : World) (s : ℕ) → isTaken (copyOf (sandboxAt w s .rec)) ≡ true → sandboxAt w s .rec .taken ≡ true
-taken-of w s h = by-cases (sandboxAt w s .rec .taken) (λ e. e) (λ e. absurd (false≢true (rw e at h)))
+taken-of : (w : World) (s : ℕ) → isTaken (copyOf (recordAt w s)) ≡ true → recordAt w s .taken ≡ true
+taken-of w s h = by-cases (recordAt w s .taken) (λ e. e) (λ e. absurd (false≢true (rw e at h)))
 
 was-allowed : (image : List ℕ) (w : World) (s : ℕ) (out : List ℕ) → written image w s out .answer .number ≡ 0
     → Allowed (viewAt image w s) s (length (archiveOf image w s) * 43) (length out)
@@ -65,7 +65,7 @@ module _ (image : List ℕ) (h : Handed) (ok : startNumber image h ≡ 0) where
       unfolding filed
       files = rw a-state
 
-      module _ (row : s < 4) (taken : sandboxAt (worldIn l) s .rec .taken ≡ true) where
+      module _ (row : s < 4) (taken : recordAt (worldIn l) s .taken ≡ true) where
         snapped : Snapped g s (worldIn l)
         snapped = record { after = record { list = qs; answers = as′; run = run }; row = row; taken = taken }
 

@@ -6,8 +6,8 @@ use mathlib.Core.List.{List}
 use lib.ListN.{length}
 use Rattle.interface.specs.declared.request.Request.{Request}
 use Rattle.interface.specs.Answers.{Answered}
-use Rattle.state.specs.World.{sandboxAt}
-use Rattle.plain.specs.Lists.{upTo}
+use Rattle.state.specs.World.{recordAt}
+use Rattle.plain_claims.specs.Lists.{upTo}
 use Rattle.roll.specs.Play.{linesIn, requests}
 use Rattle.archive.specs.Segments.{AllTaken}
 use Rattle.archive.specs.Written.{plainWritten}
@@ -36,7 +36,7 @@ pub record HostArchive (image : List ℕ) (h : Handed) : Type 0 where
       → (s : ℕ) (out : List ℕ) → filed image l s out ≡ plainWritten (givenBy image h) (upTo (givenBy image h) qs) s out
   -- a sandbox with a snapshot is never refused its roll where the output has 16,402 times 43 bytes
   pub accepted : (qs : List Request) (as′ : List Answered) (l : Handed) → Calls image (startHands image h) qs as′ l
-      → (s : ℕ) (out : List ℕ) → s < 4 → sandboxAt (worldIn l) s .rec .taken ≡ true → 705286 ≤ length out → filed image l s out .answer .number ≡ 0
+      → (s : ℕ) (out : List ℕ) → s < 4 → recordAt (worldIn l) s .taken ≡ true → 705286 ≤ length out → filed image l s out .answer .number ≡ 0
   pub replays : (qs : List Request) (as′ : List Answered) (l : Handed) → Calls image (startHands image h) qs as′ l
       → (s : ℕ) (out : List ℕ) → filed image l s out .answer .number ≡ 0 → Replays image h l s out
 

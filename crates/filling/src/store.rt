@@ -1,22 +1,17 @@
-// What is put into the frames of pages: a byte stored, a frame taken, a front restored.
+// What is put into the frames of pages: a byte stored, a frame taken.
 ghost use mathlib.Core.Path.{_≡_};
 ghost use Prim.Native.Nat.{_+_, _*_, _≤_, _<_};
 ghost use lib.ListN.{length};
 ghost use Rattle.interface.specs.Numbers.{PageBytes, PageCount, Sandboxes};
-ghost use Rattle.interface.specs.Slots.{isCommitted, backingAt};
 ghost use Rattle.frames.specs.declared.Held.{Held as Words};
-ghost use Rattle.pages.specs.Parts.{setFrame};
-ghost use Rattle.table.specs.Store.{kept, frontOf, pageIn, pageFrom, Ranged, take, storeByte, rewindPage};
-ghost use Rattle.table.specs.Backing.{backingPage, backingEnd};
-ghost use Rattle.table.specs.Virtual.{frontAt, backAt, bytesUnder, Placed};
+ghost use Rattle.table.specs.Store.{kept, frontOf, Ranged, take, storeByte};
+ghost use Rattle.table.specs.Virtual.{frontAt, bytesUnder, Placed};
 use frames::FrameNo;
 use frames::Held;
-use freeing::store::free_front;
-use interface::Backing;
 use interface::PageNo;
+use page_fill::fill_frame;
 use slots::backing_at;
 use slots::is_committed;
-use table::entry::back;
 use table::entry::back_if;
 use table::entry::frame_of;
 use table::entry::front;
@@ -65,50 +60,4 @@ pub fn take(
     let at = front_index(page.sandbox, number);
     table[at] = f.0 as u16 + 1;
     held.with(f)
-}
-
-// One page of a rewind: a committed page "keeps its front, whose bytes become the snapshot's", any other gives it up. Without a front there is
-// nothing to do.
-pub fn restore_page(
-    held: Held,
-    pool: &mut [u8],
-    table: &mut [u16],
-    image: &[u8],
-    page: VirtualPage,
-) -> Held
-    requires { ⌜ Ranged PageBytes (now pool) (now table) ⌝ }
-    requires { ⌜ Placed (now image) page ⌝ }
-    ensures { λ r. ⌜ (let before = kept held (now (pool .entry)) (now (table .entry)) in
-        kept r (now (pool .exit)) (now (table .exit))
-        ≡ rewindPage PageBytes (frontAt page) (backAt page) (isCommitted (page .slot))
-        (backingPage (now (image .entry)) (backingAt (page .slot))) before) ⌝ }
-{
-    let number = page.number;
-    let front = front(table, page.sandbox, number);
-    if front == 0 {
-        return held;
-    }
-    let slot = page.slot;
-    if !is_committed(slot) {
-        return free_front(held, pool, table, page.sandbox, number);
-    }
-    let back = back(table, page.sandbox, number);
-    fill_frame(pool, frame_of(front), back, image, backing_at(slot));
-    held
-}
-
-// Frame `f` gets the bytes of the frame that an entry names, or the backing's where it names none.
-fn fill_frame(pool: &mut [u8], f: FrameNo, entry: u16, image: &[u8], backing: Backing)
-    requires { ⌜ f .0 * PageBytes + PageBytes ≤ length (now pool) ⌝ }
-    requires { ⌜ entry ≤ 128 ⌝ }
-    requires { ⌜ entry * PageBytes ≤ length (now pool) ⌝ }
-    requires { ⌜ backingEnd backing * PageBytes ≤ length (now image) ⌝ }
-    ensures { λ r. ⌜ now (pool .exit) ≡ setFrame PageBytes (now (pool .entry)) (f .0)
-        (pageFrom (backingPage (now (image .entry)) backing) (pageIn PageBytes (now (pool .entry)) entry)) ⌝ }
-{
-    if entry == 0 {
-        crate::backing::fill_frame(pool, f, image, backing);
-        return;
-    }
-    pool::copy_frame(pool, frame_of(entry), f);
 }

@@ -7,11 +7,11 @@ use native.Mathlib.Omega.{arith}
 use lib.Pow.{pow-pos, pow-mono, high, ones-split, ones-lt}
 use lib.Bits.{bitAnd, and-mask}
 use lib.Count.{leadingZeros, leading-top}
-use Rattle.frames.specs.Word.{bit}
+use Rattle.words.specs.Word.{bit}
 use Rattle.frames.specs.Frames.{greatest}
 use Rattle.frames.specs.declared.Free.the-variants.{Frame, None}
-use Rattle.frames.proofs.WordLaws.{bit-top, bit-above}
-use Rattle.frames.proofs.OperatorLaws.{bit-not, bit-mod}
+use Rattle.words.proofs.WordLaws.{bit-top, bit-above}
+use Rattle.words.proofs.OperatorLaws.{bit-not, bit-mod}
 use Rattle.frames.proofs.FrameLaws.{lt-or-ge}
 use Rattle.frames.proofs.GreatestLaws.{greatest-none, greatest-is}
 

@@ -3,7 +3,7 @@ use mathlib.Core.Path.{_≡_, refl}
 use Rattle.basics.specs.Ranges.{sum}
 use Rattle.frames.specs.declared.Held.{Held}
 use Rattle.frames.specs.declared.Free.the-variants.{Frame}
-use Rattle.frames.specs.Word.{bit, putBit}
+use Rattle.words.specs.Word.{bit, putBit}
 use Rattle.frames.specs.Frames.{held, mark, noneHeld, countHeld, greatest}
 
 two : Held

@@ -12,11 +12,11 @@ use Rattle.basics.specs.Choice.{_when_else_}
 use Rattle.basics.specs.Ranges.{sum}
 use Rattle.basics.proofs.TestLaws.{by-cases, and-left, and-right, and-of}
 use Rattle.basics.proofs.CountLaws.{sum-put}
-use Rattle.frames.specs.Word.{bit}
+use Rattle.words.specs.Word.{bit}
 use Rattle.frames.specs.Frames.{held, mark, noneHeld, sameHeld, countHeld, Within}
 use Rattle.frames.specs.declared.Held.{Held}
-use Rattle.frames.proofs.SumLaws.{sum-same, sum-add, sum-none, none-of-sum, sum-le}
-use Rattle.frames.proofs.WordLaws.{bit-lt, bit-put-same, bit-put-other, put-put, put-bit, put-lt, ones-sum, word-ext, bit-above}
+use Rattle.words.proofs.SumLaws.{sum-same, sum-add, sum-none, none-of-sum, sum-le}
+use Rattle.words.proofs.WordLaws.{bit-lt, bit-put-same, bit-put-other, put-put, put-bit, put-lt, ones-sum, word-ext, bit-above}
 
 pub lt-or-ge : (m n : ℕ) → (m < n) ⊎ (n ≤ m)
 lt-or-ge m n = by-cases (ltb m n) (λ e. inl (ltb-true m n e)) (λ e. inr (ltb-false m n e))

@@ -1,6 +1,3 @@
-pub mod SumLaws
-pub mod WordLaws
-pub mod OperatorLaws
 pub mod FrameLaws
 pub mod PairLaws
 pub mod GreatestLaws

@@ -6,7 +6,7 @@ use lib.Dec.{ltb, eqb}
 use Rattle.basics.specs.Choice.{_when_else_}
 use lib.Bits.{bitAnd, bitOr}
 use Rattle.basics.specs.Ranges.{sum, lowest}
-use Rattle.frames.specs.Word.{bit, putBit}
+use Rattle.words.specs.Word.{bit, putBit}
 use Rattle.frames.specs.declared.Held.{Held}
 use Rattle.frames.specs.declared.Free.{Free}
 use Rattle.frames.specs.declared.Free.the-variants.{Frame, None}

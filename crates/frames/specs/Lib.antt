@@ -1,3 +1,2 @@
--- In reading order.
-pub mod Word
+-- The one file.
 pub mod Frames

@@ -1,14 +1,17 @@
 // Held frames, 'marked one bit a frame', in two 64-bit words.
 // It promises: each method's outcome is a definition of specs/Frames.antt, which speaks of the mark of a frame by the frame's number.
 // Callers use the laws of these definitions, proofs/FrameLaws.antt (marks, counts) and proofs/GreatestLaws.antt, and never the bits.
-// It stands on `basics` alone.
+// It stands on `words` for the bits of a word.
 ghost use mathlib.Core.Path.{_≡_};
 ghost use Prim.Native.Nat.{_≤_, _<_};
 ghost use lib.Dec.{eqb};
-ghost use Rattle.basics.specs.Ranges.{one, lowest};
-ghost use Rattle.frames.specs.Word.{bit, putBit};
+ghost use Rattle.basics.specs.Ranges.{one};
+ghost use Rattle.words.specs.Word.{bit};
 ghost use Rattle.frames.specs.Frames.{held, mark, noneHeld, sameHeld, countHeld, greatest};
 ghost use Rattle.frames.specs.Frames.{leastHeld, bothHeld, apartHeld};
+use words::has;
+use words::lowest_set;
+use words::put;
 
 // The number of a frame of the pool: no page number and no image page number.
 pub struct FrameNo(pub u8);
@@ -134,13 +137,6 @@ impl Held {
     }
 }
 
-// The lowest place whose bit is set; 64 where none is.
-fn lowest_set(word: u64) -> u8
-    ensures { λ r. ⌜ r ≡ lowest (λ k. eqb (bit word k) 1) 0 64 ⌝ }
-{
-    u64::trailing_zeros(word) as u8
-}
-
 // The same marks, and this frame held or not.
 fn marked(marks: Held, frame: FrameNo, on: bool) -> Held
     requires { ⌜ frame .0 < 128 ⌝ }
@@ -157,26 +153,6 @@ fn marked(marks: Held, frame: FrameNo, on: bool) -> Held
             low: marks.low,
             high: put(marks.high, n - Held::WORD, on),
         }
-    }
-}
-
-// Whether the bit at a place is set.
-fn has(word: u64, place: u8) -> bool
-    requires { ⌜ place < 64 ⌝ }
-    ensures { λ r. ⌜ r ≡ eqb (bit word place) 1 ⌝ }
-{
-    (word >> place) & 1 == 1
-}
-
-// The word with the bit at a place set, or not set.
-fn put(word: u64, place: u8, on: bool) -> u64
-    requires { ⌜ place < 64 ⌝ }
-    ensures { λ r. ⌜ r ≡ putBit word place (one on) ⌝ }
-{
-    if on {
-        word | (1u64 << place)
-    } else {
-        word & !(1u64 << place)
     }
 }
 

@@ -9,14 +9,15 @@ use Rattle.interface.specs.Answers.{Answered}
 use Rattle.interface.specs.Requests.{Snapshot, Rewind}
 use Rattle.interface.specs.Slots.{allAre}
 use Rattle.interface.specs.Gaps.{Unmaps}
+use Rattle.interface.specs.Numbers.{pagesIn}
 use Rattle.pages.specs.Parts.{zeros}
-use Rattle.state.specs.World.{pagesIn, lengthsOk}
+use Rattle.state.specs.World.{lengthsOk}
 use Rattle.step.specs.Step.{viewAt}
 use Rattle.state.specs.Sound.{Sound}
 use Rattle.layout.specs.Rows.{Bytes}
 use Rattle.layout.specs.Layout.{stateSize, isState}
 use Rattle.plain.specs.Machine.{Given, fresh, answers}
-use Rattle.plain.specs.Lists.{naming, toldLater, Rewound}
+use Rattle.plain_claims.specs.Lists.{naming, toldLater, Rewound}
 use Rattle.claims.specs.Demands.{Run, RunFrom, Demand1, AsSnapshot, Frames, Promise, Took}
 use Rattle.consequences.specs.OverGaps.{pagesOf, OverGaps}
 use Rattle.host_calls.specs.declared.Told.{Told}

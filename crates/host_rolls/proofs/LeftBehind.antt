@@ -15,8 +15,8 @@ use Rattle.marks.specs.Marks.{from}
 use Rattle.table.specs.Store.{frontOf, backOf}
 use Rattle.state.specs.World.{World, worldOf, freshMachine, sandboxAt}
 use Rattle.state.specs.Start.{startedBy}
-use Rattle.plain.specs.Machine.{Given, held, copyBytes}
-use Rattle.plain.specs.Lists.{upTo}
+use Rattle.plain.specs.Machine.{Given, framesHeld, copyBytes}
+use Rattle.plain_claims.specs.Lists.{upTo}
 use Rattle.simulation.specs.Lent.{Lent}
 use Rattle.simulation.proofs.HeldSteps.{used-one, entries-same}
 use Rattle.claims.specs.Demands.{Run, none, more, RunFrom}
@@ -31,13 +31,13 @@ use Rattle.host_rolls.specs.Promised.{rightLengths}
 
 module _ (g : Given) (L : Lent g) (qs : List Request) (as′ : List Answered) (v : World) (r : RunFrom g qs as′ v) where
   left-at : (s : ℕ) → s < 4 → LeftAt (v .store .pool) (v .store .table) s (upTo g qs s)
-  unfolding held
+  unfolding framesHeld
   left-at s l =
       let A = list-agrees g L qs as′ v r in
       let a = A .each s l in
       let k = upTo g qs s in
       let D = claim-3 g L in
-      let counts : usedBelow (from (s * 128) (v .store .table)) 128 + sum (k .traces .runs) 8 ≡ held (k .traces) =
+      let counts : usedBelow (from (s * 128) (v .store .table)) 128 + sum (k .traces .runs) 8 ≡ framesHeld (k .traces) =
       omega (arith, entries-same g (v .store) s (sandboxAt v s) k a) in
       record {
         frontMarks = λ i d. used-one (v .store) (frontOf s i) (k .traces .front i) (k .core .pages .bytes i) (a .fronts i d);

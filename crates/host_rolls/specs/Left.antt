@@ -11,8 +11,8 @@ use Rattle.pages.specs.Parts.{frame, zeros, listed}
 use Rattle.marks.specs.Named.{used, usedBelow}
 use Rattle.marks.specs.Marks.{from}
 use Rattle.table.specs.Store.{frontOf, backOf}
-use Rattle.plain.specs.Machine.{Given, Kept, copySlots, copyBytes, held, shares}
-use Rattle.plain.specs.Lists.{upTo, Rewound}
+use Rattle.plain.specs.Machine.{Given, Kept, copySlots, copyBytes, framesHeld, shares}
+use Rattle.plain_claims.specs.Lists.{upTo, Rewound}
 
 -- entry k of a table: "An entry is 0 for none, else a frame number plus one"
 abbrev pub Names : List ℕ → ℕ → ℕ → Type 0
@@ -35,7 +35,7 @@ pub record LeftAt (pool table : List ℕ) (s : ℕ) (k : Kept) : Type 0 where
   pub fronts : (i f : ℕ) → i < 64 → Names table (frontOf s i) f → Holds pool f (k .core .pages .bytes i)
   pub backs : (i f : ℕ) → i < 64 → Names table (backOf s i) f → Holds pool f (copyBytes (k .core .copy) i)
   -- "A sandbox holds the frames that its front and back entries name; call 9 counts them", and the frames that its runs keep (A3): a report would say so many
-  pub counted : usedBelow (from (s * 128) table) 128 + sum (k .traces .runs) 8 ≡ held (k .traces)
+  pub counted : usedBelow (from (s * 128) table) 128 + sum (k .traces .runs) 8 ≡ framesHeld (k .traces)
   -- "no sandbox holds more than its share", kept frames among them; "a sandbox's mapped pages and backs together are at most its share"
   pub share : usedBelow (from (s * 128) table) 128 + sum (k .traces .runs) 8 ≤ k .core .share
   pub covered : mappedPages (k .core .pages .slots) + usedBelow (from (s * 128 + 64) table) 64 ≤ k .core .share

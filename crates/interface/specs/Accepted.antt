@@ -17,7 +17,7 @@ pub record Accepted (v : View) (q : Request) : Type 0 where
   pub inRow : q .sandbox < Sandboxes
   pub opened : (q is Open) ≡ false → v .opened ≡ true
   pub closed : (q is Open) ≡ true → v .opened ≡ false
-  pub inLimits : within (v .imagePages) q ≡ true
+  pub inLimits : within (v .images) q ≡ true
   pub untaken : (q is Snapshot) ≡ true → isTaken (v .copy) ≡ false
   pub taken : needsSnapshot q ≡ true → isTaken (v .copy) ≡ true
   pub mapped : allMapped (v .slots) q ≡ true

@@ -11,7 +11,7 @@ use Rattle.interface.specs.Refusals.{View, archiveRefusal}
 
 -- a sandbox with share 8 over a pool of 128 frames, nothing mapped
 abbrev pub seen : Bool → Bool → Option Slots → View
-seen isSound isOpen copy = record { sound = isSound; frames = 128; imagePages = 0; shares = 8; opened = isOpen; share = 8; slots = λ i. Unmapped; copy = copy }
+seen isSound isOpen copy = record { sound = isSound; frames = 128; images = 0; shares = 8; opened = isOpen; share = 8; slots = λ i. Unmapped; copy = copy }
 
 abbrev pub shut : View
 shut = seen true false none

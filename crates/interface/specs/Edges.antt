@@ -112,7 +112,7 @@ eightEdges =
 -- ---- the sandboxes, as refusals are decided from them: a pool of 128 frames, an image of 2 pages, no other share, no snapshot
 
 abbrev pub viewOf : Bool → Bool → ℕ → Slots → View
-viewOf isSound isOpen n f = record { sound = isSound; frames = 128; imagePages = 2; shares = n; opened = isOpen; share = n; slots = f; copy = none }
+viewOf isSound isOpen n f = record { sound = isSound; frames = 128; images = 2; shares = n; opened = isOpen; share = n; slots = f; copy = none }
 
 -- all 64 pages mapped, as by `2 0 0 64 0 0 3`
 abbrev pub full : Slots

@@ -19,7 +19,7 @@ pub record Unmaps (v : View) (q : Request) : Type 0 where
   pub called : q .code ≡ Unmap
   pub row : q .sandbox < Sandboxes
   pub opened : v .opened ≡ true
-  pub limits : within (v .imagePages) q ≡ true
+  pub limits : within (v .images) q ≡ true
 
 -- "Areas are the longest runs of neighbouring pages": the n pages from a on are a hole in one of them, where each of these pages, and the page behind them,
 -- goes on with the area of the page before it

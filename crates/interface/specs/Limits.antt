@@ -24,9 +24,9 @@ placeOk first n = eqb first AnyPage && between 1 PageCount n || pagesOk first n
 
 -- "p3 backing, 0 anonymous, 1 image; p4 first image page (0 when anonymous)", no image page past the image
 abbrev pub backingOk : ℕ → Request → Bool
-backingOk imagePages q =
+backingOk images q =
     eqb (q .p4) 0 when eqb (q .p3) AnonymousBacking else
-    eqb (q .p3) ImageBacking && leb (q .p4 + q .p2) imagePages
+    eqb (q .p3) ImageBacking && leb (q .p4 + q .p2) images
 
 -- "Parameters are p1 to p5; those unused must be 0": a call uses none, one, two or three of them
 abbrev pub usesThree : Request → Bool
@@ -43,9 +43,9 @@ usesNone q = eqb (q .p1) 0 && usesOne q
 
 -- every parameter is within its limits
 unfoldable pub within : ℕ → Request → Bool
-within imagePages q =
+within images q =
     between 1 MostShare (q .p1) && usesOne q when q is Open else
-    placeOk (q .p1) (q .p2) && (backingOk imagePages q && rightsOk (q .p5)) when q is Map else
+    placeOk (q .p1) (q .p2) && (backingOk images q && rightsOk (q .p5)) when q is Map else
     pagesOk (q .p1) (q .p2) && usesTwo q when q is Unmap else
     pagesOk (q .p1) (q .p2) && (rightsOk (q .p3) && usesThree q) when q is Protect else
     ltb (q .p1) Addresses && usesOne q when q is Read else

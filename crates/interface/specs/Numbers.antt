@@ -1,6 +1,6 @@
 -- The numbers of document 01, each under its sentence; the codes of the calls stand in Requests. The code has a constant for each, beside the type that it is
 -- about: `PageNo::COUNT` for `PageCount`.
-use Prim.Native.Nat.{ℕ}
+use Prim.Native.Nat.{ℕ, _/_}
 
 -- "Four sandboxes stand in a row, numbered 0 to 3."
 abbrev pub Sandboxes : ℕ
@@ -49,6 +49,10 @@ MostShare = 128
 -- a byte is 0 to 255
 abbrev pub ByteValues : ℕ
 ByteValues = 256
+
+-- the number of whole pages in so many bytes
+abbrev pub pagesIn : ℕ → ℕ
+pagesIn bytes = bytes / PageBytes
 
 -- "The pool is 1 to 128 frames of 256 bytes."
 abbrev pub MostFrames : ℕ

@@ -23,7 +23,7 @@ pub record View : Type 0 where
   pub sound : Bool
   -- frames of the pool, pages of the image, the shares of all sandboxes together
   pub frames : ℕ
-  pub imagePages : ℕ
+  pub images : ℕ
   pub shares : ℕ
   -- of the sandbox that the request names
   pub opened : Bool
@@ -63,7 +63,7 @@ applies v q NotOpen = not (ltb (q .sandbox) Sandboxes) || not (q is Open) && not
 -- "open of an open sandbox"
 applies v q AlreadyOpen = q is Open && v .opened
 -- "a parameter outside its limits .. an unused one not 0"
-applies v q OutsideLimits = not (within (v .imagePages) q)
+applies v q OutsideLimits = not (within (v .images) q)
 -- "snapshot already taken"
 applies v q SnapshotTaken = q is Snapshot && isTaken (v .copy)
 -- "rewind without a snapshot"; call 10: "Without a snapshot it is refusal 8."

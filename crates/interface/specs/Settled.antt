@@ -1,5 +1,5 @@
 -- The view of a sandbox of a sound state: "areas, the snapshot's too, are at most 8 .. the snapshot's areas are marked committed .. the charge and share
--- limits hold". Rows 13 and 14 are decided from it. (Proved of every sound state in state's proofs/SettledLaws.)
+-- limits hold". Rows 13 and 14 are decided from it. (Proved of every sound record in records' proofs/SettledLaws.)
 use Prim.Native.Nat.{ℕ, _≤_}
 use mathlib.Core.Path.{_≡_}
 use mathlib.Core.Bool.{true}

@@ -5,7 +5,7 @@ use mathlib.Core.Option.{Option, some, none}
 use lib.Dec.{leb, eqb}
 use Rattle.basics.specs.Choice.{same}
 use Rattle.basics.specs.Ranges.{count, every, lowest}
-use Rattle.interface.specs.Numbers.{PageCount}
+use Rattle.interface.specs.Numbers.{PageCount, AnonymousBacking, ImageBacking}
 use Rattle.interface.specs.declared.page.Backing.{Backing}
 use Rattle.interface.specs.declared.page.Backing.the-variants.{Anonymous, Image}
 use Rattle.interface.specs.declared.page.Slot.{Slot}
@@ -52,7 +52,12 @@ abbrev pub advance : Backing → ℕ → Backing
 advance Anonymous pages = Anonymous
 advance (Image first) pages = Image (record { 0 = first .0 + pages })
 
--- the first image page of a backing, 0 of an anonymous one
+-- "p3 backing, 0 anonymous, 1 image"
+abbrev pub kindOf : Backing → ℕ
+kindOf Anonymous = AnonymousBacking
+kindOf (Image first) = ImageBacking
+
+-- "p4 first image page (0 when anonymous)"
 abbrev pub startOf : Backing → ℕ
 startOf Anonymous = 0
 startOf (Image first) = first .0

@@ -9,7 +9,7 @@ use Rattle.basics.proofs.CountLaws.{sum-put, sum-swap, sum-plus, sum-hole, part
 use Rattle.interface.specs.Runs.{runPlaces}
 use Rattle.frames.specs.declared.Held.{Held}
 use Rattle.frames.specs.Frames.{held, mark, countHeld}
-use Rattle.frames.proofs.SumLaws.{sum-same, sum-add}
+use Rattle.words.proofs.SumLaws.{sum-same, sum-add}
 use Rattle.frames.proofs.FrameLaws.{count-within}
 use Rattle.pages.specs.Parts.{frame}
 use Rattle.marks.specs.Named.{usedBelow}

@@ -14,7 +14,7 @@ use Rattle.interface.specs.Slots.{Slots, startsArea}
 use Rattle.interface.specs.Runs.{runPlaces}
 use Rattle.frames.specs.declared.Held.{Held}
 use Rattle.frames.specs.Frames.{held, mark, noneHeld, countHeld, leastHeld}
-use Rattle.frames.proofs.SumLaws.{sum-same, sum-none}
+use Rattle.words.proofs.SumLaws.{sum-same, sum-none}
 use Rattle.frames.proofs.FrameLaws.{held-lt, held-zero, mark-low, mark-high}
 use Rattle.marks.proofs.NamedLaws.{by-entry}
 use Rattle.table.specs.Store.{Store, entry, frontOf, Filed, put, take, fill, storeByte, move, freeTo, moveTo}

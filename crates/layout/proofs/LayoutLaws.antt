@@ -17,14 +17,14 @@ use Rattle.pages.specs.Parts.{partAt}
 use Rattle.pages.proofs.PartLaws.{length-part}
 use Rattle.areas.specs.declared.area.Area.{Area}
 use Rattle.areas.specs.declared.area.Areas.{Areas}
-use Rattle.interface.specs.Slots.{startOf}
+use Rattle.interface.specs.Slots.{startOf, kindOf}
 use Rattle.areas.specs.Areas.{none}
 use Rattle.state.specs.declared.sandbox.Sandbox.{Sandbox}
 use Rattle.state.specs.declared.sandbox.Machine.{Machine}
 use Rattle.state.specs.World.{closedSandbox}
 use Rattle.layout.specs.Rows.{firsts, Bytes, partIn}
 use Rattle.layout.specs.Layout.{areaSize, placesSize, areasSize, marksSize, runsSize, presentAt, snapshotAt, runsAt, sandboxSize, heldAt, stateSize}
-use Rattle.layout.specs.Layout.{kindOf, areaBytes, areasBytes, marksBytes, sandboxParts, sandboxBytes, stateParts, stateBytes}
+use Rattle.layout.specs.Layout.{areaBytes, areasBytes, marksBytes, sandboxParts, sandboxBytes, stateParts, stateBytes}
 use Rattle.layout.specs.Layout.{backingFrom, areaFrom, areasFrom, marksFrom, runsFrom, sandboxFrom, stateFrom, Placed}
 use Rattle.layout.specs.Layout.{isArea, isAreas, isSandbox, areSandboxes, isState}
 use Rattle.layout.specs.Claims.{DecodesBack, Passes, OnlyCanonical, GivesShaped}

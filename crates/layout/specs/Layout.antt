@@ -17,7 +17,7 @@ use Rattle.runs.specs.Row.{row}
 use Rattle.kept.specs.Spare.{Words}
 use Rattle.areas.specs.declared.area.Area.{Area}
 use Rattle.areas.specs.declared.area.Areas.{Areas}
-use Rattle.interface.specs.Slots.{startOf}
+use Rattle.interface.specs.Slots.{kindOf, startOf}
 use Rattle.areas.specs.Areas.{none}
 use Rattle.state.specs.declared.sandbox.Sandbox.{Sandbox}
 use Rattle.state.specs.declared.sandbox.Machine.{Machine}
@@ -67,11 +67,6 @@ abbrev pub stateSize : ℕ
 stateSize = heldAt + marksSize
 
 -- ---- from a state to its bytes
-
--- the kind of a backing: 0 for anonymous, 1 for image
-abbrev pub kindOf : Backing → ℕ
-kindOf Anonymous = 0
-kindOf (Image first) = 1
 
 -- an area: first page, pages, rights, mark (1 for committed), kind of backing, first image page (0 when anonymous)
 abbrev pub areaParts : Area → List Part

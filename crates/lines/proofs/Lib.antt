@@ -1,4 +1,1 @@
-pub mod PrintLaws
-pub mod FieldLaws
 pub mod LineLaws
-pub mod Examples

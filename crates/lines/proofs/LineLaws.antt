@@ -12,14 +12,14 @@ use Rattle.basics.specs.Ranges.{every}
 use Rattle.basics.proofs.TestLaws.{by-cases, never, and-both, and-of}
 use Rattle.basics.proofs.LoopLaws.{every-at, every-of}
 use Rattle.interface.specs.declared.request.Request.{Request}
-use Rattle.lines.specs.declared.Field.{Field}
-use Rattle.lines.specs.declared.Field.the-variants.{Number, Bad}
+use Rattle.columns.specs.declared.Field.{Field}
+use Rattle.columns.specs.declared.Field.the-variants.{Number, Bad}
 use Rattle.lines.specs.declared.Line.the-variants.{Call, Malformed}
-use Rattle.lines.specs.Prints.{printedField, printedLine, UpTo, numbersOf, printedRequest}
-use Rattle.lines.specs.Fields.{isNumber, numberIn}
-use Rattle.lines.specs.Lines.{fieldAt, hasNumber, numberAt, wellFormed, requestIn, parsed, bytesAt, lineAt, linesOf}
-use Rattle.lines.proofs.PrintLaws.{length-field, length-request}
-use Rattle.lines.proofs.FieldLaws.{field-said, field-small, field-says}
+use Rattle.columns.specs.Prints.{printedField, printedLine, UpTo, numbersOf, printedRequest}
+use Rattle.columns.specs.Fields.{isNumber, numberIn}
+use Rattle.lines.specs.Lines.{fieldAt, hasNumber, numeralAt, wellFormed, requestIn, parsed, bytesAt, lineAt, linesOf}
+use Rattle.columns.proofs.PrintLaws.{length-field, length-request}
+use Rattle.columns.proofs.FieldLaws.{field-said, field-small, field-says}
 
 -- ---- what is read was so printed
 
@@ -76,17 +76,17 @@ module _ (line : List ℕ) (formed : wellFormed line ≡ true) where
   formed-end : (eqb (getD line 42 0) 10 ≡ true) × (every (hasNumber line) 0 7 ≡ true)
   formed-end = and-both (eqb (getD line 42 0) 10) (every (hasNumber line) 0 7) (formed-parts .1)
 
-  formed-field : (k : ℕ) → k < 7 → fieldAt line k ≡ Number (numberAt line k)
+  formed-field : (k : ℕ) → k < 7 → fieldAt line k ≡ Number (numeralAt line k)
   formed-field k h = number-known (fieldAt line k) (every-at (hasNumber line) 0 7 (formed-end .1) k (omega arith) (omega arith))
 
   formed-print : line ≡ printedRequest (requestIn line)
   unfolding printedRequest
   formed-print =
-      fields-printed 7 line (numberAt line) (eqb-true (length line) 43 (formed-parts .0)) (eqb-true (getD line 42 0) 10 (formed-end .0)) formed-field
+      fields-printed 7 line (numeralAt line) (eqb-true (length line) 43 (formed-parts .0)) (eqb-true (getD line 42 0) 10 (formed-end .0)) formed-field
 
   formed-small : UpTo 65535 (numbersOf (requestIn line))
   unfolding fieldAt
-  formed-small = small-listed 7 (numberAt line) (λ k h. field-small (take 6 (drop (k * 6) line)) (numberAt line k) (formed-field k h))
+  formed-small = small-listed 7 (numeralAt line) (λ k h. field-small (take 6 (drop (k * 6) line)) (numeralAt line k) (formed-field k h))
 
 -- a well formed line says the request of its fields
 pub parsed-call : (line : List ℕ) → wellFormed line ≡ true → (q : Request) → q ≡ requestIn line → Call q ≡ parsed line
@@ -131,7 +131,7 @@ module _ (q : Request) (small : UpTo 65535 (numbersOf q)) where
   unfolding printedRequest
   request-field k h = printed-field (numbersOf q) k small h
 
-  request-number : (k : ℕ) → k < 7 → numberAt (printedRequest q) k ≡ getD (numbersOf q) k 0
+  request-number : (k : ℕ) → k < 7 → numeralAt (printedRequest q) k ≡ getD (numbersOf q) k 0
   request-number k h = ap numberIn (request-field k h)
 
   request-formed : wellFormed (printedRequest q) ≡ true

@@ -1,4 +1,2 @@
--- In reading order.
-pub mod Prints
-pub mod Fields
+-- The one file.
 pub mod Lines

@@ -7,10 +7,10 @@ use lib.Dec.{eqb}
 use Rattle.basics.specs.Choice.{_when_else_}
 use Rattle.basics.specs.Ranges.{every}
 use Rattle.interface.specs.declared.request.Request.{Request}
-use Rattle.lines.specs.declared.Field.{Field}
+use Rattle.columns.specs.declared.Field.{Field}
 use Rattle.lines.specs.declared.Line.{Line}
 use Rattle.lines.specs.declared.Line.the-variants.{Call, Malformed}
-use Rattle.lines.specs.Fields.{isNumber, numberIn, fieldOf}
+use Rattle.columns.specs.Fields.{isNumber, numberIn, fieldOf}
 
 -- field k of a line, from 0 on: "fields of 6 columns"
 unfoldable pub fieldAt : List ℕ → ℕ → Field
@@ -20,8 +20,8 @@ fieldAt line k = fieldOf (take 6 (drop (k * 6) line))
 abbrev pub hasNumber : List ℕ → ℕ → Bool
 hasNumber line k = isNumber (fieldAt line k)
 
-abbrev pub numberAt : List ℕ → ℕ → ℕ
-numberAt line k = numberIn (fieldAt line k)
+abbrev pub numeralAt : List ℕ → ℕ → ℕ
+numeralAt line k = numberIn (fieldAt line k)
 
 -- "A line is 7 fields of 6 columns and a line feed, 43 bytes"
 unfoldable pub wellFormed : List ℕ → Bool
@@ -31,13 +31,13 @@ wellFormed line = eqb (length line) 43 && (eqb (getD line 42 0) 10 && every (has
 abbrev pub requestIn : List ℕ → Request
 requestIn line =
     record {
-      code = numberAt line 0;
-      sandbox = numberAt line 1;
-      p1 = numberAt line 2;
-      p2 = numberAt line 3;
-      p3 = numberAt line 4;
-      p4 = numberAt line 5;
-      p5 = numberAt line 6;
+      code = numeralAt line 0;
+      sandbox = numeralAt line 1;
+      p1 = numeralAt line 2;
+      p2 = numeralAt line 3;
+      p3 = numeralAt line 4;
+      p4 = numeralAt line 5;
+      p5 = numeralAt line 6;
     }
 
 -- what a line says

@@ -1,12 +1,15 @@
-// The roll's text: what a line of the roll says, and where each line stands in the lent bytes; as definitions also what is printed (`printer` prints it).
+// The roll's text: what a line of the roll says, and where each line stands in the lent bytes.
 // It promises that a line has one accepted form: what `parse` takes for a request is that request's print, and every request's print is taken
 // (proofs/LineLaws).
-// It stands on `interface` for the request.
+// It stands on `columns` for a number in 6 columns, and on `interface` for the request.
 ghost use mathlib.Core.Path.{_≡_};
 ghost use Prim.Native.Nat.{_+_, _*_, _≤_, _<_};
 ghost use lib.ListN.{length};
-ghost use Rattle.lines.specs.Fields.{withDigit, withColumn, fieldOf, isNumber, numberIn};
 ghost use Rattle.lines.specs.Lines.{fieldAt, parsed, linesOf, lineAt};
+use columns::Field;
+use columns::is_number;
+use columns::number_in;
+use columns::read_field;
 use interface::Request;
 
 // What a line of the roll says: a call, or nothing.
@@ -27,11 +30,11 @@ impl Line {
 
     pub const REPLY_FEED: usize = 18;
     // "fields of 6 columns", of which the last always has a digit; numbers are decimal
-    pub const FIELD: usize = 6;
+    pub const FIELD: usize = Field::COLUMNS;
 
-    pub const LAST_COLUMN: usize = 5;
+    pub const LAST_COLUMN: usize = Field::LAST_COLUMN;
 
-    pub const RADIX: u32 = 10;
+    pub const RADIX: u32 = Field::RADIX;
     // The fields of a line, from 0 on: "call, sandbox, p1 to p5"
     pub const CODE: usize = 0;
 
@@ -107,37 +110,6 @@ pub fn line_at(roll: &[u8], line: usize) -> Line
     parse(&roll[at..end])
 }
 
-// What 6 columns say: a number, or none.
-enum Field {
-    Number(u16),
-    Bad,
-}
-
-impl Field {
-    // "a number 0 to 65,535"
-    const MOST: u32 = 65_535;
-}
-
-// Whether a field says a number.
-fn is_number(field: Field) -> bool
-    ensures { λ r. ⌜ r ≡ isNumber field ⌝ }
-{
-    match field {
-        Field::Number(_) => true,
-        Field::Bad => false,
-    }
-}
-
-// The number that a field says.
-fn number_in(field: Field) -> u16
-    ensures { λ r. ⌜ r ≡ numberIn field ⌝ }
-{
-    match field {
-        Field::Number(n) => n,
-        Field::Bad => 0,
-    }
-}
-
 // What a field of the line says, from 0 on.
 fn field_at(line: &[u8], k: usize) -> Field
     requires { ⌜ (length (now line) ≡ 43) × (k < 7) ⌝ }
@@ -146,57 +118,4 @@ fn field_at(line: &[u8], k: usize) -> Field
     let at = k * Line::FIELD;
     let end = at + Line::FIELD;
     read_field(&line[at..end])
-}
-
-// Reads 6 columns from left to right.
-fn read_field(part: &[u8]) -> Field
-    requires { ⌜ length (now part) ≡ 6 ⌝ }
-    ensures { λ r. ⌜ r ≡ fieldOf (now (part .entry)) ⌝ }
-{
-    let mut read = Field::Number(0);
-    let mut i = 0;
-    while i < Line::LAST_COLUMN {
-        read = with_column(read, part[i]);
-        i += 1;
-    }
-    with_digit(read, part[Line::LAST_COLUMN])
-}
-
-// What is read with one more column that is not the last: before the first digit a blank, or a digit that is not 0.
-fn with_column(read: Field, byte: u8) -> Field
-    ensures { λ r. ⌜ r ≡ withColumn read byte ⌝ }
-{
-    let Field::Number(n) = read else {
-        return Field::Bad;
-    };
-    if n > 0 {
-        return with_digit(read, byte);
-    }
-    if byte == b' ' {
-        return Field::Number(0);
-    }
-    if byte == b'0' {
-        return Field::Bad;
-    }
-    with_digit(read, byte)
-}
-
-// What is read with one more column, which has a digit: at most 65,535.
-fn with_digit(read: Field, byte: u8) -> Field
-    ensures { λ r. ⌜ r ≡ withDigit read byte ⌝ }
-{
-    let Field::Number(n) = read else {
-        return Field::Bad;
-    };
-    if byte < b'0' {
-        return Field::Bad;
-    }
-    if byte > b'9' {
-        return Field::Bad;
-    }
-    let more = n as u32 * Line::RADIX + (byte - b'0') as u32;
-    if more > Field::MOST {
-        return Field::Bad;
-    }
-    Field::Number(more as u16)
 }

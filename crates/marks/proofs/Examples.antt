@@ -4,7 +4,7 @@ use mathlib.Core.Path.{_≡_, refl}
 use mathlib.Core.Bool.{true, false}
 use mathlib.Core.List.{List, [], _∷_}
 use Rattle.basics.specs.Ranges.{sum}
-use Rattle.frames.specs.Word.{bit, putBit}
+use Rattle.words.specs.Word.{bit, putBit}
 use Rattle.frames.specs.Frames.{held, mark}
 use Rattle.marks.specs.Marks.{addEntry, marksTo, from}
 

@@ -15,7 +15,7 @@ use Rattle.basics.specs.Ranges.{sum}
 use Rattle.basics.proofs.TestLaws.{never, and-left, and-right, and-both, and-of}
 use Rattle.frames.specs.Frames.{held, mark, noneHeld, sameHeld, countHeld, Within}
 use Rattle.frames.specs.declared.Held.{Held}
-use Rattle.frames.proofs.SumLaws.{sum-same, sum-add}
+use Rattle.words.proofs.SumLaws.{sum-same, sum-add}
 use Rattle.frames.proofs.FrameLaws.{lt-or-ge, held-or, held-zero, held-ext, mark-low, mark-high, count-with, none-count, same-held-true, same-held-of}
 use Rattle.marks.specs.declared.Marks.{Marks}
 use Rattle.marks.specs.Named.{Named, used, usedBelow}

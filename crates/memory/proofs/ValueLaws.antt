@@ -24,7 +24,8 @@ module _ (image : List ℕ) (q : Request) (b : Sandbox) (st : Store) where
   unfolding valueAt
   map-value value e v = v ∙ rw e
 
-  pub read-value : (value : ℕ) → q .code ≡ Read → value ≡ getD (pageRead image st (b .rec) (q .sandbox) (pageOf q)) (offsetOf q) 0 → value ≡ valueAt image q b st
+  pub read-value : (value : ℕ) → q .code ≡ Read → value ≡ getD (pageRead image st (b .rec) (q .sandbox) (pageOf q)) (offsetOf q) 0
+      → value ≡ valueAt image q b st
   unfolding valueAt
   read-value value e v = v ∙ rw e
 

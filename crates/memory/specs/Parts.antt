@@ -9,6 +9,7 @@ use lib.ListN.{length}
 use Rattle.interface.specs.declared.request.Request.{Request}
 use Rattle.interface.specs.Requests.{_is_, Map, Write, pageOf}
 use Rattle.interface.specs.Outcome.{firstOf}
+use Rattle.interface.specs.Numbers.{pagesIn}
 use Rattle.frames.specs.Frames.{held}
 use Rattle.marks.specs.Named.{usedBelow}
 use Rattle.marks.specs.Marks.{from}
@@ -19,7 +20,7 @@ use Rattle.kept.specs.Spare.{keptAt, Spare}
 use Rattle.kept.specs.Test.{keptTo}
 use Rattle.areas.specs.Areas.{slots}
 use Rattle.state.specs.declared.sandbox.Sandbox.{Sandbox}
-use Rattle.state.specs.World.{World, sandboxAt, framesOf, pagesIn, rowsOf}
+use Rattle.state.specs.World.{World, sandboxAt, framesOf, rowsOf}
 use Rattle.rules.specs.Ready.{Fit, Ready}
 use Rattle.memory.specs.Memory.{Unheld, holdsIn, givesAt, runsAfter, touched, storeAfter}
 

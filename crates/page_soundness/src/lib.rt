@@ -1,6 +1,6 @@
 // The pages of a sandbox, tested: "committed pages are snapshot pages and agree with them in backing", "fronts stand on mapped pages only".
-// It promises: the test of specs/Pages, by one pass over the pages, whatever numbers the entries hold; proofs/PageLaws says what it shows.
-// It stands on `areas`, along which the pass walks, and on `table` for the entries.
+// It promises: the test that `page_test` defines, by one pass over the pages, whatever numbers the entries hold; the laws there say what it shows.
+// It stands on `page_test` for the test, on `areas`, along which the pass walks, and on `table` for the entries.
 ghost use mathlib.Core.Path.{_≡_};
 ghost use mathlib.Core.List.{List};
 ghost use Prim.Native.Nat.{ℕ, _<_};
@@ -10,7 +10,7 @@ ghost use Rattle.basics.specs.Ranges.{every};
 ghost use Rattle.frames.specs.declared.Held.{Held as Words};
 ghost use Rattle.table.specs.Store.{kept};
 ghost use Rattle.areas.specs.Walk.{Formed};
-ghost use Rattle.page_soundness.specs.Pages.{namesNone, pageOk, pagesOk};
+ghost use Rattle.page_test.specs.Pages.{namesNone, pageOk, pagesOk};
 use areas::area::Areas;
 use interface::PageNo;
 use interface::Slot;

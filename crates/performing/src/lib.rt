@@ -2,7 +2,7 @@
 // It promises: what `perform` leaves is what `Performed` of `step` says, the frames that a write takes and gives up being the only thing left open.
 // It stands on `effects` and `values` for the lent memory, the runs and the value, and on `rules` for the sandbox's record.
 ghost use mathlib.Core.Path.{_≡_};
-ghost use Rattle.state.specs.World.{worldOf, sandboxAt};
+ghost use Rattle.state.specs.World.{worldOf, recordAt};
 ghost use Rattle.rules.specs.After.{presentAfter};
 ghost use Rattle.memory.specs.Parts.{Asked};
 ghost use Rattle.step.specs.Step.{Performed};
@@ -32,7 +32,7 @@ pub fn perform(
     present: Areas,
 ) -> Reply
     requires { ⌜ Asked (now image) q (worldOf machine (now pool) (now table)) ⌝ }
-    requires { ⌜ present ≡ presentAfter q (sandboxAt (worldOf machine (now pool) (now table)) (q .sandbox) .rec) ⌝ }
+    requires { ⌜ present ≡ presentAfter q (recordAt (worldOf machine (now pool) (now table)) (q .sandbox)) ⌝ }
     ensures { λ r. ⌜ (let before = worldOf machine (now (pool .entry)) (now (table .entry)) in
         Performed (now (image .entry)) before q (outcomeOf r (now (pool .exit)) (now (table .exit)))) ⌝ }
 {

@@ -111,8 +111,8 @@ coreAfter g q c = record {
 }
 
 -- the frames held: "report counts front and back marks", and kept frames "count in call 9"
-unfoldable pub held : Traces → ℕ
-held t = count (t .front) PageCount + count (t .back) PageCount + sum (t .runs) runPlaces
+unfoldable pub framesHeld : Traces → ℕ
+framesHeld t = count (t .front) PageCount + count (t .back) PageCount + sum (t .runs) runPlaces
 
 -- "Unmap takes away .. front mark"; "Write .. sets its page's front mark"; "Snapshot .. turns front marks into back marks";
 -- Rewind: "a front mark stays only where the page was still committed"
@@ -148,7 +148,7 @@ lessBy place frames runs = inPlace place (runs place - frames) runs
 unfoldable pub runsAfter : Request → Slots → ℕ → Traces → ℕ → ℕ
 runsAfter q f share t =
     lessBy (runFor (q .p2) (t .runs)) (granted (q .p2) (t .runs)) (t .runs) when takesRun q else
-    lessBy (longestRun (t .runs)) 1 (t .runs) when q is Write && givesUp (t .front (pageOf q)) share (held t) else
+    lessBy (longestRun (t .runs)) 1 (t .runs) when q is Write && givesUp (t .front (pageOf q)) share (framesHeld t) else
     runsRewound f (t .front) (t .runs) when q is Rewind else
     t .runs
 
@@ -183,7 +183,7 @@ abbrev pub mayTell : Request → Bool
 mayTell q = q is Report
 
 abbrev pub traceValue : Request → Traces → ℕ
-traceValue q t = held t
+traceValue q t = framesHeld t
 
 abbrev pub valueAt : Given → Request → Kept → ℕ
 valueAt g q k = traceValue q (k .traces) when mayTell q else coreValue g q (k .core)
@@ -199,7 +199,7 @@ abbrev pub viewOf : Given → ℕ → Core → View
 viewOf g total c = record {
   sound = true;
   frames = g .frames;
-  imagePages = length (g .image) / PageBytes;
+  images = length (g .image) / PageBytes;
   shares = total;
   opened = c .opened;
   share = c .share;
@@ -211,8 +211,8 @@ viewOf g total c = record {
 abbrev pub numberAt : Given → Plain → Request → ℕ
 numberAt g p q = refusal (viewOf g (shares p) (p (q .sandbox) .core)) q
 
-abbrev pub put : ℕ → Kept → Plain → Plain
-put s k p t = k when eqb s t else p t
+abbrev pub withKept : ℕ → Kept → Plain → Plain
+withKept s k p t = k when eqb s t else p t
 
 unfoldable pub answer : Given → Plain → Request → Answered
 answer g p q =
@@ -221,7 +221,7 @@ answer g p q =
 
 -- "and then stays as it was"
 unfoldable pub after : Given → Plain → Request → Plain
-after g p q = put (q .sandbox) (keptAfter g q (p (q .sandbox))) p when eqb (numberAt g p q) 0 else p
+after g p q = withKept (q .sandbox) (keptAfter g q (p (q .sandbox))) p when eqb (numberAt g p q) 0 else p
 
 -- ---- a list of requests: its answers, and the machine after it
 

@@ -7,8 +7,8 @@ use native.Mathlib.Numerals.{add-one}
 use lib.ListN.{length, take, drop, set, length-append, length-drop, drop-of-length-le}
 use lib.Seq.{set-split, set-at, take-at, drop-at, drop-append-add, length-take-le}
 use Rattle.pages.specs.Parts.{setPart}
-use Rattle.lines.specs.Prints.{lastDigit, column, columns, printedField, printedLine}
-use Rattle.lines.proofs.PrintLaws.{length-field}
+use Rattle.columns.specs.Prints.{lastDigit, column, columns, printedField, printedLine}
+use Rattle.columns.proofs.PrintLaws.{length-field}
 
 -- a store at a column
 drop-set : (out : List ℕ) (i byte : ℕ) → i < length out → drop i (set out i byte) ≡ byte ∷ drop (suc i) out

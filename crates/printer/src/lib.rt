@@ -5,7 +5,7 @@ ghost use mathlib.Core.Path.{_≡_};
 ghost use Prim.Native.Nat.{_+_, _*_, _≤_};
 ghost use lib.ListN.{length};
 ghost use Rattle.pages.specs.Parts.{setPart};
-ghost use Rattle.lines.specs.Prints.{lastDigit, column, printedField, printedRequest, printedReply};
+ghost use Rattle.columns.specs.Prints.{lastDigit, column, printedField, printedRequest, printedReply};
 use interface::Request;
 use lines::Line;
 

@@ -14,8 +14,8 @@ use Rattle.basics.proofs.TestLaws.{by-cases}
 use Rattle.interface.specs.declared.request.Request.{Request}
 use Rattle.pages.specs.Parts.{setPart}
 use Rattle.pages.proofs.PartLaws.{length-setPart, came-back}
-use Rattle.lines.specs.Prints.{printedRequest}
-use Rattle.lines.proofs.PrintLaws.{length-request}
+use Rattle.columns.specs.Prints.{printedRequest}
+use Rattle.columns.proofs.PrintLaws.{length-request}
 use Rattle.archive.specs.Archive.{joined, only}
 use Rattle.archive.specs.Text.{printedRoll}
 use Rattle.archive.proofs.TextLaws.{length-roll, printed-append}

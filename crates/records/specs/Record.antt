@@ -35,10 +35,10 @@ copyOf r = some (slots (r .snapshot)) when r .taken else none
 
 -- what refusals are decided from, of this sandbox: whether lengths and state are right, the frames of the pool, the pages of the image, the shares of all
 abbrev pub viewFrom : Bool → ℕ → ℕ → ℕ → Record → View
-viewFrom sound frames imagePages shares r = record {
+viewFrom sound frames images shares r = record {
   sound = sound;
   frames = frames;
-  imagePages = imagePages;
+  images = images;
   shares = shares;
   opened = r .opened;
   share = r .share;

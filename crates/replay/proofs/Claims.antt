@@ -16,12 +16,12 @@ use Rattle.interface.specs.Refusals.{View, isTaken, archiveRefusal}
 use Rattle.pages.specs.Parts.{listed}
 use Rattle.pages.proofs.ListedLaws.{listed-at, listed-same}
 use Rattle.areas.specs.Areas.{slots}
-use Rattle.state.specs.World.{World, sandboxAt}
+use Rattle.state.specs.World.{World, sandboxAt, recordAt}
 use Rattle.step.specs.Step.{viewAt}
 use Rattle.soundness.specs.Test.{soundb}
 use Rattle.content.specs.Content.{copyRead}
 use Rattle.plain.specs.Machine.{Given, Pages, copySlots, viewOf, shares}
-use Rattle.plain.specs.Lists.{upTo}
+use Rattle.plain_claims.specs.Lists.{upTo}
 use Rattle.claims.specs.Demands.{RunFrom}
 use Rattle.simulation.specs.Lent.{Lent}
 use Rattle.simulation.specs.Agrees.{Agrees}
@@ -65,23 +65,23 @@ module _ (g : Given) (L : Lent g) (s : ℕ) (w : World) (S : Snapped g s w) wher
   unfolding copy
   is-copy = has-copy .1
 
-  pub occurs : Occurs g s (sandboxAt w s .rec .share) copy
+  pub occurs : Occurs g s (recordAt w s .share) copy
   occurs = record { list = qs; row = omega (arith, S .row); shared = sym (agrees .each s (S .row) .share); copy = is-copy }
 
-  pub is-open : sandboxAt w s .rec .opened ≡ true
+  pub is-open : recordAt w s .opened ≡ true
   unfolding occurs
-  is-open = agrees .each s (S .row) .opened ∙ opened g s (sandboxAt w s .rec .share) copy occurs
+  is-open = agrees .each s (S .row) .opened ∙ opened g s (recordAt w s .share) copy occurs
 
   copy-slots : copied (copySlots (upTo g qs s .core)) ≡ copy .slots
   copy-slots = rw is-copy
 
-  snapshot-bytes : (i : ℕ) → isMapped (copy .slots i) ≡ true → copyRead (g .image) (w .store) (sandboxAt w s .rec) s i ≡ listed 256 (copy .bytes i)
+  snapshot-bytes : (i : ℕ) → isMapped (copy .slots i) ≡ true → copyRead (g .image) (w .store) (recordAt w s) s i ≡ listed 256 (copy .bytes i)
   snapshot-bytes i m =
       let there : isMapped (copied (copySlots (upTo g qs s .core)) i) ≡ true = rw copy-slots m in
       let inside = agrees .holds .each s .copyInside i there in
       copy-read g L (w .store) s (sandboxAt w s) (upTo g qs s) (agrees .holds .each s) (agrees .reads s) (agrees .each s (S .row)) i inside there ∙ rw is-copy
 
-  pub snapshot-slots : slots (sandboxAt w s .rec .snapshot) ≡ copy .slots
+  pub snapshot-slots : slots (recordAt w s .snapshot) ≡ copy .slots
   snapshot-slots = agrees .each s (S .row) .copy ∙ copy-slots
 
   pub snapshot-alike : Alike (snapshotOf (g .image) w s) copy
@@ -91,19 +91,19 @@ module _ (g : Given) (L : Lent g) (s : ℕ) (w : World) (S : Snapped g s w) wher
   }
 
   abbrev roll : List Request
-  roll = archive s (sandboxAt w s .rec .share) copy (g .image)
+  roll = archive s (recordAt w s .share) copy (g .image)
 
   pub same-roll : archiveOf (g .image) w s ≡ roll
-  same-roll = archive-alike s (sandboxAt w s .rec .share) (snapshotOf (g .image) w s) copy (g .image) snapshot-alike
+  same-roll = archive-alike s (recordAt w s .share) (snapshotOf (g .image) w s) copy (g .image) snapshot-alike
 
   pub sayable : Sayable (archiveOf (g .image) w s)
   sayable =
       rw same-roll
-      (archive-sayable s (sandboxAt w s .rec .share) copy (g .image) (omega (arith, S .row)) (is-snapshot g s (sandboxAt w s .rec .share) copy occurs) (L .images))
+      (archive-sayable s (recordAt w s .share) copy (g .image) (omega (arith, S .row)) (is-snapshot g s (recordAt w s .share) copy occurs) (L .images))
 
   text : Text (archiveOf (g .image) w s)
   text = record {
-    whole = lines-of-roll (archiveOf (g .image) w s) (omega (arith, archive-length s (sandboxAt w s .rec .share) (snapshotOf (g .image) w s) (g .image)));
+    whole = lines-of-roll (archiveOf (g .image) w s) (omega (arith, archive-length s (recordAt w s .share) (snapshotOf (g .image) w s) (g .image)));
     read = λ rest. roll-read (archiveOf (g .image) w s) rest sayable;
     one = roll-one (archiveOf (g .image) w s);
   }
@@ -111,8 +111,8 @@ module _ (g : Given) (L : Lent g) (s : ℕ) (w : World) (S : Snapped g s w) wher
   -- ---- played from the start
 
   module _ (bs : List Answered) (v : World) (run : RunFrom g (archiveOf (g .image) w s) bs v) where
-    rebuilds : Rebuilds g s (sandboxAt w s .rec .share) copy roll
-    rebuilds = replay g s (sandboxAt w s .rec .share) copy occurs
+    rebuilds : Rebuilds g s (recordAt w s .share) copy roll
+    rebuilds = replay g s (recordAt w s .share) copy occurs
 
     run-of-roll : RunFrom g roll bs v
     run-of-roll = rw same-roll at run
@@ -123,24 +123,24 @@ module _ (g : Given) (L : Lent g) (s : ℕ) (w : World) (S : Snapped g s w) wher
     all-taken : AllTaken bs
     all-taken = rw (demand-2 g L roll bs v run-of-roll) (rebuilds .taken)
 
-    new-copy : slots (sandboxAt v s .rec .snapshot) ≡ slots (sandboxAt w s .rec .snapshot)
+    new-copy : slots (recordAt v s .snapshot) ≡ slots (recordAt w s .snapshot)
     new-copy = again .each s (S .row) .copy ∙ rw (rebuilds .copy) (rebuilds .alike .slots) ∙ sym snapshot-slots
 
-    new-present : slots (sandboxAt v s .rec .present) ≡ slots (sandboxAt w s .rec .snapshot)
+    new-present : slots (recordAt v s .present) ≡ slots (recordAt w s .snapshot)
     new-present = again .each s (S .row) .present ∙ ap (λ (d : Pages). d .slots) (rebuilds .present) ∙ rebuilds .alike .slots ∙ sym snapshot-slots
 
     -- a page of what was rebuilt
-    new-page : (i : ℕ) → isMapped (slots (sandboxAt w s .rec .snapshot) i) ≡ true
-        → listed 256 (rebuilds .pages .bytes i) ≡ copyRead (g .image) (w .store) (sandboxAt w s .rec) s i
+    new-page : (i : ℕ) → isMapped (slots (recordAt w s .snapshot) i) ≡ true
+        → listed 256 (rebuilds .pages .bytes i) ≡ copyRead (g .image) (w .store) (recordAt w s) s i
     new-page i m =
         let there : isMapped (copy .slots i) ≡ true = rw snapshot-slots at m in
         let mapped : isMapped (rebuilds .pages .slots i) ≡ true = rw (rebuilds .alike .slots) there in
         listed-same 256 (rebuilds .pages .bytes i) (copy .bytes i) (λ j b. rebuilds .alike .bytes i j mapped b) ∙ sym (snapshot-bytes i there)
 
-    copy-there : (i : ℕ) → isMapped (slots (sandboxAt w s .rec .snapshot) i) ≡ true → isMapped (copied (copySlots (upTo g roll s .core)) i) ≡ true
+    copy-there : (i : ℕ) → isMapped (slots (recordAt w s .snapshot) i) ≡ true → isMapped (copied (copySlots (upTo g roll s .core)) i) ≡ true
     copy-there i m = rw (← again .each s (S .row) .copy, new-copy) m
 
-    page-there : (i : ℕ) → isMapped (slots (sandboxAt w s .rec .snapshot) i) ≡ true → isMapped (upTo g roll s .core .pages .slots i) ≡ true
+    page-there : (i : ℕ) → isMapped (slots (recordAt w s .snapshot) i) ≡ true → isMapped (upTo g roll s .core .pages .slots i) ≡ true
     page-there i m = rw (← again .each s (S .row) .present, new-present) m
 
     pub rebuilt : Rebuilt (g .image) s w v
@@ -162,7 +162,7 @@ module _ (g : Given) (L : Lent g) (s : ℕ) (w : World) (S : Snapped g s w) wher
     rebuilt-alike = record {
       slots = new-copy;
       bytes = λ i j m b.
-          let there : isMapped (slots (sandboxAt w s .rec .snapshot) i) ≡ true = rw new-copy at m in
+          let there : isMapped (slots (recordAt w s .snapshot) i) ≡ true = rw new-copy at m in
           let inside : i < 64 = again .holds .each s .copyInside i (copy-there i there) in
           rw (rebuilt .copyBytes i inside there);
     }
@@ -170,7 +170,7 @@ module _ (g : Given) (L : Lent g) (s : ℕ) (w : World) (S : Snapped g s w) wher
     pub same-again : archiveOf (g .image) v s ≡ archiveOf (g .image) w s
     same-again =
         ap (λ share. archive s share (snapshotOf (g .image) v s) (g .image)) (rebuilt .share)
-        ∙ archive-alike s (sandboxAt w s .rec .share) (snapshotOf (g .image) v s) (snapshotOf (g .image) w s) (g .image) rebuilt-alike
+        ∙ archive-alike s (recordAt w s .share) (snapshotOf (g .image) v s) (snapshotOf (g .image) w s) (g .image) rebuilt-alike
 
 -- ---- what is written is the plain machine's
 
@@ -214,14 +214,14 @@ module _ (g : Given) (L : Lent g) (qs : List Request) (as′ : List Answered) (w
     view : mine ≡ theirs
     view = view-at g w (shares (upTo g qs)) s (upTo g qs s) sound (frames-same g w (upTo g qs) agree) (shares-same g w (upTo g qs) agree) (agree .each s l)
 
-    with-copy : sandboxAt w s .rec .taken ≡ true → written (g .image) w s out ≡ plainWritten g (upTo g qs) s out
+    with-copy : recordAt w s .taken ≡ true → written (g .image) w s out ≡ plainWritten g (upTo g qs) s out
     unfolding written archiveNumber plainWritten
     with-copy t =
         let S : Snapped g s w = record { after = record { list = qs; answers = as′; run = r }; row = l; taken = t } in
         let same : archiveOf (g .image) w s ≡ rollOf g (upTo g qs) s = same-roll g L s w S ∙ rw (agree .each s l .share, is-copy g L s w S) in
         ap₂ (λ (x : View) (y : List Request). writtenAs (archiveRefusal x s (length y * 43) (length out)) y out) view same
 
-    without : sandboxAt w s .rec .taken ≡ false → written (g .image) w s out ≡ plainWritten g (upTo g qs) s out
+    without : recordAt w s .taken ≡ false → written (g .image) w s out ≡ plainWritten g (upTo g qs) s out
     without t =
         let opened : View → Bool = λ x. not (ltb s 4) || not (x .opened) in
         by-cases (opened mine)
@@ -233,7 +233,7 @@ pub written-as-plain : (g : Given) → Lent g → WrittenAsPlain g
 written-as-plain g L qs as′ w r s out =
     by-cases (ltb s 4)
     (λ e. let l : s < 4 = ltb-true s 4 e in
-    by-cases (sandboxAt w s .rec .taken) (with-copy g L qs as′ w r s out l) (without g L qs as′ w r s out l))
+    by-cases (recordAt w s .taken) (with-copy g L qs as′ w r s out l) (without g L qs as′ w r s out l))
     (above g L qs as′ w r s out)
 
 -- ---- with room
@@ -248,7 +248,7 @@ accepted-of g L s w S out fits =
     (record { sound = sound; row = S .row; opened = is-open g L s w S; snapshot = rw (S .taken); fits = fits }))
 
 pub longest-of : (g : Given) → Lent g → LongestOf g
-longest-of g L s w S = rw (same-roll g L s w S) (longest g s (sandboxAt w s .rec .share) (copy g L s w S) (occurs g L s w S))
+longest-of g L s w S = rw (same-roll g L s w S) (longest g s (recordAt w s .share) (copy g L s w S) (occurs g L s w S))
 
 -- ---- the claims
 
@@ -264,7 +264,7 @@ text-of g L s w S = text g L s w S
 pub if-alike-of : (image : List ℕ) → IfAlikeOf image
 if-alike-of image s w₁ w₂ e h =
     ap (λ share. archive s share (snapshotOf image w₁ s) image) e
-    ∙ archive-alike s (sandboxAt w₂ s .rec .share) (snapshotOf image w₁ s) (snapshotOf image w₂ s) image h
+    ∙ archive-alike s (recordAt w₂ s .share) (snapshotOf image w₁ s) (snapshotOf image w₂ s) image h
 
 pub only-if-of : (image : List ℕ) (frames₁ frames₂ : ℕ) → Lent (record { image = image; frames = frames₁ }) → Lent (record { image = image; frames = frames₂ })
     → OnlyIfOf image frames₁ frames₂
@@ -273,9 +273,9 @@ only-if-of image frames₁ frames₂ L₁ L₂ s₁ s₂ w₁ w₂ S₁ S₂ e =
     let g₂ : Given = record { image = image; frames = frames₂ } in
     let d₁ = copy g₁ L₁ s₁ w₁ S₁ in
     let d₂ = copy g₂ L₂ s₂ w₂ S₂ in
-    let rolls : archive s₁ (sandboxAt w₁ s₁ .rec .share) d₁ image ≡ archive s₂ (sandboxAt w₂ s₂ .rec .share) d₂ image
+    let rolls : archive s₁ (recordAt w₁ s₁ .share) d₁ image ≡ archive s₂ (recordAt w₂ s₂ .share) d₂ image
     = sym (same-roll g₁ L₁ s₁ w₁ S₁) ∙ e ∙ same-roll g₂ L₂ s₂ w₂ S₂ in
-    let same = only-if image frames₁ frames₂ s₁ s₂ (sandboxAt w₁ s₁ .rec .share) (sandboxAt w₂ s₂ .rec .share) d₁ d₂
+    let same = only-if image frames₁ frames₂ s₁ s₂ (recordAt w₁ s₁ .share) (recordAt w₂ s₂ .share) d₁ d₂
     (occurs g₁ L₁ s₁ w₁ S₁) (occurs g₂ L₂ s₂ w₂ S₂) rolls in
     alike-trans (snapshotOf image w₁ s₁) d₁ (snapshotOf image w₂ s₂) (snapshot-alike g₁ L₁ s₁ w₁ S₁)
     (alike-trans d₁ d₂ (snapshotOf image w₂ s₂) same (alike-sym (snapshotOf image w₂ s₂) d₂ (snapshot-alike g₂ L₂ s₂ w₂ S₂)))

@@ -8,9 +8,9 @@ use lib.Seq.{length-take-le}
 use Rattle.interface.specs.declared.request.Request.{Request}
 use Rattle.lines.specs.declared.Line.{Line}
 use Rattle.lines.specs.declared.Line.the-variants.{Call, Malformed}
-use Rattle.lines.specs.Prints.{printedRequest}
+use Rattle.columns.specs.Prints.{printedRequest}
 use Rattle.lines.specs.Lines.{parsed, lineAt}
-use Rattle.lines.proofs.PrintLaws.{length-request}
+use Rattle.columns.proofs.PrintLaws.{length-request}
 use Rattle.lines.proofs.LineLaws.{request-read, request-printed, first-line, later-line}
 use Rattle.roll.specs.Play.{linesIn, requests}
 use Rattle.archive.specs.Text.{printedRoll, Sayable}

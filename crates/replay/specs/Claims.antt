@@ -10,10 +10,10 @@ use Rattle.interface.specs.Answers.{Answered}
 use Rattle.interface.specs.Slots.{isMapped}
 use Rattle.lines.specs.Lines.{linesOf}
 use Rattle.areas.specs.Areas.{slots}
-use Rattle.state.specs.World.{World, sandboxAt}
+use Rattle.state.specs.World.{World, recordAt}
 use Rattle.content.specs.Content.{pageRead, copyRead}
 use Rattle.plain.specs.Machine.{Given}
-use Rattle.plain.specs.Lists.{upTo}
+use Rattle.plain_claims.specs.Lists.{upTo}
 use Rattle.claims.specs.Demands.{RunFrom}
 use Rattle.roll.specs.Play.{linesIn, requests}
 use Rattle.archive.specs.Segments.{AllTaken}
@@ -32,7 +32,7 @@ pub record After (g : Given) (w : World) : Type 0 where
 pub record Snapped (g : Given) (s : ℕ) (w : World) : Type 0 where
   pub after : After g w
   pub row : s < 4
-  pub taken : sandboxAt w s .rec .taken ≡ true
+  pub taken : recordAt w s .taken ≡ true
 
 -- demand 2 of the archive: after every list, number, value and output are the plain machine's, whatever sandbox is named and whatever output is lent
 abbrev pub WrittenAsPlain : Given → Type 0
@@ -55,14 +55,14 @@ LongestOf g = (s : ℕ) (w : World) → Snapped g s w → length (archiveOf (g .
 -- sandbox s of the world v has the snapshot of sandbox s of the world w, and has it as its present pages too: in mappings with their backing, rights (and
 -- marks), and bytes; and it has its share
 pub record Rebuilt (image : List ℕ) (s : ℕ) (w v : World) : Type 0 where
-  pub taken : sandboxAt v s .rec .taken ≡ true
-  pub share : sandboxAt v s .rec .share ≡ sandboxAt w s .rec .share
-  pub copy : slots (sandboxAt v s .rec .snapshot) ≡ slots (sandboxAt w s .rec .snapshot)
-  pub present : slots (sandboxAt v s .rec .present) ≡ slots (sandboxAt w s .rec .snapshot)
-  pub copyBytes : (i : ℕ) → i < 64 → isMapped (slots (sandboxAt w s .rec .snapshot) i) ≡ true
-      → copyRead image (v .store) (sandboxAt v s .rec) s i ≡ copyRead image (w .store) (sandboxAt w s .rec) s i
-  pub bytes : (i : ℕ) → i < 64 → isMapped (slots (sandboxAt w s .rec .snapshot) i) ≡ true
-      → pageRead image (v .store) (sandboxAt v s .rec) s i ≡ copyRead image (w .store) (sandboxAt w s .rec) s i
+  pub taken : recordAt v s .taken ≡ true
+  pub share : recordAt v s .share ≡ recordAt w s .share
+  pub copy : slots (recordAt v s .snapshot) ≡ slots (recordAt w s .snapshot)
+  pub present : slots (recordAt v s .present) ≡ slots (recordAt w s .snapshot)
+  pub copyBytes : (i : ℕ) → i < 64 → isMapped (slots (recordAt w s .snapshot) i) ≡ true
+      → copyRead image (v .store) (recordAt v s) s i ≡ copyRead image (w .store) (recordAt w s) s i
+  pub bytes : (i : ℕ) → i < 64 → isMapped (slots (recordAt w s .snapshot) i) ≡ true
+      → pageRead image (v .store) (recordAt v s) s i ≡ copyRead image (w .store) (recordAt w s) s i
 
 -- "Played from a fresh state with the same image and pool, the roll gives a sandbox whose snapshot and present pages both equal the written snapshot in
 -- mappings, rights and bytes." Every line is accepted.
@@ -91,7 +91,7 @@ OnlyIfOf image frames₁ frames₂ =
 -- and snapshots that agree in these give equal rolls, of one sandbox with one share
 abbrev pub IfAlikeOf : List ℕ → Type 0
 IfAlikeOf image =
-    (s : ℕ) (w₁ w₂ : World) → sandboxAt w₁ s .rec .share ≡ sandboxAt w₂ s .rec .share → Alike (snapshotOf image w₁ s) (snapshotOf image w₂ s)
+    (s : ℕ) (w₁ w₂ : World) → recordAt w₁ s .share ≡ recordAt w₂ s .share → Alike (snapshotOf image w₁ s) (snapshotOf image w₂ s)
     → archiveOf image w₁ s ≡ archiveOf image w₂ s
 
 -- ---- its text

@@ -5,7 +5,7 @@ use lib.ListN.{length, getD}
 use Rattle.interface.specs.declared.request.Request.{Request}
 use Rattle.interface.specs.Refusals.{archiveRefusal}
 use Rattle.areas.specs.Areas.{slots}
-use Rattle.state.specs.World.{World, sandboxAt}
+use Rattle.state.specs.World.{World, recordAt}
 use Rattle.step.specs.Step.{viewAt}
 use Rattle.content.specs.Content.{copyRead}
 use Rattle.plain.specs.Machine.{Pages}
@@ -15,13 +15,13 @@ use Rattle.archive.specs.Written.{Written, writtenAs}
 -- the snapshot of sandbox s, and not its present pages
 abbrev pub snapshotOf : List ℕ → World → ℕ → Pages
 snapshotOf image w s = record {
-  slots = slots (sandboxAt w s .rec .snapshot);
-  bytes = λ i j. getD (copyRead image (w .store) (sandboxAt w s .rec) s i) j 0;
+  slots = slots (recordAt w s .snapshot);
+  bytes = λ i j. getD (copyRead image (w .store) (recordAt w s) s i) j 0;
 }
 
 -- its roll
 abbrev pub archiveOf : List ℕ → World → ℕ → List Request
-archiveOf image w s = archive s (sandboxAt w s .rec .share) (snapshotOf image w s) image
+archiveOf image w s = archive s (recordAt w s .share) (snapshotOf image w s) image
 
 -- the first row that applies, of a sandbox and so many bytes of output memory; or 0
 unfoldable pub archiveNumber : List ℕ → World → ℕ → ℕ → ℕ

@@ -6,7 +6,7 @@ ghost use mathlib.Core.Path.{_≡_};
 ghost use Prim.Native.Nat.{_+_, _*_, _≤_};
 ghost use lib.ListN.{length};
 ghost use Rattle.interface.specs.Answers.{numberOf, valueOf};
-ghost use Rattle.lines.specs.Prints.{printedReply};
+ghost use Rattle.columns.specs.Prints.{printedReply};
 ghost use Rattle.state.specs.World.{worldOf};
 ghost use Rattle.performing.specs.Reply.{outcomeOf};
 ghost use Rattle.roll.specs.Play.{Turned, Replied};

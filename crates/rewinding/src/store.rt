@@ -3,20 +3,19 @@ ghost use mathlib.Core.Path.{_≡_};
 ghost use Prim.Native.Nat.{_*_, _<_};
 ghost use lib.Dec.{eqb};
 ghost use lib.ListN.{length, getD};
-ghost use Rattle.interface.specs.Numbers.{PageBytes, PageCount, Sandboxes, TableEntries};
+ghost use Rattle.interface.specs.Numbers.{PageBytes, PageCount, Sandboxes, TableEntries, pagesIn};
 ghost use Rattle.basics.specs.Choice.{_when_else_};
 ghost use Rattle.table.specs.Store.{kept, frontOf, Ranged, rewindTo};
 ghost use Rattle.areas.specs.Areas.{slots, Near};
-ghost use Rattle.state.specs.World.{pagesIn};
 ghost use Rattle.rules.specs.Ready.{Ready};
 ghost use Rattle.content.specs.Content.{copyPage};
 ghost use Rattle.memory.specs.Memory.{keepsFront};
 use areas::area::Areas;
-use filling::store::restore_page;
 use frames::Held;
 use interface::PageNo;
 use interface::Slot;
 use records::Record;
+use restoring::restore_page;
 use table::page::VirtualPage;
 
 // "Rewind": each front keeps its frame with the snapshot's bytes, or is freed and cleared. A committed page agrees with the snapshot's in backing, so

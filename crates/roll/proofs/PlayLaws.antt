@@ -12,8 +12,8 @@ use Rattle.interface.specs.Answers.{Answered}
 use Rattle.lines.specs.declared.Line.{Line}
 use Rattle.lines.specs.declared.Line.the-variants.{Call, Malformed}
 use Rattle.lines.specs.Lines.{lineAt}
-use Rattle.lines.specs.Prints.{printedReply}
-use Rattle.lines.proofs.PrintLaws.{length-reply}
+use Rattle.columns.specs.Prints.{printedReply}
+use Rattle.columns.proofs.PrintLaws.{length-reply}
 use Rattle.state.specs.World.{World}
 use Rattle.step.specs.Step.{Outcome}
 use Rattle.claims.specs.Demands.{Run, none, more}

@@ -30,7 +30,7 @@ use Rattle.interface.proofs.ChargeLaws.{mapped-small}
 use Rattle.frames.specs.declared.Held.{Held}
 use Rattle.frames.specs.Frames.{held, countHeld}
 use Rattle.frames.proofs.FrameLaws.{held-lt}
-use Rattle.frames.proofs.SumLaws.{sum-le}
+use Rattle.words.proofs.SumLaws.{sum-le}
 use Rattle.pages.specs.Parts.{frame}
 use Rattle.pages.proofs.PartLaws.{frame-at, getD-zeros}
 use Rattle.marks.specs.Marks.{marksTo, from}
@@ -39,7 +39,7 @@ use Rattle.runs.specs.Row.{row}
 use Rattle.kept.specs.Spare.{keptBy}
 use Rattle.areas.specs.Areas.{slots}
 use Rattle.records.specs.declared.Record.{Record}
-use Rattle.state.specs.World.{World, sandboxAt}
+use Rattle.state.specs.World.{World, sandboxAt, recordAt}
 use Rattle.table.specs.Backing.{backingPage}
 use Rattle.content.specs.Content.{pageUnder, pageRead, differing}
 use Rattle.memory.specs.Memory.{heldBy, valueAt}
@@ -84,7 +84,7 @@ unfolding numberAt
 unrefused image w q e = e
 
 -- "Value: first page"
-first-low : (image : List ℕ) (w : World) (q : Request) → numberAt image w q ≡ 0 → q .code ≡ Map → firstOf (slots (sandboxAt w (q .sandbox) .rec .present)) q ≤ 64
+first-low : (image : List ℕ) (w : World) (q : Request) → numberAt image w q ≡ 0 → q .code ≡ Map → firstOf (slots (recordAt w (q .sandbox) .present)) q ≤ 64
 first-low image w q e m =
     let v = viewAt image w (q .sandbox) in
     let fits = map-fits v q (accepted v q (unrefused image w q e)) m in
@@ -125,7 +125,8 @@ module _ (image : List ℕ) (w : World) (q : Request) (t : Bytes image) (u : Byt
       (λ e. let r = read-byte (offsetOf q) (omega arith) image (w .store) (b .rec) (q .sandbox) (pageOf q) t u in omega (arith, r))
       (λ _. when-cases (λ x. x ≤ 65535) (q is Snapshot) (λ e. let r = mapped-small (slots (b .rec .present)) in omega (arith, r))
       (λ _. when-cases (λ x. x ≤ 65535) (q is Report) (λ e. omega (arith, held-low (w .store) (q .sandbox), kept-low (row (b .runs))))
-      (λ _. when-cases (λ x. x ≤ 65535) (q is Compare) (λ e. let r = differing-low image (w .store) (b .rec) (q .sandbox) in omega (arith, r)) (λ _. omega arith)))))
+      (λ _. when-cases (λ x. x ≤ 65535) (q is Compare)
+      (λ e. let r = differing-low image (w .store) (b .rec) (q .sandbox) in omega (arith, r)) (λ _. omega arith)))))
 
   pub value-small : (o : Outcome) → Stepped image w q o → o .answer .value ≤ 65535
   unfolding step

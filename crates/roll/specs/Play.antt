@@ -8,7 +8,7 @@ use Rattle.interface.specs.Answers.{Answered}
 use Rattle.lines.specs.declared.Line.{Line}
 use Rattle.lines.specs.declared.Line.the-variants.{Call, Malformed}
 use Rattle.lines.specs.Lines.{lineAt}
-use Rattle.lines.specs.Prints.{UpTo, printedReply}
+use Rattle.columns.specs.Prints.{UpTo, printedReply}
 use Rattle.state.specs.World.{World}
 use Rattle.step.specs.Step.{Outcome, Stepped}
 use Rattle.claims.specs.Demands.{Run}

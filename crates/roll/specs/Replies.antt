@@ -8,10 +8,11 @@ use Rattle.basics.specs.Choice.{_when_else_}
 use Rattle.interface.specs.Answers.{Answered}
 use Rattle.interface.specs.Requests.{isCall}
 use Rattle.interface.specs.Examples.{refused}
+use Rattle.interface.specs.Numbers.{pagesIn}
 use Rattle.lines.specs.declared.Line.{Line}
 use Rattle.lines.specs.declared.Line.the-variants.{Call, Malformed}
 use Rattle.lines.specs.Lines.{linesOf}
-use Rattle.state.specs.World.{World, pagesIn, lengthsOk}
+use Rattle.state.specs.World.{World, lengthsOk}
 use Rattle.state.specs.Start.{startedBy}
 use Rattle.plain.specs.Machine.{Given, fresh, answers}
 use Rattle.roll.specs.Play.{linesIn, requests, replies, printed, Played}

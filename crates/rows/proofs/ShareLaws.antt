@@ -36,7 +36,8 @@ module _ (frames images shares : ℕ) (b : Record) (q : Request) where
   open-charge : {n : ℕ} → Ready n b → Passed view q → q .code ≡ Open → ltb (shareAfter q (b .share)) (chargeThen view q) ≡ false
   unfolding slotsAfter copyAfter
   open-charge r p e =
-      let less : chargeOf (slots (b .present)) (copyOf b) ≤ q .p1 = omega (arith, r .sound .charged, ap (λ (x : Record). x .share) (r .sound .closed (p .closed e))) in
+      let none : b .share ≡ 0 = ap (λ (x : Record). x .share) (r .sound .closed (p .closed e)) in
+      let less : chargeOf (slots (b .present)) (copyOf b) ≤ q .p1 = omega (arith, r .sound .charged, none) in
       rw e (le-ltb _ _ less)
 
   -- the pages of a map are unmapped before it

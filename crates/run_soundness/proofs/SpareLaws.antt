@@ -10,7 +10,7 @@ use Rattle.basics.specs.Ranges.{sum, every}
 use Rattle.basics.proofs.TestLaws.{and-of, and-true, and-false, implies-of}
 use Rattle.basics.proofs.LoopLaws.{every-at}
 use Rattle.frames.specs.Frames.{held, apartHeld, sameHeld, noneHeld}
-use Rattle.frames.proofs.SumLaws.{sum-none}
+use Rattle.words.proofs.SumLaws.{sum-none}
 use Rattle.frames.proofs.FrameLaws.{held-zero, same-held-true, none-count}
 use Rattle.marks.specs.declared.Marks.{Marks}
 use Rattle.marks.specs.Named.{usedBelow}

@@ -42,7 +42,7 @@ pub fn spare_ok(
     if !held.apart(kept) {
         return false;
     }
-    kept::frames_ok(kept, pool, frames)
+    kept_soundness::frames_ok(kept, pool, frames)
 }
 
 // Whether the runs of a sandbox are within its share with its fronts and backs, which alone are; and a closed one keeps none.

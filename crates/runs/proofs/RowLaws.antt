@@ -16,7 +16,7 @@ use Rattle.basics.proofs.TestLaws.{by-cases, when-cases}
 use Rattle.frames.specs.declared.Held.{Held}
 use Rattle.basics.specs.Ranges.{sum}
 use Rattle.frames.specs.Frames.{held, noneHeld, countHeld}
-use Rattle.frames.proofs.SumLaws.{sum-le}
+use Rattle.words.proofs.SumLaws.{sum-le}
 use Rattle.frames.proofs.FrameLaws.{held-lt, held-zero, none-count}
 use Rattle.runs.specs.declared.Runs.{Runs}
 use Rattle.runs.specs.Row.{row, lengthsOf, noRuns, withRunAt, rowTo, tabled, betterOf, shiftTo, movedRuns, pushed}

@@ -6,17 +6,18 @@ use lib.Dec.{eqb}
 use lib.ListN.{getD}
 use Rattle.interface.specs.declared.request.Request.{Request}
 use Rattle.interface.specs.Requests.{requestOf, Map, Protect}
+use Rattle.interface.specs.Slots.{kindOf, startOf}
 use Rattle.areas.specs.declared.area.Area.{Area}
 use Rattle.areas.specs.declared.area.Areas.{Areas}
 use Rattle.areas.specs.Areas.{none}
-use Rattle.archive.specs.Archive.{joined, only, kindOf, firstImage}
+use Rattle.archive.specs.Archive.{joined, only}
 use Rattle.segments.specs.declared.Snapshot.{Snapshot}
 use Rattle.segments.specs.declared.by_area.Segment.{Segment}
 use Rattle.segments.specs.declared.by_area.Segment.the-variants.{Maps, Protects}
 
 -- of an area
 abbrev pub mapOf : ℕ → Area → Request
-mapOf s a = requestOf Map s (a .first .0) (a .pages) (kindOf (a .backing)) (firstImage (a .backing)) 3
+mapOf s a = requestOf Map s (a .first .0) (a .pages) (kindOf (a .backing)) (startOf (a .backing)) 3
 
 abbrev pub protectOf : ℕ → Area → Request
 protectOf s a = requestOf Protect s (a .first .0) (a .pages) 1 0 0

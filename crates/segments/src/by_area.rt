@@ -1,15 +1,16 @@
 // Lines that tell of the snapshot's areas, place by place: a segment has at most one for each.
 ghost use mathlib.Core.Path.{_≡_};
-ghost use Rattle.archive.specs.Archive.{kindOf, firstImage, joined};
+ghost use Rattle.archive.specs.Archive.{joined};
 ghost use Rattle.printing.specs.Put.{placed, put, Room};
 ghost use Rattle.segments.specs.ByAreas.{isTold, lineOf, mapOf, protectOf, linesAt};
 use crate::Snapshot;
 use areas::area::Area;
 use interface::Attributes;
-use interface::Backing;
 use interface::Request;
 use printing::Cursor;
 use printing::put_if;
+use slots::kind_of;
+use slots::start_of;
 
 // Which of the two segments that go by areas.
 pub enum Segment {
@@ -63,8 +64,8 @@ fn map_line(sandbox: u8, area: Area) -> Request
         sandbox: sandbox as u16,
         p1: area.first.0 as u16,
         p2: area.pages as u16,
-        p3: kind_of(backing),
-        p4: first_image(backing),
+        p3: kind_of(backing) as u16,
+        p4: start_of(backing) as u16,
         p5: Attributes::READ_WRITE as u16,
     }
 }
@@ -81,25 +82,5 @@ fn protect_line(sandbox: u8, area: Area) -> Request
         p3: Attributes::READ as u16,
         p4: 0,
         p5: 0,
-    }
-}
-
-// "p3 backing, 0 anonymous, 1 image"
-fn kind_of(backing: Backing) -> u16
-    ensures { λ r. ⌜ r ≡ kindOf backing ⌝ }
-{
-    match backing {
-        Backing::Anonymous => 0,
-        Backing::Image(_) => 1,
-    }
-}
-
-// "p4 first image page (0 when anonymous)"
-fn first_image(backing: Backing) -> u16
-    ensures { λ r. ⌜ r ≡ firstImage backing ⌝ }
-{
-    match backing {
-        Backing::Anonymous => 0,
-        Backing::Image(page) => page.0 as u16,
     }
 }

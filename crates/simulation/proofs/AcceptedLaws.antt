@@ -11,10 +11,11 @@ use Rattle.interface.specs.declared.request.Request.{Request}
 use Rattle.interface.specs.Requests.{_is_, Write, pageOf}
 use Rattle.interface.specs.Accepted.{Accepted}
 use Rattle.interface.proofs.KindLaws.{kind}
+use Rattle.interface.specs.Numbers.{pagesIn}
 use Rattle.frames.specs.Frames.{held}
 use Rattle.table.specs.Store.{entry, frontOf, Tidy}
 use Rattle.state.specs.declared.sandbox.Sandbox.{Sandbox}
-use Rattle.state.specs.World.{World, sandboxAt, framesOf, pagesIn, sharesOf, rowsOf}
+use Rattle.state.specs.World.{World, sandboxAt, framesOf, sharesOf, rowsOf}
 use Rattle.state.specs.Sound.{SoundAt}
 use Rattle.soundness.proofs.TestLaws.{Tested, tested}
 use Rattle.memory.specs.Memory.{givesAt, storeAfter}

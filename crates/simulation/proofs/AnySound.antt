@@ -15,9 +15,10 @@ use Rattle.interface.specs.Slots.{Slots, isMapped, isCommitted, backingAt, char
 use Rattle.interface.proofs.SlotLaws.{committed-mapped, uncommitted-mapped, one-mark}
 use Rattle.interface.proofs.ChargeLaws.{rewind-charge}
 use Rattle.basics.specs.Ranges.{one}
+use Rattle.interface.specs.Numbers.{pagesIn}
 use Rattle.frames.specs.Frames.{noneHeld, countHeld}
 use Rattle.frames.proofs.FrameLaws.{none-count, held-zero}
-use Rattle.frames.proofs.SumLaws.{sum-same}
+use Rattle.words.proofs.SumLaws.{sum-same}
 use Rattle.marks.specs.Named.{used}
 use Rattle.marks.specs.Marks.{from}
 use Rattle.marks.proofs.MarkLaws.{used-add}
@@ -34,16 +35,16 @@ use Rattle.areas.proofs.FewAreas.{few-areas}
 use Rattle.areas.proofs.OrderLaws.{none-slots, empty-formed}
 use Rattle.state.specs.declared.sandbox.Sandbox.{Sandbox}
 use Rattle.records.specs.Record.{copyOf}
-use Rattle.state.specs.World.{World, sandboxAt, framesOf, pagesIn}
+use Rattle.state.specs.World.{World, sandboxAt, recordAt, framesOf}
 use Rattle.state.specs.Sound.{SoundAt, Sound}
 use Rattle.areas.proofs.OrderLaws.{slots-inside}
 use Rattle.records.proofs.SettledLaws.{copied-slots}
 use Rattle.state.proofs.SoundLaws.{closed-sandbox}
 use Rattle.step.specs.Step.{Outcome, Stepped}
-use Rattle.plain.specs.Machine.{Given, Pages, Kept, Plain, closed, held, copySlots, copyBytes, backingByte}
-use Rattle.plain.specs.Claims.{Keeps, Reads}
-use Rattle.plain.proofs.KeptLaws.{keeps-closed, areas-none, mapped-none}
-use Rattle.plain.proofs.ReadLaws.{reads-fresh}
+use Rattle.plain.specs.Machine.{Given, Pages, Kept, Plain, closed, framesHeld, copySlots, copyBytes, backingByte}
+use Rattle.plain_claims.specs.Claims.{Keeps, Reads}
+use Rattle.plain_claims.proofs.KeptLaws.{keeps-closed, areas-none, mapped-none}
+use Rattle.plain_claims.proofs.ReadLaws.{reads-fresh}
 use Rattle.simulation.specs.Lent.{Lent}
 use Rattle.simulation.specs.Agrees.{pageIf, AgreesAt, Agrees}
 use Rattle.simulation.proofs.HeldSteps.{used-count}
@@ -138,8 +139,8 @@ module _ (image : List ℕ) (n : ℕ) (st : Store) (F : Filed 256 n st) (s : ℕ
       (λ z. rw (lt-ltb i 64 l, eq-eqb (entry st e) 0 z) (rw z))
       (λ f z. rw (lt-ltb i 64 l, ne-eqb (entry st e) 0 (omega (arith, z))) (rw z))
 
-  in-share : held (k .traces) ≤ b .rec .share
-  unfolding held keptBy
+  in-share : framesHeld (k .traces) ≤ b .rec .share
+  unfolding framesHeld keptBy
   in-share =
       omega (
         arith,
@@ -164,7 +165,8 @@ module _ (image : List ℕ) (n : ℕ) (st : Store) (F : Filed 256 n st) (s : ℕ
         inside = slots-inside _ (b .rec .present) (S .rec .present);
         copyInside = λ i m. slots-inside _ (b .rec .snapshot) (S .rec .snapshot) i (rw (copy-slot i) at m);
         copyCharged = by-cases (b .rec .taken)
-            (λ t. let c = rw t at (S .rec .charged) in rw t (omega (arith, c, rewind-charge (slots (b .rec .present)) (slots (b .rec .snapshot)) (S .rec .marked))))
+            (λ t. let c = rw t at (S .rec .charged) in
+            rw t (omega (arith, c, rewind-charge (slots (b .rec .present)) (slots (b .rec .snapshot)) (S .rec .marked))))
             (λ t. rw t (omega (arith, mapped-none)));
         copyAreas = by-cases (b .rec .taken) (λ t. rw t (few-areas _ (b .rec .snapshot) (S .rec .snapshot))) (λ t. rw t (omega (arith, areas-none)));
         openShare = S .rec .shared;
@@ -213,8 +215,10 @@ module _ (image : List ℕ) (n : ℕ) (st : Store) (F : Filed 256 n st) (s : ℕ
   -- a closed sandbox has no page and no entry
   agrees-closed : (g : Given) → b .rec .opened ≡ false → AgreesAt g st s b closed
   agrees-closed g o =
-      let none-mapped : (i : ℕ) → isMapped (slots (b .rec .present) i) ≡ false = λ i. rw (closed-sandbox _ st s b S o) (ap (λ (f : Slots). isMapped (f i)) none-slots) in
-      let none-copied : (i : ℕ) → isMapped (slots (b .rec .snapshot) i) ≡ false = λ i. rw (closed-sandbox _ st s b S o) (ap (λ (f : Slots). isMapped (f i)) none-slots) in
+      let none-mapped : (i : ℕ) → isMapped (slots (b .rec .present) i) ≡ false =
+      λ i. rw (closed-sandbox _ st s b S o) (ap (λ (f : Slots). isMapped (f i)) none-slots) in
+      let none-copied : (i : ℕ) → isMapped (slots (b .rec .snapshot) i) ≡ false =
+      λ i. rw (closed-sandbox _ st s b S o) (ap (λ (f : Slots). isMapped (f i)) none-slots) in
       record {
         opened = o;
         share = ap (λ (x : Sandbox). x .rec .share) (closed-sandbox _ st s b S o);
@@ -279,7 +283,7 @@ module _ (image : List ℕ) (w : World) (S : Sound image w) where
         each = agrees-each;
         holds = record {
           each = for-each Keeps keeps-closed (λ s l. kept-keeps given (w .store) (S .filed) s (sandboxAt w s) (S .each s l));
-          pooled = omega (arith, S .pooled, sum-same (λ t. sandboxAt w t .rec .share) (λ t. plainOf image w t .core .share) 4 (λ t l. agrees-each t l .share));
+          pooled = omega (arith, S .pooled, sum-same (λ t. recordAt w t .share) (λ t. plainOf image w t .core .share) 4 (λ t l. agrees-each t l .share));
         };
         reads = for-each (Reads given) (reads-fresh given 0) (λ s l. kept-reads given (w .store) (S .filed) s (sandboxAt w s) (S .each s l));
       }

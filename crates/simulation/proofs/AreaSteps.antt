@@ -16,6 +16,7 @@ use Rattle.interface.specs.Refusals.{View, isTaken, slotsThen}
 use Rattle.interface.specs.Accepted.{Accepted}
 use Rattle.interface.proofs.SlotLaws.{beyond}
 use Rattle.interface.proofs.KindLaws.{Kind, isMap, isUnmap, isProtect, isWrite, isSnapshot, isRewind, isOther}
+use Rattle.interface.specs.Numbers.{pagesIn}
 use Rattle.table.specs.Store.{Store}
 use Rattle.areas.specs.declared.area.Areas.{Areas}
 use Rattle.areas.specs.Areas.{slots, empty, Bounded}
@@ -31,11 +32,10 @@ use Rattle.packing.proofs.ChangeLaws.{map-slots, unmap-slots, protect-slots, sn
 use Rattle.state.specs.declared.sandbox.Sandbox.{Sandbox}
 use Rattle.records.specs.declared.Record.{Record}
 use Rattle.records.specs.Record.{copyOf}
-use Rattle.state.specs.World.{pagesIn}
 use Rattle.rules.specs.After.{changes, packedAfter, presentAfter, takenAfter, snapshotAfter}
 use Rattle.plain.specs.Machine.{Given, Pages, Core, Kept, copySlots, keptAfter, viewOf}
-use Rattle.plain.specs.Claims.{Keeps}
-use Rattle.plain.proofs.KeptLaws.{keeps-accepted}
+use Rattle.plain_claims.specs.Claims.{Keeps}
+use Rattle.plain_claims.proofs.KeptLaws.{keeps-accepted}
 use Rattle.simulation.specs.Agrees.{AgreesAt}
 
 -- the image page behind a page of well formed areas exists
@@ -67,18 +67,18 @@ new-pages images q e w =
           (λ t. rw t (leb-true (q .p4 + q .p2) images (and-right (eqb (q .p3) 1) (leb (q .p4 + q .p2) images) (rw t at backing))));
     }
 
-module _ (v : View) (q : Request) (a : Accepted v q) (o : AllInOrder (v .imagePages) (v .slots)) (b : Bounded (v .slots)) where
-  order-after : Kind q → changes q ≡ true → AllInOrder (v .imagePages) (slotsThen v q)
+module _ (v : View) (q : Request) (a : Accepted v q) (o : AllInOrder (v .images) (v .slots)) (b : Bounded (v .slots)) where
+  order-after : Kind q → changes q ≡ true → AllInOrder (v .images) (slotsThen v q)
   unfolding within
   order-after (isMap e) c =
       rw (map-slots q (v .slots) (v .copy) e)
-      (changed-order (v .imagePages) (v .slots) (firstOf (v .slots) q) (q .p2) (MapPages (newPage q)) (new-pages (v .imagePages) q e (a .inLimits)) o)
-  order-after (isUnmap e) c = rw (unmap-slots q (v .slots) (v .copy) e) (changed-order (v .imagePages) (v .slots) (q .p1) (q .p2) UnmapPages tt o)
+      (changed-order (v .images) (v .slots) (firstOf (v .slots) q) (q .p2) (MapPages (newPage q)) (new-pages (v .images) q e (a .inLimits)) o)
+  order-after (isUnmap e) c = rw (unmap-slots q (v .slots) (v .copy) e) (changed-order (v .images) (v .slots) (q .p1) (q .p2) UnmapPages tt o)
   order-after (isProtect e) c =
       let limits : (pagesOk (q .p1) (q .p2) && (rightsOk (q .p3) && usesThree q)) ≡ true = rw e at (a .inLimits) in
       rw (protect-slots q (v .slots) (v .copy) e)
-      (changed-order (v .imagePages) (v .slots) (q .p1) (q .p2) (ProtectPages (q .p3)) (search (and-left, and-right)) o)
-  order-after (isSnapshot e) c = rw (snapshot-slots q (v .slots) (v .copy) e b) (changed-order (v .imagePages) (v .slots) 0 64 Commit tt o)
+      (changed-order (v .images) (v .slots) (q .p1) (q .p2) (ProtectPages (q .p3)) (search (and-left, and-right)) o)
+  order-after (isSnapshot e) c = rw (snapshot-slots q (v .slots) (v .copy) e b) (changed-order (v .images) (v .slots) 0 64 Commit tt o)
   order-after (isWrite e) c = absurd (false≢true (rw e at c))
   order-after (isRewind e) c = absurd (false≢true (rw e at c))
   order-after (isOther x₁ x₂ x₃ x₄ x₅ x₆) c = absurd (false≢true (rw (x₁, x₂, x₃, x₅) at c))

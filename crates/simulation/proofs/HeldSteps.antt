@@ -8,7 +8,7 @@ use lib.ListN.{getD}
 use borrow.Author.Tests.{eq-eqb, ne-eqb}
 use Rattle.basics.specs.Ranges.{one, count, sum}
 use Rattle.interface.specs.Runs.{runPlaces}
-use Rattle.frames.proofs.SumLaws.{sum-same}
+use Rattle.words.proofs.SumLaws.{sum-same}
 use Rattle.marks.specs.Named.{used, usedBelow}
 use Rattle.marks.specs.Marks.{from}
 use Rattle.marks.proofs.NamedLaws.{by-entry}
@@ -18,7 +18,7 @@ use Rattle.runs.specs.Row.{lengthsOf}
 use Rattle.kept.specs.Spare.{keptBy}
 use Rattle.state.specs.declared.sandbox.Sandbox.{Sandbox}
 use Rattle.memory.specs.Memory.{holdsIn}
-use Rattle.plain.specs.Machine.{Given, Kept, held}
+use Rattle.plain.specs.Machine.{Given, Kept, framesHeld}
 use Rattle.simulation.specs.Agrees.{pageIf, AgreesAt}
 use Rattle.simulation.proofs.ReadSteps.{mark-none, frame-is}
 
@@ -51,6 +51,6 @@ module _ (g : Given) (st : Store) (s : ℕ) (b : Sandbox) (k : Kept) (A : Agrees
       omega (arith, used-add (from (s * 128) (st .table)) 64 64, fronts, backs-used)
 
   -- with kept frames
-  pub holds-same : holdsIn st s b ≡ held (k .traces)
-  unfolding held keptBy
+  pub holds-same : holdsIn st s b ≡ framesHeld (k .traces)
+  unfolding framesHeld keptBy
   holds-same = omega (arith, entries-same, sum-same (lengthsOf (b .runs)) (k .traces .runs) runPlaces (A .runs))

@@ -32,7 +32,7 @@ use Rattle.kept.specs.Spare.{Rows, Spare, grantTo}
 use Rattle.kept.proofs.GrantLaws.{Granted, grant}
 use Rattle.memory.specs.Memory.{placeFor, framesFor, storeAfter}
 use Rattle.plain.specs.Machine.{Given, Kept, copyBytes, newBytes, backingByte, bytesAfter, frontAfter, backAfter, keptAfter, viewOf}
-use Rattle.plain.specs.Claims.{Keeps, Reads}
+use Rattle.plain_claims.specs.Claims.{Keeps, Reads}
 use Rattle.simulation.specs.Lent.{Lent}
 use Rattle.simulation.specs.Agrees.{pageIf, AgreesAt}
 use Rattle.simulation.proofs.ReadSteps.{at, no-front}

@@ -12,6 +12,7 @@ use Rattle.interface.specs.declared.page.Backing.the-variants.{Anonymous, Image
 use Rattle.interface.specs.declared.page.Slot.{Slot}
 use Rattle.interface.specs.Slots.{Slots, isMapped, isCommitted, backingAt, copied}
 use Rattle.interface.proofs.SlotLaws.{uncommitted-of}
+use Rattle.interface.specs.Numbers.{pagesIn}
 use Rattle.pages.specs.Parts.{listed, frame}
 use Rattle.pages.proofs.PartLaws.{length-zeros, length-frame}
 use Rattle.pages.proofs.ListedLaws.{listed-same, zeros-listed, frame-listed}
@@ -21,11 +22,10 @@ use Rattle.table.proofs.StoreLaws.{contents-none, contents-some}
 use Rattle.areas.specs.Areas.{slots}
 use Rattle.areas.specs.Formed.{ImagesExist}
 use Rattle.state.specs.declared.sandbox.Sandbox.{Sandbox}
-use Rattle.state.specs.World.{pagesIn}
 use Rattle.table.specs.Backing.{backingPage}
 use Rattle.content.specs.Content.{pageUnder, pageRead, copyPage, copyRead}
 use Rattle.plain.specs.Machine.{Given, Kept, copySlots, copyBytes, backingByte}
-use Rattle.plain.specs.Claims.{Keeps, Reads}
+use Rattle.plain_claims.specs.Claims.{Keeps, Reads}
 use Rattle.simulation.specs.Lent.{Lent}
 use Rattle.simulation.specs.Agrees.{pageIf, AgreesAt}
 use Rattle.simulation.proofs.AreaSteps.{image-at}
@@ -75,7 +75,8 @@ module _ (g : Given) (L : Lent g) (st : Store) (s : ℕ) (b : Sandbox) (k : Kept
   pub copy-at : (i : ℕ) → slots (b .rec .snapshot) i ≡ copied (copySlots (k .core)) i
   copy-at i = ap (λ (f : Slots). f i) (A .copy)
 
-  backing-page : (i : ℕ) → backingPage (g .image) (backingAt (slots (b .rec .present) i)) ≡ listed 256 (backingByte (g .image) (backingAt (k .core .pages .slots i)))
+  backing-page : (i : ℕ)
+      → backingPage (g .image) (backingAt (slots (b .rec .present) i)) ≡ listed 256 (backingByte (g .image) (backingAt (k .core .pages .slots i)))
   backing-page i =
       backing-listed (g .image) (L .image) (backingAt (slots (b .rec .present) i)) (image-at _ (b .rec .present) (A .formed) i)
       ∙ ap (λ (x : Slot). listed 256 (backingByte (g .image) (backingAt x))) (at i)

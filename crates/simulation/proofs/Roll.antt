@@ -12,7 +12,7 @@ use Rattle.interface.specs.Outcome.{firstOf, slotsAfter, copyAfter}
 use Rattle.interface.specs.Refusals.{allMapped, applies, refusal}
 use Rattle.frames.specs.declared.Free.{Free}
 use Rattle.frames.specs.declared.Free.the-variants.{Frame, None}
-use Rattle.frames.specs.Word.{bit, putBit}
+use Rattle.words.specs.Word.{bit, putBit}
 use Rattle.frames.specs.Frames.{held, mark, countHeld, greatest, leastHeld, bothHeld, apartHeld}
 use Rattle.basics.specs.Rows.{best, movedUp, walkTo, walked}
 use Rattle.basics.specs.Rows as rows
@@ -28,7 +28,7 @@ use Rattle.areas.specs.Areas.{slotIn}
 use Rattle.areas.specs.Formed.{goesOn, proper, isApart, isNone, placeOk, wellFormed}
 use Rattle.packing.specs.Pack.{continues, push, packTo}
 use Rattle.state.specs.World.{World, framesOf, started, rowsOf}
-use Rattle.page_soundness.specs.Pages.{pageOk, pagesOk}
+use Rattle.page_test.specs.Pages.{pageOk, pagesOk}
 use Rattle.record_soundness.specs.Test.{fieldsOk, recordOk}
 use Rattle.run_soundness.specs.Test.{noneKept, runsOk}
 use Rattle.soundness.specs.Test.{keptOk, sandboxOk, sandboxesOk, soundb}

@@ -40,7 +40,7 @@ use Rattle.state.specs.declared.sandbox.Sandbox.{Sandbox}
 use Rattle.content.specs.Content.{pageUnder, copyPage}
 use Rattle.memory.specs.Memory.{holdsIn, givesAt, placeFor, framesFor, longestOf, runsAfter, touched, keepsFront, storeAfter}
 use Rattle.plain.specs.Machine.{Given, Kept, copySlots, lessBy, runsAfter as plainRuns, keptAfter, viewOf}
-use Rattle.plain.specs.Claims.{Keeps, Reads}
+use Rattle.plain_claims.specs.Claims.{Keeps, Reads}
 use Rattle.simulation.specs.Lent.{Lent}
 use Rattle.simulation.specs.Agrees.{AgreesAt}
 use Rattle.simulation.proofs.ReadSteps.{at, copy-whole, under, mark-none}

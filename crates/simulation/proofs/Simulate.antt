@@ -34,16 +34,16 @@ use Rattle.runs.specs.declared.Runs.{Runs}
 use Rattle.runs.specs.Row.{row}
 use Rattle.kept.specs.Spare.{keptAt, keptBy, Spare}
 use Rattle.soundness.specs.Test.{soundb}
-use Rattle.state.specs.World.{World, sandboxAt, closedSandbox, framesOf, sharesOf, rowsOf}
+use Rattle.state.specs.World.{World, sandboxAt, recordAt, closedSandbox, framesOf, sharesOf, rowsOf}
 use Rattle.content.specs.Content.{pageRead, copyRead, differing}
 use Rattle.memory.specs.Memory.{givesAt, longestOf, runsAfter, storeAfter, heldBy, valueAt}
 use Rattle.step.specs.Step.{viewAt, sandboxThen, worldAfter, numberAt, step, Outcome, Stepped}
 use Rattle.plain.specs.Machine.{Given, Kept, Plain, copySlots, copyBytes, shares, viewOf, keptAfter, coreValue, answer, after}
 use Rattle.plain.specs.Machine.{held as heldMarks, differing as plainDiffering, valueAt as plainValue, numberAt as plainNumber}
-use Rattle.plain.proofs.KeptLaws.{holds-after}
-use Rattle.plain.proofs.ReadLaws.{reads-after}
-use Rattle.plain.proofs.OneSandbox.{after-others}
-use Rattle.plain.proofs.Corollaries.{refused-changes-nothing}
+use Rattle.plain_claims.proofs.KeptLaws.{holds-after}
+use Rattle.plain_claims.proofs.ReadLaws.{reads-after}
+use Rattle.plain_claims.proofs.OneSandbox.{after-others}
+use Rattle.plain_claims.proofs.Corollaries.{refused-changes-nothing}
 use Rattle.simulation.specs.Lent.{Lent}
 use Rattle.simulation.specs.Agrees.{AgreesAt, Agrees}
 use Rattle.simulation.proofs.StepLaws.{gave-up, frame-free}
@@ -69,12 +69,12 @@ view-at g w total s k sound frames total-is A =
     λ i. record {
       sound = sound i;
       frames = frames i;
-      imagePages = viewOf g total (k .core) .imagePages;
+      images = viewOf g total (k .core) .images;
       shares = total-is i;
       opened = A .opened i;
       share = A .share i;
       slots = A .present i;
-      copy = copy-same (sandboxAt w s .rec) (k .core) (A .taken) (A .copy) i;
+      copy = copy-same (recordAt w s) (k .core) (A .taken) (A .copy) i;
     }
 
 module _ {C : ℕ → Type 0} (g : Given) (L : Lent g) (w : World) (p : Plain) (A : Agrees C g w p) where
@@ -120,7 +120,7 @@ module _ {C : ℕ → Type 0} (g : Given) (L : Lent g) (w : World) (p : Plain) (
   mine : AgreesAt g (w .store) (q .sandbox) (sandboxAt w (q .sandbox)) (p (q .sandbox))
   mine = A .each (q .sandbox) low
 
-  read-same : q .code ≡ Read → getD (pageRead (g .image) (w .store) (sandboxAt w (q .sandbox) .rec) (q .sandbox) (pageOf q)) (offsetOf q) 0
+  read-same : q .code ≡ Read → getD (pageRead (g .image) (w .store) (recordAt w (q .sandbox)) (q .sandbox) (pageOf q)) (offsetOf q) 0
       ≡ p (q .sandbox) .core .pages .bytes (pageOf q) (offsetOf q)
   unfolding within allMapped
   read-same e =
@@ -132,7 +132,7 @@ module _ {C : ℕ → Type 0} (g : Given) (L : Lent g) (w : World) (p : Plain) (
       (listed-at 256 (p (q .sandbox) .core .pages .bytes (pageOf q)) (offsetOf q) (omega arith))
 
   -- call 10: the bytes are compared only where the page is mapped in both, and there they are what the plain machine has
-  differing-same : differing (g .image) (w .store) (sandboxAt w (q .sandbox) .rec) (q .sandbox) ≡ plainDiffering (p (q .sandbox) .core)
+  differing-same : differing (g .image) (w .store) (recordAt w (q .sandbox)) (q .sandbox) ≡ plainDiffering (p (q .sandbox) .core)
   unfolding differing plainDiffering
   differing-same =
       let b : Sandbox = sandboxAt w (q .sandbox) in

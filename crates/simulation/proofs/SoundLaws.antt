@@ -4,9 +4,10 @@ use mathlib.Core.Bool.{true}
 use Prim.Native.Nat.{ℕ, _<_}
 use native.Mathlib.Omega.{arith}
 use lib.ListN.{length, getD-replicate}
+use Rattle.interface.specs.Numbers.{pagesIn}
 use Rattle.frames.specs.Frames.{noneHeld, countHeld}
 use Rattle.frames.proofs.FrameLaws.{none-count, held-zero}
-use Rattle.frames.proofs.SumLaws.{sum-same}
+use Rattle.words.proofs.SumLaws.{sum-same}
 use Rattle.runs.specs.Row.{row, noRuns}
 use Rattle.kept.proofs.StoreRuns.{none-kept}
 use Rattle.table.specs.Store.{Store, frontOf, backOf, fresh as freshStore}
@@ -14,14 +15,14 @@ use Rattle.table.proofs.StoreLaws.{none-entry}
 use Rattle.table.proofs.StartLaws.{fresh-tidy, fresh-none}
 use Rattle.areas.proofs.OrderLaws.{none-slots, empty-formed}
 use Rattle.state.specs.declared.sandbox.Sandbox.{Sandbox}
-use Rattle.state.specs.World.{World, sandboxAt, sharesOf, framesOf, pagesIn, closedSandbox, started, rowsOf}
+use Rattle.state.specs.World.{World, sandboxAt, recordAt, sharesOf, framesOf, closedSandbox, started, rowsOf}
 use Rattle.state.specs.Sound.{SoundAt, Sound}
 use Rattle.soundness.specs.Test.{soundb}
 use Rattle.soundness.proofs.TestLaws.{sound-of}
 use Rattle.plain.specs.Machine.{Given, Kept, Plain, shares, fresh, closed}
-use Rattle.plain.specs.Claims.{Keeps, Reads}
-use Rattle.plain.proofs.KeptLaws.{holds-fresh}
-use Rattle.plain.proofs.ReadLaws.{reads-fresh}
+use Rattle.plain_claims.specs.Claims.{Keeps, Reads}
+use Rattle.plain_claims.proofs.KeptLaws.{holds-fresh}
+use Rattle.plain_claims.proofs.ReadLaws.{reads-fresh}
 use Rattle.simulation.specs.Lent.{Lent}
 use Rattle.simulation.specs.Agrees.{AgreesAt, Agrees}
 use Rattle.simulation.proofs.AreaSteps.{copy-same}
@@ -59,7 +60,7 @@ module _ {C : ℕ → Type 0} (g : Given) (w : World) (p : Plain) (A : Agrees C 
   frames-same = omega (arith, A .tidy .filed .pages)
 
   pub shares-same : sharesOf w ≡ shares p
-  shares-same = sum-same (λ t. sandboxAt w t .rec .share) (λ t. p t .core .share) 4 (λ t l. A .each t l .share)
+  shares-same = sum-same (λ t. recordAt w t .share) (λ t. p t .core .share) 4 (λ t l. A .each t l .share)
 
   pub agrees-sound : Lent g → Sound (g .image) w
   agrees-sound L =

@@ -36,7 +36,7 @@ use Rattle.kept.specs.Spare.{Rows, Spare}
 use Rattle.content.specs.Content.{copyPage}
 use Rattle.memory.specs.Memory.{touched, keepsFront, storeAfter}
 use Rattle.plain.specs.Machine.{Given, Kept, copySlots, copyBytes, stored, bytesAfter, frontAfter, backAfter, keptAfter, viewOf}
-use Rattle.plain.specs.Claims.{Keeps, Reads}
+use Rattle.plain_claims.specs.Claims.{Keeps, Reads}
 use Rattle.simulation.specs.Lent.{Lent}
 use Rattle.simulation.specs.Agrees.{pageIf, AgreesAt}
 use Rattle.simulation.proofs.MapSteps.{Stored, inside-out, stored-map}
@@ -111,9 +111,11 @@ module _ {C : ℕ → Type 0} (g : Given) (L : Lent g) (q : Request) (st : Store
         let whole = copy-whole g L st (q .sandbox) b k h r A in
         record {
           tidy = rw e (rewindTo-tidy 256 (g .frames) first (keepsFront (b .rec)) (copyPage (g .image) (b .rec)) whole st T 64);
-          fronts = λ i l. rw e (rewindTo-in 256 (g .frames) first (keepsFront (b .rec)) (copyPage (g .image) (b .rec)) whole st T 64 i (omega arith) l ∙ rewound-front i l);
+          fronts = λ i l. rw e (rewindTo-in 256 (g .frames) first (keepsFront (b .rec)) (copyPage (g .image) (b .rec)) whole st T 64 i (omega arith) l
+              ∙ rewound-front i l);
           backs = λ i l. rw (e, ← h .backCopied)
-              (rewindTo-out 256 (g .frames) first (keepsFront (b .rec)) (copyPage (g .image) (b .rec)) whole st T 64 (first + i + 64) (inr (omega arith)) ∙ A .backs i l);
+              (rewindTo-out 256 (g .frames) first (keepsFront (b .rec)) (copyPage (g .image) (b .rec)) whole st T 64 (first + i + 64) (inr (omega arith))
+              ∙ A .backs i l);
           others = λ u x d l. rw e
               (rewindTo-out 256 (g .frames) first (keepsFront (b .rec)) (copyPage (g .image) (b .rec)) whole st T 64 (u * 128 + x)
               (⊎-elim (λ n. inl (omega arith)) (λ n. inr (omega arith)) (other-sandbox (q .sandbox) u x 128 d l (omega arith))));

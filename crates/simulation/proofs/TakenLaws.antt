@@ -18,7 +18,7 @@ use Rattle.frames.specs.Frames.{leastHeld}
 use Rattle.frames.proofs.PairLaws.{least-found}
 use Rattle.table.specs.Store.{entry, frontOf}
 use Rattle.areas.specs.Areas.{slots}
-use Rattle.state.specs.World.{World, sandboxAt, rowsOf}
+use Rattle.state.specs.World.{World, sandboxAt, recordAt, rowsOf}
 use Rattle.state.specs.Sound.{Sound}
 use Rattle.soundness.proofs.TestLaws.{Tested, tested, sound-of}
 use Rattle.soundness.proofs.Room.{holds, frame-there, kept-there}
@@ -44,7 +44,7 @@ module _ (image : List ℕ) (w : World) (S : Sound image w) (q : Request) where
     low : pageOf q < 64
     low = write-page _ q (this .writes) (met .inLimits)
 
-    there : isMapped (slots (sandboxAt w (q .sandbox) .rec .present) (pageOf q)) ≡ true
+    there : isMapped (slots (recordAt w (q .sandbox) .present) (pageOf q)) ≡ true
     unfolding allMapped
     there = rw (this .writes) at (met .mapped)
 
@@ -58,8 +58,8 @@ module _ (image : List ℕ) (w : World) (S : Sound image w) (q : Request) where
     free-found : gives image w q ≡ false → (f : ℕ) × Free w f
     unfolding gives givesAt
     free-found g =
-        let y : ltb (sandboxAt w (q .sandbox) .rec .share) (holds w (q .sandbox) + 1) ≡ false = rw (this .number, eqb-of (this .writes), this .bare) at g in
-        let r : holds w (q .sandbox) + 1 ≤ sandboxAt w (q .sandbox) .rec .share = ltb-false _ _ y in
+        let y : ltb (recordAt w (q .sandbox) .share) (holds w (q .sandbox) + 1) ≡ false = rw (this .number, eqb-of (this .writes), this .bare) at g in
+        let r : holds w (q .sandbox) + 1 ≤ recordAt w (q .sandbox) .share = ltb-false _ _ y in
         let f = frame-there image w shown (q .sandbox) (pageOf q) row low there bare (omega arith) in
         (f .0, record { ofPool = f .1 .0; unnamed = f .1 .1 .0; unkept = f .1 .1 .1 })
 
@@ -67,8 +67,8 @@ module _ (image : List ℕ) (w : World) (S : Sound image w) (q : Request) where
     given-found : gives image w q ≡ true → (g : ℕ) × OfLongest w (q .sandbox) g
     unfolding gives givesAt
     given-found g =
-        let y : ltb (sandboxAt w (q .sandbox) .rec .share) (holds w (q .sandbox) + 1) ≡ true = rw (this .number, eqb-of (this .writes), this .bare) at g in
-        let r : sandboxAt w (q .sandbox) .rec .share < holds w (q .sandbox) + 1 = ltb-true _ _ y in
+        let y : ltb (recordAt w (q .sandbox) .share) (holds w (q .sandbox) + 1) ≡ true = rw (this .number, eqb-of (this .writes), this .bare) at g in
+        let r : recordAt w (q .sandbox) .share < holds w (q .sandbox) + 1 = ltb-true _ _ y in
         let run : Held = rowsOf w (q .sandbox) (longestOf (sandboxAt w (q .sandbox))) in
         let f = least-found run (kept-there image w shown (q .sandbox) (pageOf q) row low there bare (omega arith)) in
         (leastHeld run, record { low = f .0; kept = f .1 })

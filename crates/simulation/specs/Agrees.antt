@@ -8,6 +8,7 @@ use lib.ListN.{length}
 use Rattle.basics.specs.Choice.{_when_else_}
 use Rattle.interface.specs.Slots.{copied}
 use Rattle.interface.specs.Refusals.{isTaken}
+use Rattle.interface.specs.Numbers.{pagesIn}
 use Rattle.pages.specs.Parts.{listed}
 use Rattle.table.specs.Store.{Store, frontOf, backOf, contents, Tidy}
 use Rattle.runs.specs.Row.{lengthsOf}
@@ -15,9 +16,9 @@ use Rattle.kept.specs.Spare.{Spare, Words}
 use Rattle.areas.specs.Areas.{slots, empty}
 use Rattle.areas.specs.Formed.{WellFormed}
 use Rattle.state.specs.declared.sandbox.Sandbox.{Sandbox}
-use Rattle.state.specs.World.{World, sandboxAt, pagesIn, closedSandbox, rowsOf}
+use Rattle.state.specs.World.{World, sandboxAt, closedSandbox, rowsOf}
 use Rattle.plain.specs.Machine.{Given, Kept, Plain, copySlots, copyBytes}
-use Rattle.plain.specs.Claims.{Holds, Reads}
+use Rattle.plain_claims.specs.Claims.{Holds, Reads}
 
 -- a page with these bytes, where it is marked
 abbrev pub pageIf : Bool → (ℕ → ℕ) → Option (List ℕ)

@@ -2,7 +2,7 @@
 use mathlib.Core.Path.{_≡_}
 use Prim.Native.Nat.{_*_, _≤_}
 use lib.ListN.{length}
-use Rattle.state.specs.World.{pagesIn}
+use Rattle.interface.specs.Numbers.{pagesIn}
 use Rattle.plain.specs.Machine.{Given}
 
 -- what a start that is not refused is given: a pool of 1 to 128 frames, an image of 0 to 64 whole pages

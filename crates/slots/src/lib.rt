@@ -4,12 +4,13 @@
 ghost use mathlib.Core.Path.{_≡_};
 ghost use Prim.Native.Nat.{_+_, _<_};
 ghost use Rattle.interface.specs.Slots.{isMapped, isCommitted, isUncommitted, rightsAt, backingAt};
-ghost use Rattle.interface.specs.Slots.{withRights, withCommitted, advance, startOf, follows};
+ghost use Rattle.interface.specs.Slots.{withRights, withCommitted, advance, kindOf, startOf, follows};
 ghost use Rattle.interface.specs.Runs.{isAnonymous};
 ghost use Rattle.interface.specs.Outcome.{pageOn};
 use interface::Attributes;
 use interface::Backing;
 use interface::ImagePageNo;
+use interface::Request;
 use interface::Slot;
 
 // Whether the page is mapped.
@@ -72,6 +73,26 @@ pub fn is_anonymous(backing: Backing) -> bool
     match backing {
         Backing::Anonymous => true,
         Backing::Image(_) => false,
+    }
+}
+
+// "p3 backing, 0 anonymous, 1 image"
+pub fn kind_of(backing: Backing) -> u8
+    ensures { λ r. ⌜ r ≡ kindOf backing ⌝ }
+{
+    match backing {
+        Backing::Anonymous => Request::ANONYMOUS as u8,
+        Backing::Image(_) => Request::IMAGE as u8,
+    }
+}
+
+// "p4 first image page (0 when anonymous)"
+pub fn start_of(backing: Backing) -> u8
+    ensures { λ r. ⌜ r ≡ startOf backing ⌝ }
+{
+    match backing {
+        Backing::Anonymous => 0,
+        Backing::Image(first) => first.0,
     }
 }
 

@@ -14,6 +14,7 @@ use Rattle.interface.specs.Slots.{isMapped, mappedPages}
 use Rattle.interface.specs.Runs.{longestRun}
 use Rattle.interface.proofs.ChargeLaws.{charge-covers}
 use Rattle.interface.proofs.RunLaws.{longest-some}
+use Rattle.interface.specs.Numbers.{pagesIn}
 use Rattle.frames.specs.Frames.{held}
 use Rattle.marks.specs.Named.{used, usedBelow}
 use Rattle.marks.specs.Marks.{from}
@@ -27,7 +28,7 @@ use Rattle.records.specs.Record.{copyOf}
 use Rattle.records.proofs.SettledLaws.{copied-as}
 use Rattle.record_soundness.proofs.RecordLaws.{passed-untaken}
 use Rattle.state.specs.declared.sandbox.Sandbox.{Sandbox}
-use Rattle.state.specs.World.{World, sandboxAt, framesOf, pagesIn, rowsOf}
+use Rattle.state.specs.World.{World, sandboxAt, recordAt, framesOf, rowsOf}
 use Rattle.state.specs.Sound.{SoundAt}
 use Rattle.soundness.proofs.TestLaws.{Passed, passed-committed, sound-passed, Tested}
 
@@ -114,29 +115,29 @@ abbrev pub holds : World → ℕ → ℕ
 holds w s = usedBelow (from (s * 128) (w .store .table)) 128 + keptBy (rowsOf w s)
 
 module _ (image : List ℕ) (w : World) (S : Tested image w) (s i : ℕ) (l : s < 4) (k : i < 64)
-    (m : isMapped (slots (sandboxAt w s .rec .present) i) ≡ true) (e : entry (w .store) (frontOf s i) ≡ 0) where
+    (m : isMapped (slots (recordAt w s .present) i) ≡ true) (e : entry (w .store) (frontOf s i) ≡ 0) where
   -- where a sandbox holds fewer frames than its share, entries and runs together hold fewer than the pool has
-  pub room : holds w s < sandboxAt w s .rec .share → usedBelow (entry (w .store)) 512 + sum (λ t. keptBy (rowsOf w t)) 4 < framesOf w
+  pub room : holds w s < recordAt w s .share → usedBelow (entry (w .store)) 512 + sum (λ t. keptBy (rowsOf w t)) 4 < framesOf w
   room h =
       omega (
         arith,
         used-parts (entry (w .store)) 128 4,
         S .pooled,
         sum-plus (λ t. usedBelow (from (t * 128) (w .store .table)) 128) (λ t. keptBy (rowsOf w t)) 4,
-        sum-less (λ t. holds w t) (λ t. sandboxAt w t .rec .share) 4 s (λ t d. S .each t d .inShare) l h,
+        sum-less (λ t. holds w t) (λ t. recordAt w t .share) 4 s (λ t d. S .each t d .inShare) l h,
       )
 
   -- so a frame of the pool is neither named nor kept
-  pub frame-there : holds w s < sandboxAt w s .rec .share → (f : ℕ) × ((f < framesOf w) × ((held (w .store .marks) f ≡ 0) × (keptAt (rowsOf w) f ≡ 0)))
+  pub frame-there : holds w s < recordAt w s .share → (f : ℕ) × ((f < framesOf w) × ((held (w .store .marks) f ≡ 0) × (keptAt (rowsOf w) f ≡ 0)))
   frame-there h = frame-kept 256 (framesOf w) (w .store) (rowsOf w) (S .filed) (S .spare) (room h)
 
   -- fronts and backs leave room within the share for the page's front
-  pub room-left : usedBelow (from (s * 128) (w .store .table)) 128 < sandboxAt w s .rec .share
+  pub room-left : usedBelow (from (s * 128) (w .store .table)) 128 < recordAt w s .share
   room-left =
       let images : ℕ = pagesIn (length image) in
       passed-less images (w .store) s (sandboxAt w s) (sound-passed images (w .store) s (sandboxAt w s) (S .each s l)) i k m e
 
   -- so where it holds as many as its share, it keeps a frame to give up
-  pub kept-there : sandboxAt w s .rec .share ≤ holds w s → 1 ≤ lengths (rowsOf w s) (longestRun (lengths (rowsOf w s)))
+  pub kept-there : recordAt w s .share ≤ holds w s → 1 ≤ lengths (rowsOf w s) (longestRun (lengths (rowsOf w s)))
   unfolding keptBy
   kept-there h = longest-some (lengths (rowsOf w s)) (omega (arith, h, room-left))

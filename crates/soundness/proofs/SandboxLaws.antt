@@ -4,7 +4,7 @@ use mathlib.Core.Path.{_≡_, _∙_}
 use mathlib.Core.Bool.{Bool, true, false, _&&_}
 use Rattle.table.specs.Store.{Store}
 use Rattle.record_soundness.specs.Test.{recordOk}
-use Rattle.page_soundness.specs.Pages.{pagesOk}
+use Rattle.page_test.specs.Pages.{pagesOk}
 use Rattle.run_soundness.specs.Test.{runsOk}
 use Rattle.state.specs.declared.sandbox.Sandbox.{Sandbox}
 use Rattle.soundness.specs.Test.{sandboxOk}

@@ -8,9 +8,10 @@ use lib.ListN.{length}
 use Rattle.basics.specs.Ranges.{every}
 use Rattle.basics.proofs.TestLaws.{by-cases, both-ways, and-left, and-right, and-both, and-of, and-not-right}
 use Rattle.basics.proofs.LoopLaws.{every-at, every-of}
+use Rattle.interface.specs.Numbers.{pagesIn}
 use Rattle.marks.specs.Marks.{marksb}
 use Rattle.kept.specs.Test.{spareb}
-use Rattle.state.specs.World.{World, sandboxAt, sharesOf, framesOf, pagesIn, lengthsOk, rowsOf}
+use Rattle.state.specs.World.{World, sandboxAt, sharesOf, framesOf, lengthsOk, rowsOf}
 use Rattle.soundness.specs.Test.{sandboxOk, sandboxesOk, runsOkAt, keptOk, soundb}
 
 -- two tests in one pass

@@ -10,6 +10,7 @@ use Rattle.basics.specs.Ranges.{every}
 use Rattle.basics.proofs.TestLaws.{and-both, and-of}
 use Rattle.basics.proofs.LoopLaws.{every-at, every-of}
 use Rattle.interface.specs.Slots.{isMapped, isCommitted}
+use Rattle.interface.specs.Numbers.{pagesIn}
 use Rattle.frames.specs.Frames.{held}
 use Rattle.marks.specs.Marks.{marksb}
 use Rattle.marks.proofs.MarkLaws.{words, marksb-named, named-marksb}
@@ -20,12 +21,12 @@ use Rattle.kept.proofs.TestLaws.{spare-true, spare-found, spare-of}
 use Rattle.areas.specs.Areas.{slots}
 use Rattle.record_soundness.specs.Test.{recordOk}
 use Rattle.record_soundness.proofs.RecordLaws.{Passed as PassedRecord, record-true, record-of, record-sound, committed-inside, sound-passed as record-passed}
-use Rattle.page_soundness.specs.Pages.{pagesOk}
-use Rattle.page_soundness.proofs.PageLaws.{AtPage, pages-true, pages-of}
+use Rattle.page_test.specs.Pages.{pagesOk}
+use Rattle.page_test.proofs.PageLaws.{AtPage, pages-true, pages-of}
 use Rattle.run_soundness.specs.Test.{runsOk}
 use Rattle.run_soundness.proofs.RunLaws.{runs-true, runs-of}
 use Rattle.state.specs.declared.sandbox.Sandbox.{Sandbox}
-use Rattle.state.specs.World.{World, sandboxAt, sharesOf, framesOf, pagesIn, lengthsOk, rowsOf}
+use Rattle.state.specs.World.{World, sandboxAt, sharesOf, framesOf, lengthsOk, rowsOf}
 use Rattle.state.specs.Sound.{SoundAt, Sound}
 use Rattle.state.proofs.LentLaws.{lengths-true, lengths-of}
 use Rattle.soundness.specs.Test.{Typed, sandboxOk, sandboxesOk, runsOkAt, keptOk, soundb}

@@ -6,15 +6,16 @@ use Prim.Native.Nat.{ℕ, _<_}
 use lib.Dec.{leb}
 use lib.ListN.{length}
 use Rattle.basics.specs.Ranges.{every}
+use Rattle.interface.specs.Numbers.{pagesIn}
 use Rattle.marks.specs.Marks.{marksb}
 use Rattle.table.specs.Store.{Store}
 use Rattle.kept.specs.Spare.{Words}
 use Rattle.kept.specs.Test.{spareb}
 use Rattle.record_soundness.specs.Test.{recordOk}
-use Rattle.page_soundness.specs.Pages.{pagesOk}
+use Rattle.page_test.specs.Pages.{pagesOk}
 use Rattle.run_soundness.specs.Test.{runsOk}
 use Rattle.state.specs.declared.sandbox.Sandbox.{Sandbox}
-use Rattle.state.specs.World.{World, sandboxAt, sharesOf, framesOf, pagesIn, lengthsOk, rowsOf}
+use Rattle.state.specs.World.{World, sandboxAt, recordAt, sharesOf, framesOf, lengthsOk, rowsOf}
 
 -- what the types of the state say, and no test need
 pub record Typed (w : World) : Type 0 where
@@ -30,7 +31,7 @@ sandboxesOk images w = every (λ s. sandboxOk images (w .store) s (sandboxAt w s
 
 -- of the runs of every sandbox, and of the kept frames
 abbrev pub runsOkAt : World → ℕ → Bool
-runsOkAt w s = runsOk (w .store) s (sandboxAt w s .rec .opened) (sandboxAt w s .rec .share) (sandboxAt w s .runs)
+runsOkAt w s = runsOk (w .store) s (recordAt w s .opened) (recordAt w s .share) (sandboxAt w s .runs)
 
 unfoldable pub keptOk : World → Bool
 keptOk w = every (runsOkAt w) 0 4 && spareb (framesOf w) (w .store) (rowsOf w)

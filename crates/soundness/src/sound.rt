@@ -10,7 +10,7 @@ ghost use Rattle.frames.specs.declared.Held.{Held as Words};
 ghost use Rattle.table.specs.Store.{kept};
 ghost use Rattle.state.specs.World.{World, worldOf, sandboxAt};
 ghost use Rattle.record_soundness.specs.Test.{recordOk};
-ghost use Rattle.page_soundness.specs.Pages.{pagesOk};
+ghost use Rattle.page_test.specs.Pages.{pagesOk};
 ghost use Rattle.soundness.specs.Test.{sandboxOk, runsOkAt, soundb};
 use page_soundness::pages_ok;
 use pages::Page;

@@ -6,7 +6,8 @@ use native.Mathlib.Omega.{arith}
 use lib.Dec.{leb, eqb}
 use borrow.Author.Tests.{eq-eqb, eqb-true, leb-true, le-leb}
 use Rattle.basics.proofs.TestLaws.{and-both, and-of}
-use Rattle.state.specs.World.{pagesIn, wholePages, lengthsOk}
+use Rattle.interface.specs.Numbers.{pagesIn}
+use Rattle.state.specs.World.{wholePages, lengthsOk}
 
 -- what the test of the lengths says: bytes of the pool, entries of the table, bytes of the image
 pub record Lengths (pool table image : ℕ) : Type 0 where

@@ -7,9 +7,10 @@ use lib.ListN.{length, replicate}
 use Rattle.interface.specs.declared.answer.Answer.{Answer}
 use Rattle.interface.specs.declared.answer.Answer.the-variants.{Value, Refused}
 use Rattle.interface.specs.declared.answer.Refusal.the-variants.{Unsound}
+use Rattle.interface.specs.Numbers.{pagesIn}
 use Rattle.table.specs.Store.{Store, cleared, fresh}
 use Rattle.state.specs.declared.sandbox.Machine.{Machine}
-use Rattle.state.specs.World.{World, worldOf, freshMachine, closedSandbox, started, pagesIn, lengthsOk}
+use Rattle.state.specs.World.{World, worldOf, freshMachine, closedSandbox, started, lengthsOk}
 use Rattle.state.specs.Start.{startAnswer, startedBy}
 use Rattle.state.proofs.LentLaws.{lengths-true}
 

@@ -5,6 +5,7 @@ use mathlib.Core.List.{List}
 use Prim.Native.Nat.{ℕ, _+_, _*_, _≤_, _<_}
 use lib.ListN.{length}
 use Rattle.interface.specs.Slots.{isMapped}
+use Rattle.interface.specs.Numbers.{pagesIn}
 use Rattle.marks.specs.Named.{usedBelow}
 use Rattle.marks.specs.Marks.{from}
 use Rattle.table.specs.Store.{Store, entry, frontOf, backOf, Filed}
@@ -13,7 +14,7 @@ use Rattle.kept.specs.Spare.{keptBy, Spare, Words}
 use Rattle.areas.specs.Areas.{slots}
 use Rattle.records.specs.Sound.{SoundRecord}
 use Rattle.state.specs.declared.sandbox.Sandbox.{Sandbox}
-use Rattle.state.specs.World.{World, sandboxAt, sharesOf, framesOf, pagesIn, rowsOf}
+use Rattle.state.specs.World.{World, sandboxAt, sharesOf, framesOf, rowsOf}
 
 -- of sandbox s, over an image of so many pages
 pub record SoundAt (images : ℕ) (st : Store) (s : ℕ) (b : Sandbox) : Type 0 where

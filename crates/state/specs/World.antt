@@ -5,13 +5,14 @@ use Prim.Native.Nat.{ℕ, _/_, _%_}
 use lib.Dec.{eqb}
 use lib.ListN.{length, getD, set, replicate}
 use Rattle.basics.specs.Ranges.{sum}
-use Rattle.interface.specs.Numbers.{Sandboxes, PageBytes, MostFrames, MostImagePages, TableEntries}
+use Rattle.interface.specs.Numbers.{Sandboxes, PageBytes, MostFrames, MostImagePages, TableEntries, pagesIn}
 use Rattle.interface.specs.Limits.{between}
 use Rattle.frames.specs.declared.Held.{Held}
 use Rattle.frames.specs.Frames.{noneHeld}
 use Rattle.runs.specs.declared.Runs.{Runs}
 use Rattle.runs.specs.Row.{row, noRuns}
 use Rattle.table.specs.Store.{Store, kept, fresh}
+use Rattle.records.specs.declared.Record.{Record}
 use Rattle.records.specs.Record.{closedRecord}
 use Rattle.state.specs.declared.sandbox.Sandbox.{Sandbox}
 use Rattle.state.specs.declared.sandbox.Machine.{Machine}
@@ -44,6 +45,10 @@ sandboxIn row s = getD row s closedSandbox
 abbrev pub sandboxAt : World → ℕ → Sandbox
 sandboxAt w s = sandboxIn (w .sandboxes) s
 
+-- its record
+abbrev pub recordAt : World → ℕ → Record
+recordAt w s = sandboxAt w s .rec
+
 -- a sandbox with other runs
 abbrev pub withRuns : Runs → Sandbox → Sandbox
 withRuns x b = record { rec = b .rec; runs = x }
@@ -55,10 +60,6 @@ rowsOf w s = row (sandboxAt w s .runs)
 -- a world with another sandbox in the place of s
 abbrev pub withSandbox : ℕ → Sandbox → World → World
 withSandbox s b w = record { sandboxes = set (w .sandboxes) s b; store = w .store }
-
--- the number of whole pages in so many bytes
-abbrev pub pagesIn : ℕ → ℕ
-pagesIn bytes = bytes / PageBytes
 
 -- frames of the pool
 abbrev pub framesOf : World → ℕ

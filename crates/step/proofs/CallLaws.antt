@@ -17,12 +17,13 @@ use Rattle.interface.specs.Slots.{isMapped}
 use Rattle.interface.specs.Refusals.{allMapped, applies, refusal}
 use Rattle.interface.proofs.TableLaws.{some-number, lowest-applies}
 use Rattle.interface.proofs.AcceptedLaws.{accepted, map-fits}
+use Rattle.interface.specs.Numbers.{pagesIn}
 use Rattle.table.specs.Store.{Store}
 use Rattle.runs.specs.declared.Runs.{Runs}
 use Rattle.areas.specs.Areas.{slots}
 use Rattle.state.specs.declared.sandbox.Sandbox.{Sandbox}
 use Rattle.records.specs.Record.{viewFrom}
-use Rattle.state.specs.World.{World, sandboxAt, sharesOf, framesOf, pagesIn}
+use Rattle.state.specs.World.{World, sandboxAt, recordAt, sharesOf, framesOf}
 use Rattle.soundness.specs.Test.{soundb}
 use Rattle.soundness.proofs.TestLaws.{Tested}
 use Rattle.soundness.proofs.Room.{room-left, frame-there}
@@ -62,7 +63,7 @@ module _ (image : List ℕ) (w : World) (q : Request) where
 
   -- the view of a sound state
   pub number-rest : soundb image w ≡ true
-      → refusal (viewFrom true (framesOf w) (pagesIn (length image)) (sharesOf w) (sandboxAt w (q .sandbox) .rec)) q ≡ numberAt image w q
+      → refusal (viewFrom true (framesOf w) (pagesIn (length image)) (sharesOf w) (recordAt w (q .sandbox))) q ≡ numberAt image w q
   unfolding numberAt
   number-rest s = rw s
 
@@ -83,13 +84,13 @@ module _ (image : List ℕ) (w : World) (q : Request) where
 
   pub performed : (value : ℕ) (sandboxes : List Sandbox) (st : Store) (runs : Runs) → StoreStepped image q w st runs
       → value ≡ valueAt image q (sandboxAt w (q .sandbox)) (w .store)
-      → sandboxes ≡ set (w .sandboxes) (q .sandbox) (record { rec = recordAfter q (sandboxAt w (q .sandbox) .rec); runs = runs })
+      → sandboxes ≡ set (w .sandboxes) (q .sandbox) (record { rec = recordAfter q (recordAt w (q .sandbox)); runs = runs })
       → Performed image w q (record { answer = record { number = 0; value = value }; world = record { sandboxes = sandboxes; store = st } })
   performed value sandboxes st runs t v e = with-frames q w _ _ (λ f g after. rw (v, e, after .0, after .1)) t
 
   module _ (S : Tested image w) (row : q .sandbox < 4) where
     -- the sandbox of a sound state
-    pub ready : Ready (pagesIn (length image)) (sandboxAt w (q .sandbox) .rec)
+    pub ready : Ready (pagesIn (length image)) (recordAt w (q .sandbox))
     ready = record { few = S .images; sound = S .each (q .sandbox) row .rec }
 
   module _ (S : Tested image w) where
@@ -101,7 +102,7 @@ module _ (image : List ℕ) (w : World) (q : Request) where
         let row = a .inRow in
         let within-limits = fit (pagesIn (length image)) q (S .images) (a .inLimits) in
         let small : q .code ≡ Write → pageOf q < 64 = λ e. page-small (q .p1) (within-limits .written e .0) in
-        let there : q .code ≡ Write → isMapped (slots (sandboxAt w (q .sandbox) .rec .present) (pageOf q)) ≡ true = λ e. rw e at (a .mapped) in
+        let there : q .code ≡ Write → isMapped (slots (recordAt w (q .sandbox) .present) (pageOf q)) ≡ true = λ e. rw e at (a .mapped) in
         record {
           row = row;
           fit = within-limits;

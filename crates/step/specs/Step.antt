@@ -11,10 +11,11 @@ use Rattle.interface.specs.declared.request.Request.{Request}
 use Rattle.interface.specs.Answers.{Answered}
 use Rattle.interface.specs.Requests.{_is_, Write, pageOf}
 use Rattle.interface.specs.Refusals.{View, refusal}
+use Rattle.interface.specs.Numbers.{pagesIn}
 use Rattle.table.specs.Store.{entry, frontOf}
 use Rattle.state.specs.declared.sandbox.Sandbox.{Sandbox}
 use Rattle.records.specs.Record.{viewFrom}
-use Rattle.state.specs.World.{World, sandboxAt, withSandbox, framesOf, pagesIn, sharesOf}
+use Rattle.state.specs.World.{World, sandboxAt, recordAt, withSandbox, framesOf, sharesOf}
 use Rattle.soundness.specs.Test.{soundb}
 use Rattle.rules.specs.After.{recordAfter}
 use Rattle.runs.specs.Row.{InLongest}
@@ -25,7 +26,7 @@ use Rattle.memory.specs.Parts.{ownSandbox, WithFrames}
 
 -- what refusals are decided from: of sandbox s, with row 3, "lent length wrong, or state unsound"
 abbrev pub viewAt : List ℕ → World → ℕ → View
-viewAt image w s = viewFrom (soundb image w) (framesOf w) (pagesIn (length image)) (sharesOf w) (sandboxAt w s .rec)
+viewAt image w s = viewFrom (soundb image w) (framesOf w) (pagesIn (length image)) (sharesOf w) (recordAt w s)
 
 -- the number of the refusal, or 0
 unfoldable pub numberAt : List ℕ → World → Request → ℕ
@@ -34,7 +35,7 @@ numberAt image w q = refusal (viewAt image w (q .sandbox)) q
 -- the sandbox that results: its record, and its runs
 abbrev pub sandboxThen : ℕ → World → Request → Sandbox
 sandboxThen given w q =
-    record { rec = recordAfter q (sandboxAt w (q .sandbox) .rec); runs = runsAfter given q (sandboxAt w (q .sandbox)) (w .store) }
+    record { rec = recordAfter q (recordAt w (q .sandbox)); runs = runsAfter given q (sandboxAt w (q .sandbox)) (w .store) }
 
 abbrev pub worldAfter : List ℕ → ℕ → ℕ → World → Request → World
 worldAfter image f given w q =

@@ -3,7 +3,7 @@ use mathlib.Core.Path.{_≡_, refl}
 use mathlib.Core.Option.{some, none}
 use mathlib.Core.List.{List, [], _∷_}
 use lib.ListN.{replicate}
-use Rattle.frames.specs.Word.{bit, putBit}
+use Rattle.words.specs.Word.{bit, putBit}
 use Rattle.frames.specs.Frames.{mark, noneHeld}
 use Rattle.pages.specs.Parts.{partAt, setPart, zeros, frame, setFrame}
 use Rattle.table.specs.Store.{Store, kept, contents, put, free, take, move}

@@ -38,7 +38,7 @@ pub fn kept_marks(sandboxes: [Sandbox; Machine::SANDBOXES]) -> Marks
         let k = s as usize;
         let b = sandboxes[k];
         let runs = b.runs;
-        found = kept::add_runs(found, runs);
+        found = kept_soundness::add_runs(found, runs);
     }
     found
 }

@@ -4,10 +4,9 @@
 ghost use mathlib.Core.Path.{_≡_};
 ghost use Prim.Native.Nat.{_≤_, _<_};
 ghost use lib.ListN.{length};
-ghost use Rattle.interface.specs.Numbers.{PageBytes, Sandboxes, MostFrames};
+ghost use Rattle.interface.specs.Numbers.{PageBytes, Sandboxes, MostFrames, pagesIn};
 ghost use Rattle.frames.specs.declared.Held.{Held as Words};
 ghost use Rattle.table.specs.Store.{kept, Ranged};
-ghost use Rattle.state.specs.World.{pagesIn};
 ghost use Rattle.rules.specs.Ready.{Fit, Ready};
 ghost use Rattle.memory.specs.Memory.{valueAt};
 use content::compare::lowest_difference;

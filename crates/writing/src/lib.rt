@@ -1,6 +1,6 @@
 // A write: a page without a front takes a frame, and then one byte of its front is stored.
-// It promises: the store and the runs after it are those of memory/specs/Memory, whichever unheld frame it takes and whichever frame of the longest run it gives
-// up first.
+// It promises: the store and the runs after it are those of memory/specs/Memory, whichever unheld frame it takes and whichever frame of the longest run it
+// gives up first.
 // It stands on `memory` for the definitions and their laws, on `reuse` and `totals` for the frame that is taken, and on `filling` for what is put into it.
 ghost use mathlib.Core.Path.{_≡_};
 ghost use Rattle.interface.specs.Requests.{Write};

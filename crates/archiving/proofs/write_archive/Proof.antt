@@ -9,7 +9,7 @@ use borrow.Author.Tests.{not-true, not-false}
 use Rattle.basics.proofs.ListLaws.{getD-any}
 use Rattle.basics.proofs.TestLaws.{length-mapped}
 use Rattle.state.specs.declared.sandbox.Sandbox.{Sandbox}
-use Rattle.state.specs.World.{World, worldOf, sandboxAt, closedSandbox}
+use Rattle.state.specs.World.{World, worldOf, sandboxAt, recordAt, closedSandbox}
 use Rattle.soundness.specs.Test.{soundb}
 use Rattle.state.proofs.SharesLaws.{zeroSandbox}
 use Rattle.archiving.proofs.RollLaws.{readable, roll-here}
@@ -66,13 +66,13 @@ same c = same-sandbox (behindRow c) (in-row c)
 abbrev behindOpen : tie.Else3 → tie.Else2
 behindOpen c = c .before .before .before .before
 
-is-open : (c : tie.Else3) → let start = behindRow (behindOpen c) in sandboxAt (worldIn start) (start .args .sandbox) .rec .opened ≡ true
+is-open : (c : tie.Else3) → let start = behindRow (behindOpen c) in recordAt (worldIn start) (start .args .sandbox) .opened ≡ true
 is-open c = rw (← same (behindOpen c)) (not-false (sandboxIn (behindRow (behindOpen c)) .rec .opened) (c .if3 .left))
 
 abbrev behindTaken : tie.Else4 → tie.Else3
 behindTaken c = c .before .before
 
-has-snapshot : (c : tie.Else4) → let start = behindRow (behindOpen (behindTaken c)) in sandboxAt (worldIn start) (start .args .sandbox) .rec .taken ≡ true
+has-snapshot : (c : tie.Else4) → let start = behindRow (behindOpen (behindTaken c)) in recordAt (worldIn start) (start .args .sandbox) .taken ≡ true
 has-snapshot c = let row = behindOpen (behindTaken c) in rw (← same row) (not-false (sandboxIn (behindRow row) .rec .taken) (c .if4 .left))
 
 -- ---- the needs

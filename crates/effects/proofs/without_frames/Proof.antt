@@ -1,9 +1,9 @@
 -- Each call leaves what it says of the store and the runs; the others leave both.
 use native.Mathlib.Omega.{arith}
 use lib.ListN.{length}
+use Rattle.interface.specs.Numbers.{pagesIn}
 use Rattle.table.specs.Store.{Store, kept}
 use Rattle.areas.proofs.WalkLaws.{settled}
-use Rattle.state.specs.World.{pagesIn}
 use Rattle.rules.specs.Ready.{Ready}
 use Rattle.memory.proofs.MemoryLaws.{unmapped, copied, rewound, left-alone}
 use borrow.Author.Needs.{needs}

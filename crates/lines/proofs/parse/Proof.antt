@@ -7,7 +7,7 @@ use lib.Dec.{eqb}
 use lib.ListN.{getD}
 use borrow.Author.Tests.{ne-eqb, not-true, not-false}
 use borrow.Author.Needs.{needs}
-use Rattle.lines.specs.Fields.{isNumber, numberIn}
+use Rattle.columns.specs.Fields.{isNumber, numberIn}
 use Rattle.lines.specs.Lines.{wellFormed, parsed}
 use Rattle.lines.proofs.LineLaws.{formed-by-fields, parsed-call}
 use Rattle.lines.proofs.parse.Statement.{statement}

@@ -10,8 +10,9 @@ use Rattle.basics.proofs.TestLaws.{length-mapped}
 use Rattle.interface.specs.declared.answer.Refusal.the-variants.{NoSuchCall, Unsound, NotOpen}
 use Rattle.interface.specs.Requests.{isCall}
 use Rattle.interface.specs.Refusals.{View, refusal}
+use Rattle.interface.specs.Numbers.{pagesIn}
 use Rattle.state.specs.declared.sandbox.Sandbox.{Sandbox}
-use Rattle.state.specs.World.{World, worldOf, sandboxAt, pagesIn}
+use Rattle.state.specs.World.{World, worldOf, recordAt}
 use Rattle.soundness.proofs.TestLaws.{Tested, tested}
 use Rattle.soundness.specs.Test.{soundb}
 use Rattle.state.proofs.SharesLaws.{zeroSandbox}
@@ -74,7 +75,7 @@ accepted-here : (c : tie.After-decide) → c .decide .result .verdict ≡ Accept
 accepted-here c e = sym (number-here c) ∙ ap verdictNumber e
 
 areas-here : (c : tie.After-decide) → c .decide .result .verdict ≡ Accepted
-    → let s = behindState (atVerdict c) in c .decide .result .areas ≡ presentAfter (s .args .q) (sandboxAt (worldIn s) (s .args .q .sandbox) .rec)
+    → let s = behindState (atVerdict c) in c .decide .result .areas ≡ presentAfter (s .args .q) (recordAt (worldIn s) (s .args .q .sandbox))
 areas-here c e =
     let told = c .decide .ensures in
     told .areas ∙ rw (sym (told .number) ∙ ap verdictNumber e)

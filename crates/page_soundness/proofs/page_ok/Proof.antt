@@ -7,8 +7,8 @@ use borrow.Author.Needs.{needs}
 use Rattle.basics.specs.Choice.{implies}
 use Rattle.basics.proofs.TestLaws.{and-left, and-right}
 use Rattle.interface.specs.Slots.{follows}
-use Rattle.page_soundness.specs.Pages.{pageOk}
-use Rattle.page_soundness.proofs.PageLaws.{page-none}
+use Rattle.page_test.specs.Pages.{pageOk}
+use Rattle.page_test.proofs.PageLaws.{page-none}
 use Rattle.page_soundness.proofs.page_ok.Statement.{statement}
 use Rattle.page_soundness.proofs.page_ok.Tie as tie
 

@@ -16,8 +16,8 @@ use Rattle.table.specs.Store.{kept, frontOf, backOf}
 use Rattle.areas.specs.declared.area.Areas.{Areas}
 use Rattle.areas.specs.Areas.{slots}
 use Rattle.areas.proofs.WalkLaws.{Standing, Walk, stand-start, walk-says, walk-near, walk-more, walk-goes}
-use Rattle.page_soundness.specs.Pages.{pageOk, pagesOk}
-use Rattle.page_soundness.proofs.PageLaws.{no-areas}
+use Rattle.page_test.specs.Pages.{pageOk, pagesOk}
+use Rattle.page_test.proofs.PageLaws.{no-areas}
 use Rattle.page_soundness.proofs.pages_ok.Statement.{statement}
 use Rattle.page_soundness.proofs.pages_ok.Tie as tie
 

@@ -4,8 +4,8 @@ use mathlib.Core.Path.{ap, _∙_}
 use native.Mathlib.Omega.{arith}
 use Rattle.pages.specs.Parts.{setPart}
 use Rattle.pages.proofs.PartLaws.{came-back}
-use Rattle.lines.specs.Prints.{printedField}
-use Rattle.lines.proofs.PrintLaws.{length-field}
+use Rattle.columns.specs.Prints.{printedField}
+use Rattle.columns.proofs.PrintLaws.{length-field}
 use borrow.Author.Needs.{needs}
 use Rattle.printer.proofs.print_at.Statement.{statement}
 use Rattle.printer.proofs.print_at.Tie as tie

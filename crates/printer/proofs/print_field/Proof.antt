@@ -6,7 +6,7 @@ use native.Mathlib.Omega.{arith}
 use lib.ListN.{length, drop}
 use borrow.Author.Needs.{needs}
 use Rattle.printer.proofs.PrinterLaws.{last-printed, column-printed}
-use Rattle.lines.specs.Prints.{columns, printedField}
+use Rattle.columns.specs.Prints.{columns, printedField}
 use Rattle.printer.proofs.print_field.Statement.{statement}
 use Rattle.printer.proofs.print_field.Tie as tie
 

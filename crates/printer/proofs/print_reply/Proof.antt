@@ -2,8 +2,8 @@
 use mathlib.Core.Path.{ap, sym, _∙_}
 use mathlib.Core.List.{[], _∷_}
 use lib.ListN.{length}
-use Rattle.lines.specs.Prints.{printedReply}
-use Rattle.lines.proofs.PrintLaws.{length-reply}
+use Rattle.columns.specs.Prints.{printedReply}
+use Rattle.columns.proofs.PrintLaws.{length-reply}
 use Rattle.printer.proofs.PrinterLaws.{line-printed, field-then}
 use borrow.Author.Needs.{needs}
 use Rattle.printer.proofs.print_reply.Statement.{statement}

@@ -3,8 +3,8 @@ use mathlib.Core.Path.{_≡_, ap, sym, _∙_}
 use mathlib.Core.List.{[], _∷_}
 use native.Mathlib.Omega.{arith}
 use lib.ListN.{length}
-use Rattle.lines.specs.Prints.{numbersOf, printedRequest}
-use Rattle.lines.proofs.PrintLaws.{length-request}
+use Rattle.columns.specs.Prints.{numbersOf, printedRequest}
+use Rattle.columns.proofs.PrintLaws.{length-request}
 use Rattle.printer.proofs.PrinterLaws.{line-printed, field-then}
 use borrow.Author.Needs.{needs}
 use Rattle.printer.proofs.print_request.Statement.{statement}

@@ -1,13 +1,13 @@
 -- Each call that has a value has the one that it says; the others have 0.
 use mathlib.Core.Path.{refl}
 use lib.ListN.{length}
+use Rattle.interface.specs.Numbers.{pagesIn}
 use Rattle.frames.specs.declared.Held.{Held}
 use Rattle.table.specs.Store.{Store, kept}
 use Rattle.areas.specs.Areas.{Near}
 use Rattle.areas.specs.Walk.{Formed}
 use Rattle.areas.proofs.FormedLaws.{near}
 use Rattle.areas.proofs.WalkLaws.{settled}
-use Rattle.state.specs.World.{pagesIn}
 use Rattle.memory.proofs.ValueLaws.{map-value, read-value, snapshot-value, report-value, compare-value, no-value}
 use borrow.Author.Needs.{needs}
 use Rattle.values.proofs.value_of.Statement.{statement}

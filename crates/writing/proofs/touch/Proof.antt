@@ -8,6 +8,7 @@ use Rattle.basics.proofs.TestLaws.{length-mapped}
 use Rattle.interface.specs.declared.page.Slot.{Slot}
 use Rattle.interface.specs.Requests.{pageOf}
 use Rattle.interface.specs.Slots.{backingAt}
+use Rattle.interface.specs.Numbers.{pagesIn}
 use Rattle.marks.specs.declared.Marks.{Marks}
 use Rattle.table.specs.Store.{frontOf, take}
 use Rattle.table.specs.Backing.{backingEnd}
@@ -16,7 +17,7 @@ use Rattle.kept.specs.Test.{keptTo}
 use Rattle.areas.specs.Areas.{slots}
 use Rattle.areas.proofs.FormedLaws.{near}
 use Rattle.state.specs.declared.sandbox.Sandbox.{Sandbox}
-use Rattle.state.specs.World.{World, worldOf, framesOf, pagesIn, rowsOf}
+use Rattle.state.specs.World.{World, worldOf, framesOf, rowsOf}
 use Rattle.state.proofs.SharesLaws.{zeroSandbox}
 use Rattle.rules.proofs.FitLaws.{page-small}
 use Rattle.content.proofs.ReadingLaws.{backing-there, under-is}

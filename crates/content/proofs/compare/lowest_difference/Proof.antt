@@ -11,13 +11,13 @@ use Rattle.basics.specs.Ranges.{lowest}
 use Rattle.basics.proofs.TestLaws.{and-left, and-right, and-of}
 use Rattle.basics.proofs.LoopLaws.{lowest-next, lowest-stop, lowest-end}
 use Rattle.interface.specs.Compare.{agree, lowestDifference}
+use Rattle.interface.specs.Numbers.{pagesIn}
 use Rattle.pages.specs.Parts.{sameBytes}
 use Rattle.table.specs.Store.{frontOf, backOf, contents}
 use Rattle.areas.specs.declared.area.Areas.{Areas}
 use Rattle.areas.specs.Areas.{slots}
 use Rattle.areas.specs.Walk.{Formed}
 use Rattle.areas.proofs.WalkLaws.{settled, near-formed}
-use Rattle.state.specs.World.{pagesIn}
 use Rattle.content.specs.Content.{pageUnder, pageRead, copyRead, differing}
 use Rattle.content.specs.Unchanged.{unchanged}
 use Rattle.content.proofs.ReadingLaws.{backing-there}

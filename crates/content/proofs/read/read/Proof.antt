@@ -5,10 +5,10 @@ use Prim.Native.Nat.{ℕ, _/_, _<_}
 use lib.ListN.{length, getD}
 use borrow.Author.Needs.{needs}
 use Rattle.interface.specs.Requests.{offsetOf}
+use Rattle.interface.specs.Numbers.{pagesIn}
 use Rattle.table.specs.Store.{kept}
 use Rattle.areas.specs.Areas.{Near}
 use Rattle.areas.proofs.FormedLaws.{near}
-use Rattle.state.specs.World.{pagesIn}
 use Rattle.rules.proofs.FitLaws.{page-small}
 use Rattle.content.proofs.ReadingLaws.{backing-there, read-is}
 use Rattle.content.proofs.read.read.Statement.{statement}

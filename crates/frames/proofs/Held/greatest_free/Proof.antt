@@ -4,7 +4,7 @@ use native.Mathlib.Omega.{arith}
 use native.Mathlib.Nat.{le-of-lt}
 use Prim.Native.Nat.{_-_}
 use borrow.Author.Needs.{needs}
-use Rattle.frames.specs.Word.{bit}
+use Rattle.words.specs.Word.{bit}
 use Rattle.frames.proofs.GreatestLaws.{greatest-found, free-low, free-found, free-rest}
 use Rattle.frames.proofs.Held.greatest_free.Statement.{statement}
 use Rattle.frames.proofs.Held.greatest_free.Tie as tie

@@ -5,7 +5,7 @@ use lib.Dec.{eqb}
 use borrow.Author.Needs.{needs}
 use borrow.Author.Tests.{lt-ltb, le-ltb}
 use Rattle.basics.proofs.LoopLaws.{lowest-range}
-use Rattle.frames.specs.Word.{bit}
+use Rattle.words.specs.Word.{bit}
 use Rattle.frames.proofs.PairLaws.{least-words}
 use Rattle.frames.proofs.Held.least.Statement.{statement}
 use Rattle.frames.proofs.Held.least.Tie as tie

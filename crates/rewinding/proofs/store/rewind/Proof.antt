@@ -7,6 +7,7 @@ use Prim.Native.Nat.{ℕ, _+_, _-_, _*_, _≤_}
 use native.Mathlib.Omega.{arith}
 use lib.ListN.{length}
 use Rattle.interface.specs.Slots.{isCommitted, backingAt}
+use Rattle.interface.specs.Numbers.{pagesIn}
 use Rattle.table.specs.Store.{Store, kept, Ranged, rewindPage, rewindTo}
 use Rattle.table.specs.Backing.{backingPage, backingEnd}
 use Rattle.table.proofs.RewindLaws.{rewind-kept-as, rewind-more}
@@ -14,7 +15,6 @@ use Rattle.table.proofs.TouchLaws.{backing-whole}
 use Rattle.areas.specs.declared.area.Areas.{Areas}
 use Rattle.areas.specs.Areas.{slots}
 use Rattle.areas.proofs.FormedLaws.{near}
-use Rattle.state.specs.World.{pagesIn}
 use Rattle.content.specs.Content.{copyPage}
 use Rattle.content.proofs.ReadingLaws.{backing-there}
 use Rattle.memory.specs.Memory.{keepsFront}

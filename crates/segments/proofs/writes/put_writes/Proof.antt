@@ -4,7 +4,8 @@ use mathlib.Core.Path.{refl, ap}
 use mathlib.Core.List.{List}
 use Rattle.interface.specs.declared.request.Request.{Request}
 use Rattle.printing.proofs.PutLaws.{Turn, turn-first, turn-room, turn-next, turn-last}
-use Rattle.segments.specs.ByPages.{pageLines, writesAt}
+use Rattle.page_writes.specs.PageLines.{pageLines}
+use Rattle.segments.specs.ByPages.{writesAt}
 use borrow.Author.Needs.{needs}
 use Rattle.segments.proofs.writes.put_writes.Statement.{statement}
 use Rattle.segments.proofs.writes.put_writes.Tie as tie

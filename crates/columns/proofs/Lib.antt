@@ -1,0 +1,3 @@
+pub mod PrintLaws
+pub mod FieldLaws
+pub mod Examples

@@ -1,0 +1,4 @@
+pub mod SumLaws
+pub mod WordLaws
+pub mod OperatorLaws
+pub mod TrailingLaws
