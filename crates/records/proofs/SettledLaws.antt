@@ -25,9 +25,9 @@ pub copied-slots : (images : ℕ) (r : Record) → SoundRecord images r → copi
 copied-slots images r S = copied-as r (S .untaken)
 
 -- whatever else is in the view
-pub settled-of : (images : ℕ) (r : Record) → SoundRecord images r → (sound : Bool) (frames images shares : ℕ)
-    → Settled (viewFrom sound frames images shares r)
-settled-of images r A sound frames images shares =
+pub settled-of : (images : ℕ) (r : Record) → SoundRecord images r → (sound : Bool) (frames pages shares : ℕ)
+    → Settled (viewFrom sound frames pages shares r)
+settled-of images r A sound frames pages shares =
     let copy = copied-slots images r A in
     record {
       charged = A .charged;
