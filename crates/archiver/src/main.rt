@@ -1,16 +1,17 @@
 // The program for the archive box: plays the roll on standard input with 128 frames and the image from `image.bin`, and writes the archive roll of the snapshot
 // of the sandbox that its argument names. Where that is refused it writes nothing, and says the refusal's number on standard error.
 // It promises that what it reads, one line after the other, is one roll played from a start, and that answer and output are those of the archive roll of what
-// that roll left (`Performed`); so what it hands on to be written is the plain machine's archive roll, or nothing where that is refused (specs/Prints).
-// It stands on `starting` for the start, on `roll_input` for the roll played, on `archiving`, on `image_file` for the image, and on the kit's `io`, `os` and
-// `libc`; which bytes these read and write nothing proves.
+// that roll left (`Performed`); so what it hands on to be written is the plain machine's archive roll, or nothing where that is refused (specs/Prints of
+// `archive_program`).
+// It stands on `starting` for the start, on `roll_input` for the roll played, on `archiving`, on `archive_program` for what is promised, on `image_file` for the
+// image, and on the kit's `io`, `os` and `libc`; which bytes these read and write nothing proves.
 ghost use mathlib.Core.Path.{_≡_};
 ghost use Prim.Native.Nat.{_*_, _≤_};
 ghost use lib.ListN.{length};
 ghost use Rattle.interface.specs.Answers.{valueOf};
 ghost use Rattle.state.specs.Start.{startedBy};
-ghost use Rattle.archiver.specs.Sandbox.{named};
-ghost use Rattle.archiver.specs.Performed.{Performed};
+ghost use Rattle.archive_program.specs.Performed.{Performed};
+use archive_program::name;
 use archiving::write_archive;
 use image_file::Found;
 use image_file::image_bytes;
@@ -70,25 +71,6 @@ fn sandbox() -> u16 {
     let mut text = [0u8; 1];
     let bytes = os::arg(1, &mut text);
     name(bytes, text[0])
-}
-
-// The first number that no sandbox has.
-const NO_SANDBOX: u16 = 4;
-
-// One digit, 0 to 3, names a sandbox; anything else names none.
-fn name(bytes: usize, first: u8) -> u16
-    ensures { λ r. ⌜ r ≡ named bytes first ⌝ }
-{
-    if bytes != 1 {
-        return NO_SANDBOX;
-    }
-    if first < b'0' {
-        return NO_SANDBOX;
-    }
-    if b'3' < first {
-        return NO_SANDBOX;
-    }
-    (first - b'0') as u16
 }
 
 // Says a refusal's number on standard error.

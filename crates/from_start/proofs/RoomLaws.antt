@@ -1,4 +1,4 @@
--- A roll has at most 65,535 lines; and what is left with room for every reply, and without it, is what `FromStart` says.
+-- What is left with room for every reply, and without it, is what `FromStart` says.
 use mathlib.Core.Path.{_≡_, refl, subst}
 use mathlib.Core.List.{List}
 use Prim.Native.Nat.{ℕ, _*_, _≤_, _<_}
@@ -11,15 +11,12 @@ use Rattle.state.specs.Start.{startedBy}
 use Rattle.roll.specs.Play.{Played}
 use Rattle.host_rolls.specs.FromStart.{Regions, Room, FromStart}
 
-pub few-lines : (bytes : ℕ) → linesOf bytes ≤ 65535
-unfolding linesOf
-few-lines bytes = omega arith
-
-pub no-room : (image roll : List ℕ) (before : Regions) → length (before .out) < linesOf (length roll) * 19 → FromStart image roll before before 0
-no-room image roll before short = record {
-  answered = λ room. absurd (omega (arith, short, room));
-  played = λ room. absurd (omega (arith, short, room));
-  refused = λ _. (refl, refl);
+pub no-room : (image roll : List ℕ) (before : Regions) (lines : ℕ) → (length (before .out) < linesOf (length roll) * 19) × (lines ≡ 0)
+    → FromStart image roll before before lines
+no-room image roll before lines short = record {
+  answered = λ room. absurd (omega (arith, short .0, room));
+  played = λ room. absurd (omega (arith, short .0, room));
+  refused = λ _. (short .1, refl);
 }
 
 pub room-for-all : (image roll : List ℕ) (before after : Regions) (lines : ℕ) (w : World) (m : Machine)

@@ -1,12 +1,11 @@
 // A roll played from a start over lent memory.
 // It promises: whatever is lent it ends; the replies are those of a run from the start, and nothing is touched where they would not fit (`FromStart`,
 // specs/FromStart of `host_rolls`).
-// It stands on `playing` for the play, on `starting` for its start, and on `host_rolls` for what is promised.
+// It stands on `playing` for the play, on `starting` for its start, on `room` for the room of its replies, and on `host_rolls` for what is promised.
 ghost use Rattle.host_rolls.specs.FromStart.{regions, FromStart};
-use lines::Line;
-use lines::lines_of;
 use playing::Player;
 use playing::play;
+use room::room_for;
 use starting::start;
 
 // Starts the machine, plays the roll and says how many lines have a reply; without room for every reply it does nothing.
@@ -21,9 +20,9 @@ pub fn play_from_start(
         let after = regions (now (pool .exit)) (now (table .exit)) (now (out .exit)) in
         ⌜ FromStart (now (image .entry)) (now (roll .entry)) before after r ⌝ }
 {
-    let lines = lines_of(roll.len());
-    if out.len() < lines * Line::REPLY {
-        return 0;
+    let room = room_for(roll.len(), out.len());
+    if !room.fits {
+        return room.lines;
     }
     let machine = start(pool, table, image).machine;
     let player = Player {
@@ -31,5 +30,5 @@ pub fn play_from_start(
         line: 1,
     };
     play(player, pool, table, image, roll, out);
-    lines
+    room.lines
 }

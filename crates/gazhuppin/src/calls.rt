@@ -8,9 +8,9 @@ ghost use Rattle.filing.specs.Filed.{left, filed};
 use filing::archive_over;
 use host_calls::Asked;
 use host_calls::Told;
+use host_start::start_over;
 use layout::size::Size;
 use stepwise::call_over;
-use stepwise::start_over;
 
 // How many bytes a host lends for the state.
 #[no_mangle]

@@ -9,9 +9,6 @@ use borrow.Author.Tests.{eqb-true, eq-eqb, ne-eqb, not-true, not-false}
 use Rattle.basics.proofs.TestLaws.{by-cases, never}
 use Rattle.interface.specs.declared.request.Request.{Request}
 use Rattle.interface.specs.declared.answer.Answer.{Answer}
-use Rattle.interface.specs.declared.answer.Answer.the-variants.{Refused}
-use Rattle.interface.specs.declared.answer.Refusal.the-variants.{NoSuchCall, Unsound}
-use Rattle.interface.specs.Requests.{isCall}
 use Rattle.interface.specs.Answers.{Answered, numberOf}
 use Rattle.state.specs.World.{World, worldOf}
 use Rattle.state.specs.Start.{startAnswer, startedBy}
@@ -22,13 +19,13 @@ use Rattle.layout.specs.Rows.{Bytes}
 use Rattle.layout.specs.Layout.{stateSize, stateBytes, stateFrom, isState, Shaped}
 use Rattle.layout.specs.Claims.{machineOf}
 use Rattle.layout.proofs.Claims.{decodes-back, passes, only-canonical, gives-shaped, sound-is-shaped}
-use Rattle.performing.specs.declared.Reply.{Reply}
+use Rattle.step.specs.declared.Reply.{Reply}
 use Rattle.step.specs.Step.{numberAt, Outcome, Stepped}
-use Rattle.performing.specs.Reply.{outcomeOf}
+use Rattle.step.specs.Reply.{outcomeOf}
 use Rattle.simulation.proofs.StepLaws.{was-sound, refused-leaves}
 use Rattle.claims.proofs.Claims.{claim-1}
 use Rattle.host_calls.specs.declared.Told.{Told}
-use Rattle.host_calls.specs.Calls.{Handed, handed, handsOf, worldIn, toldBy, answerTold, outcomeIn, startNumber, startHands, Called}
+use Rattle.host_calls.specs.Calls.{Handed, handed, handsOf, worldIn, toldBy, answerTold, outcomeIn, startNumber, startHands, noState, Called}
 
 -- ---- the test of bytes, as code has it: `if !is_state(state)`
 
@@ -69,11 +66,9 @@ module _ (image : List ℕ) (h : Handed) where
 -- ---- a call
 
 module _ (image : List ℕ) (h : Handed) (q : Request) where
-  pub call-two : isState (h .state) ≡ false → isCall q ≡ false → Called image h q (toldBy (Refused NoSuchCall)) h
-  call-two n e = record { unsound = λ _. (rw e refl, refl); stepped = λ y. never (isState (h .state)) y n; refused = λ _. (refl, refl) }
-
-  pub call-three : isState (h .state) ≡ false → isCall q ≡ true → Called image h q (toldBy (Refused Unsound)) h
-  call-three n e = record { unsound = λ _. (rw e refl, refl); stepped = λ y. never (isState (h .state)) y n; refused = λ _. (refl, refl) }
+  pub call-unsound : (t : Told) → isState (h .state) ≡ false → answerTold t ≡ noState q → Called image h q t h
+  call-unsound t n e =
+      record { unsound = λ _. (e, refl); stepped = λ y. never (isState (h .state)) y n; refused = λ _. (ap (λ (a : Answered). a .value) e, refl) }
 
   -- of bytes that are those of the world they give
   module _ (own : h ≡ handsOf (worldIn h)) (shaped : Shaped (stateFrom (h .state))) where

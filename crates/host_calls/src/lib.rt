@@ -1,10 +1,11 @@
 // What a start and a call at a time are to a host that keeps the state as bytes beside its pool and table, and what it gets of them: definitions and theorems.
-// The code is in `stepwise`; here is what a host asks, and what it is told, as both cross to C.
+// The code is in `host_start` and `stepwise`; here is what a host asks, and what it is told, as both cross to C.
 // It promises (specs/HostClaims) that calls in turn are a run of the machine, so that each demand is true of them, in bytes.
-// It stands on `machine` for the step, on `layout` for the bytes, on `codes` for numbers, and on `claims` and `consequences` for what is promised.
+// It stands on `step` for the step, on `layout` for the bytes, on `codes` for numbers, and on `claims` and `consequences` for what is promised.
 ghost use mathlib.Core.Path.{_≡_};
-ghost use Rattle.host_calls.specs.Calls.{toldBy, requestIn};
+ghost use Rattle.host_calls.specs.Calls.{toldBy, answerTold, requestIn, noState};
 use interface::Answer;
+use interface::Refusal;
 use interface::Request;
 
 // What a host asks: the seven numbers of a line.
@@ -55,5 +56,15 @@ impl Told {
             number: codes::number(answer) as u32,
             value: codes::value(answer),
         }
+    }
+
+    // Where the bytes are no state's: row 2 where the code is no call's, else row 3.
+    pub fn without_state(q: Request) -> Told
+        ensures { λ r. ⌜ answerTold r ≡ noState q ⌝ }
+    {
+        if !codes::is_call(q) {
+            return Told::by(Answer::Refused(Refusal::NoSuchCall));
+        }
+        Told::by(Answer::Refused(Refusal::Unsound))
     }
 }

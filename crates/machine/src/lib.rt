@@ -5,17 +5,17 @@
 ghost use mathlib.Core.Path.{_≡_};
 ghost use Rattle.state.specs.World.{worldOf};
 ghost use Rattle.step.specs.Step.{Stepped};
-ghost use Rattle.performing.specs.Reply.{outcomeOf};
+ghost use Rattle.step.specs.Reply.{outcomeOf};
 use decision::Verdict;
 use interface::Answer;
 use interface::PageNo;
 use interface::Refusal;
 use interface::Request;
-use performing::Reply;
 use performing::perform;
 use sandbox_decision::decide;
 use soundness::sound::sound;
 use state::sandbox::Machine;
+use step::Reply;
 
 // One request. Whatever is handed in, it ends with the outcome of `step`.
 pub fn call(machine: Machine, pool: &mut [u8], table: &mut [u16], image: &[u8], q: Request) -> Reply

@@ -6,7 +6,7 @@ ghost use Rattle.state.specs.World.{worldOf, recordAt};
 ghost use Rattle.rules.specs.After.{presentAfter};
 ghost use Rattle.memory.specs.Parts.{Asked};
 ghost use Rattle.step.specs.Step.{Performed};
-ghost use Rattle.performing.specs.Reply.{outcomeOf};
+ghost use Rattle.step.specs.Reply.{outcomeOf};
 use areas::area::Areas;
 use effects::store_after;
 use interface::Answer;
@@ -14,13 +14,8 @@ use interface::Request;
 use rules::record_after;
 use state::sandbox::Machine;
 use state::sandbox::Sandbox;
+use step::Reply;
 use values::value_of;
-
-// A state, and what the call answers.
-pub struct Reply {
-    pub machine: Machine,
-    pub answer: Answer,
-}
 
 // An accepted request: its value, then the store and the runs, then the sandbox with its new areas and runs.
 pub fn perform(

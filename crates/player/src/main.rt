@@ -1,14 +1,17 @@
 // The player: "reads the roll on standard input and the image from `image.bin`", plays it with 128 frames, and prints a line for each line.
 // It answers each line as soon as the line has come, so that a program can talk with it. It promises that what it reads, one line after the other, is one roll
 // played from a start, and that what it hands on to be written is that roll's replies (`Talked`); so they are the plain machine's, or the refusals of a wrong
-// length (specs/Replies).
-// It stands on `playing`, on `image_file` for the image, and on the kit's `io`, `os` and `libc`; which bytes these read and write nothing proves.
+// length (specs/Replies of `conversation`).
+// It stands on `playing`, on `conversation` for what is promised, on `image_file` for the image, and on the kit's `io`, `os` and `libc`; which bytes these
+// read and write nothing proves.
 ghost use mathlib.Core.Path.{_≡_};
 ghost use Prim.Native.Nat.{_≤_};
 ghost use lib.ListN.{length};
 ghost use Rattle.state.specs.World.{worldOf};
 ghost use Rattle.state.specs.Start.{startedBy};
-ghost use Rattle.player.specs.Conversation.{turnOf, goesOn, Answers, Talked};
+ghost use Rattle.conversation.specs.Conversation.{turnOf, goesOn, Answers, Talked};
+use conversation::Progress;
+use conversation::goes_on;
 use image_file::Found;
 use image_file::image_bytes;
 use image_file::load;
@@ -17,7 +20,6 @@ use lines::lines_of;
 use marks::Marks;
 use playing::Player;
 use playing::play;
-use state::sandbox::Machine;
 
 fn main() {
     let mut image = [0u8; Found::BYTES];
@@ -53,14 +55,6 @@ fn perform(pool: &mut [u8], table: &mut [u16], image: &[u8]) -> bool
     true
 }
 
-// What a turn leaves: the machine, how many bytes of a line were read, whether its reply was written, and whether another line is to be read.
-struct Progress {
-    machine: Machine,
-    got: usize,
-    written: bool,
-    more: bool,
-}
-
 // Reads a line, plays it and prints its reply. Where nothing is read, nothing is printed.
 fn turn(
     player: Player,
@@ -85,7 +79,7 @@ fn turn(
         machine: after,
         got: got,
         written: written,
-        more: written & (got == Line::BYTES),
+        more: goes_on(written, got),
     }
 }
 

@@ -1,22 +1,21 @@
 // One line of a roll answered: its request is called, and the reply is printed at its place.
 // It promises that the reply is that of the machine's step, or refusal 1 where the line is malformed, and that nothing else of the output changes
 // (`Turned` and `Replied` of `roll`).
-// It stands on `machine` for the call, on `codes` for the number of an answer, on `printer` for the print and on `roll` for what a reply is.
+// It stands on `machine` for the call, on `reply_text` for the reply printed and on `roll` for what a reply is.
 ghost use mathlib.Core.Path.{_≡_};
 ghost use Prim.Native.Nat.{_+_, _*_, _≤_};
 ghost use lib.ListN.{length};
-ghost use Rattle.interface.specs.Answers.{numberOf, valueOf};
-ghost use Rattle.columns.specs.Prints.{printedReply};
+ghost use Rattle.interface.specs.Answers.{valueOf};
 ghost use Rattle.state.specs.World.{worldOf};
-ghost use Rattle.performing.specs.Reply.{outcomeOf};
+ghost use Rattle.step.specs.Reply.{outcomeOf};
 ghost use Rattle.roll.specs.Play.{Turned, Replied};
 use interface::Answer;
 use interface::Refusal;
 use lines::Line;
-use performing::Reply;
 use machine::call;
-use printer::print_reply;
+use reply_text::print_answer;
 use state::sandbox::Machine;
+use step::Reply;
 
 // A roll that is being played: the machine, the number of the roll's first line, and how many lines are answered.
 pub struct Playing {
@@ -43,11 +42,10 @@ pub fn reply<'a, 'b>(
 {
     let machine = playing.machine;
     let r = turn(machine, pool, table, image, line);
-    let at = playing.answered * Line::REPLY;
-    let end = at + Line::REPLY;
     let answer = r.answer;
-    print(
-        &mut out[at..end],
+    print_answer(
+        out,
+        playing.answered,
         playing.first + playing.answered as u32,
         answer,
     );
@@ -72,18 +70,4 @@ fn turn(machine: Machine, pool: &mut [u8], table: &mut [u16], image: &[u8], line
             answer: Answer::Refused(Refusal::Malformed),
         },
     }
-}
-
-// Prints an answer under its line's number, into 19 bytes.
-fn print(out: &mut [u8], line: u32, answer: Answer)
-    requires { ⌜ length (now out) ≡ 19 ⌝ }
-    requires { ⌜ (line ≤ 999999) × (valueOf answer ≤ 65535) ⌝ }
-    ensures { λ _. ⌜ now (out .exit) ≡ printedReply line (numberOf answer) (valueOf answer) ⌝ }
-{
-    print_reply(
-        out,
-        line,
-        codes::number(answer) as u32,
-        codes::value(answer),
-    )
 }

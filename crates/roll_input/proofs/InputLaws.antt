@@ -1,9 +1,12 @@
 -- Lines read and played one after the other are one roll played.
 use mathlib.Core.Path.{_≡_, refl, sym, ap, subst, _∙_}
+use mathlib.Core.Bool.{Bool, true, false, not}
 use mathlib.Core.List.{List, [], _++_, append-assoc, append-nil}
 use Prim.Native.Nat.{ℕ, _+_, _*_, _≤_, _<_}
 use native.Mathlib.Omega.{arith}
 use lib.ListN.{length, take, length-append}
+use lib.Dec.{eqb}
+use borrow.Author.Tests.{eqb-true, eqb-false, not-true, not-false}
 use Rattle.lines.specs.Lines.{linesOf}
 use Rattle.state.specs.World.{World}
 use Rattle.roll.specs.Play.{Played}
@@ -33,6 +36,13 @@ none-so-far image w = record {
   behind = λ rest r. r;
   played = played-none image [] [] w 1;
 }
+
+-- at most 43 bytes are a whole line where the test says so, and fewer where it does not
+pub short-line : (bytes : ℕ) (whole : Bool) → whole ≡ eqb bytes 43 → bytes ≤ 43 → not whole ≡ true → bytes < 43
+short-line bytes whole is few e = let other = eqb-false bytes 43 (sym is ∙ not-true whole e) in omega (arith, few, other)
+
+pub whole-line : (bytes : ℕ) (whole : Bool) → whole ≡ eqb bytes 43 → not whole ≡ false → bytes ≡ 43
+whole-line bytes whole is e = eqb-true bytes 43 (sym is ∙ not-false whole e)
 
 a-line : (bytes : ℕ) → bytes ≡ 43 → linesOf bytes ≡ 1
 unfolding linesOf

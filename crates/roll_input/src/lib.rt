@@ -1,8 +1,9 @@
 // A roll on standard input, played line by line; its replies are not printed.
 // It promises that what it reads, one line after the other until a short one or the 65,535th, is one roll played (`RollPlayed`).
-// It stands on `playing`, and on the kit's `io` and `libc`; which bytes these read nothing proves.
+// It stands on `playing`, on `input` for when another line is read, and on the kit's `io` and `libc`; which bytes these read nothing proves.
 ghost use Rattle.state.specs.World.{worldOf};
 ghost use Rattle.roll_input.specs.Input.{RollPlayed};
+use input::is_whole;
 use lines::Line;
 use playing::Player;
 use playing::play;
@@ -24,7 +25,7 @@ pub fn play_input(machine: Machine, pool: &mut [u8], table: &mut [u16], image: &
             line: number,
         };
         state = play(player, pool, table, image, &line[..got], &mut reply);
-        if got < Line::BYTES {
+        if !is_whole(got) {
             return state;
         }
         number += 1;

@@ -2,7 +2,7 @@
 use mathlib.Core.Path.{subst}
 use Rattle.state.specs.World.{worldOf}
 use Rattle.roll_input.specs.Input.{RollPlayed}
-use Rattle.archiver.proofs.PerformedLaws.{answered-fits}
+use Rattle.archive_program.proofs.PerformedLaws.{answered-fits}
 use borrow.Author.Needs.{needs}
 use Rattle.archiver.proofs.perform.Statement.{statement}
 use Rattle.archiver.proofs.perform.Tie as tie

@@ -8,8 +8,8 @@ use lib.ListN.{length}
 use borrow.Author.Needs.{needs}
 use Rattle.state.specs.World.{World, worldOf}
 use Rattle.state.specs.Start.{startedBy}
-use Rattle.player.specs.Conversation.{Turn, turnOf, Talked}
-use Rattle.player.proofs.ConversationLaws.{GoesOnTo, none-so-far, one-turn-more, ended-by, ended-full}
+use Rattle.conversation.specs.Conversation.{Turn, turnOf, Talked}
+use Rattle.conversation.proofs.ConversationLaws.{GoesOnTo, none-so-far, one-turn-more, ended-by, ended-full}
 use Rattle.player.proofs.perform.Statement.{statement}
 use Rattle.player.proofs.perform.Tie as tie
 

@@ -1,5 +1,5 @@
 -- A turn: at most a line is read, it is played alone, and its reply is handed on.
-use mathlib.Core.Path.{sym, ap}
+use mathlib.Core.Path.{sym, ap, _∙_}
 use mathlib.Core.Bool.{_&&_}
 use Prim.Native.Nat.{_≤_}
 use lib.Dec.{eqb}
@@ -8,7 +8,7 @@ use lib.Seq.{length-take-le}
 use Rattle.lines.specs.Lines.{linesOf}
 use Rattle.state.specs.World.{worldOf}
 use Rattle.playing.proofs.PrefixLaws.{few-lines}
-use Rattle.player.proofs.ConversationLaws.{turn-answers}
+use Rattle.conversation.proofs.ConversationLaws.{turn-answers}
 use borrow.Author.Needs.{needs}
 use Rattle.player.proofs.turn.Statement.{statement}
 use Rattle.player.proofs.turn.Tie as tie
@@ -67,6 +67,9 @@ slice-aggregate-write-all c = sym (length-take-le _ _ (slice-reshare-prefix-writ
 write-all-requires : tie.Need-write-all-requires
 write-all-requires c κs = search needs
 
+goes-on-requires : tie.Need-goes-on-requires
+goes-on-requires c κs = search needs
+
 same-length : tie.Need-same-length
 same-length c = search needs
 
@@ -81,7 +84,8 @@ same-length-4 c = search needs
 
 returns : tie.Need-returns
 returns c =
-    let playing = playingOf (c .before .before) in
+    let writing = c .before in
+    let playing = playingOf (writing .before .before) in
     let played = playing .play in
     let reading = readingOf playing in
     let got = reading .read-full in
@@ -90,9 +94,9 @@ returns c =
     let reply = played .last .1 .1 .1 .1 .1 .0 in
     let w = worldOf (start .args .player .machine) (start .args .pool .now) (start .args .table .now) in
     let v = worldOf (played .result) (played .last .1 .0) (played .last .1 .1 .0) in (
-      turn-answers image (got .last .1 .0) (start .args .reply .now) reply (start .args .player .line) (got .result) (c .write-all .result) w v
+      turn-answers image (got .last .1 .0) (start .args .reply .now) reply (start .args .player .line) (got .result) (writing .write-all .result) w v
           (start .pre .1) (few-bytes reading) (sym (got .ensures .1)) (played .ensures),
-      ap (λ n. c .write-all .result && eqb n 43) (got .ensures .1),
+      c .goes-on .ensures ∙ ap (λ n. writing .write-all .result && eqb n 43) (got .ensures .1),
     )
 
 pub turn-spec : {M : Type 1} → statement M
@@ -108,6 +112,7 @@ turn-spec =
     slice-reshare-prefix-write-all
     slice-aggregate-write-all
     write-all-requires
+    goes-on-requires
     same-length
     same-length-2
     same-length-3

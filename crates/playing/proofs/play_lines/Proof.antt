@@ -52,7 +52,7 @@ use Rattle.playing.proofs.play_lines.Key.{name as #playing·play-lines}
 use Rattle.playing.proofs.play_lines as play-lines
 use Rattle.playing.proofs.play_lines.Statement as stated
 use Rattle.playing.proofs.play_lines.Code as code
-use Rattle.playing.proofs.play_lines.Proof.Held.{valueOf, value-told, Passed, Next, Skip, Reply, Fits, reader, slice, image, roll, κi, κr}
+use Rattle.playing.proofs.play_lines.Proof.Held.{valueOf, value-told, Passed, Next, Skip, Reply, Fits, fitting, reader, slice, image, roll, κi, κr}
 use Rattle.playing.proofs.play_lines.Proof.Ends.{New, stayed, vals, Post, made}
 use Rattle.playing.proofs.play_lines.Proof.Loop.{passed, typed-state, typed-slice, from-new}
 
@@ -100,15 +100,7 @@ module _ {M₁ : Type 1} (𝓤 : URA M₁) (H : Heap 𝓤) (A : Atoms 𝓤) (W :
       (value-told, (mut-slice-tells (named 0) (κs .0) u8, (table, (image, (roll, (out, tt)))))))
       (λ κs qs bounds a g are. needs 𝓤 _ _ (λ asked.
       walk (record { κs = κs; qs = qs; args = a })
-      (record {
-        pool-room = are .1 .0 .0 .1;
-        table-room = are .1 .1 .0 .0 .1;
-        out-room = are .1 .1 .1 .1 .1 .0 .0 .1;
-        none-yet = asked .1;
-        n-fits = omega (arith, are .1 .1 .1 .1 .1 .0 .0 .1 .0);
-        room = omega arith;
-        numbers = asked .0;
-      })
+      (fitting (record { κs = κs; qs = qs; args = a }) (are .1 .0 .0 .1) (are .1 .1 .0 .0 .1) (are .1 .1 .1 .1 .1 .0 .0 .1) asked)
       (are .0) (are .1 .1 .1 .0) (are .1 .1 .1 .1 .0) 𝓤 H A W mem run 𝓣 known-new known-next known-skip known-reply))
 
   play-lines-meets : Meets 𝓤 H A play-lines.signature (WpFn 𝓤 H (𝓣 .C) (𝓣 .Λ) code.function) (play-lines.spec 𝓤 H A mem run)

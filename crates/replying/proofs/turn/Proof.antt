@@ -2,7 +2,7 @@
 use native.Mathlib.Omega.{arith}
 use mathlib.Core.Path.{refl, sym, subst}
 use Rattle.state.specs.World.{worldOf}
-use Rattle.performing.specs.Reply.{outcomeOf}
+use Rattle.step.specs.Reply.{outcomeOf}
 use Rattle.roll.specs.Play.{malformed, Turned}
 use Rattle.roll.proofs.SmallLaws.{value-small}
 use borrow.Author.Needs.{needs}

@@ -7,7 +7,7 @@ use lib.ListN.{length}
 use borrow.Author.Needs.{needs}
 use Rattle.state.specs.World.{World, worldOf}
 use Rattle.playing.proofs.PrefixLaws.{few-lines}
-use Rattle.roll_input.proofs.InputLaws.{SoFar, none-so-far, ended, one-more, full}
+use Rattle.roll_input.proofs.InputLaws.{SoFar, none-so-far, short-line, whole-line, ended, one-more, full}
 use Rattle.roll_input.proofs.play_input.Statement.{statement}
 use Rattle.roll_input.proofs.play_input.Tie as tie
 
@@ -87,6 +87,9 @@ play-requires c κs =
     let few = few-lines (reading .read-full .result) (few-bytes reading) in
     rw (← (reading .read-full .ensures .1)) (omega (arith, few), omega (arith, few, at .loop .inv .0))
 
+is-whole-requires : tie.Need-is-whole-requires Inv-loop μ-loop
+is-whole-requires c κs = search needs
+
 same-length : tie.Need-same-length Inv-loop μ-loop
 same-length c = search needs
 
@@ -95,12 +98,14 @@ same-length-2 c = search needs
 
 returns : tie.Need-returns Inv-loop μ-loop
 returns c =
-    let playing = c .before .before .before .before .before .before in
+    let told = c .before .is-whole in
+    let playing = c .before .before .before .before .before .before .before in
     let reading = readOf playing in
     let at = loopOf reading in
     let low : at .loop .number ≤ 65535 = omega (arith, reading .before .before .loop-test .taken) in
     ended (imageIn at) (worldBegun at) (at .loop .number) (worldAt at) (at .loop .inv .3) low _ _ _ (worldAfter playing)
-    (rw (← (reading .read-full .ensures .1)) (c .if1 .taken)) (playing .play .ensures)
+    (rw (← (reading .read-full .ensures .1)) (short-line (reading .read-full .result) (told .result) (told .ensures) (few-bytes reading) (c .if1 .taken)))
+    (playing .play .ensures)
 
 add-number : tie.Need-add-number Inv-loop μ-loop
 add-number c = search needs
@@ -110,12 +115,13 @@ loop-less c = search needs
 
 loop-again : tie.Need-loop-again Inv-loop μ-loop
 loop-again c =
-    let playing = c .before .before .before .before .before .before in
+    let told = c .before .is-whole in
+    let playing = c .before .before .before .before .before .before .before in
     let reading = readOf playing in
     let at = loopOf reading in
     let got = reading .read-full in
     let low : at .loop .number ≤ 65535 = omega (arith, reading .before .before .loop-test .taken) in
-    let whole : got .result ≡ 43 = omega (arith, few-bytes reading, c .if1 .left) in (
+    let whole : got .result ≡ 43 = whole-line (got .result) (told .result) (told .ensures) (c .if1 .left) in (
       omega (arith, low),
       playing .play .kept .1 .0 ∙ at .loop .inv .1,
       playing .play .kept .1 .1 .0 ∙ at .loop .inv .2,
@@ -148,6 +154,7 @@ play-input-spec =
     slice-aggregate-play
     slice-aggregate-play-2
     play-requires
+    is-whole-requires
     same-length
     same-length-2
     returns

@@ -1,13 +1,12 @@
 -- A call over the bytes of a state is the definition's: what each test shows, and the answer behind it by the law of that way out.
-use mathlib.Core.Path.{_≡_, sym, _∙_}
+use mathlib.Core.Path.{_≡_}
 use mathlib.Core.Bool.{true, false}
 use native.Mathlib.Omega.{arith}
-use borrow.Author.Tests.{not-true, not-false}
 use Rattle.layout.specs.Rows.{Bytes}
 use Rattle.layout.specs.Layout.{isState}
 use Rattle.layout.proofs.LayoutLaws.{state-long}
 use Rattle.host_calls.specs.Calls.{Handed, handed}
-use Rattle.host_calls.proofs.CallLaws.{fails-test, passes-test, call-two, call-three, call-stepped}
+use Rattle.host_calls.proofs.CallLaws.{fails-test, passes-test, call-unsound, call-stepped}
 use borrow.Author.Needs.{needs}
 use Rattle.stepwise.proofs.call_over.Statement.{statement}
 use Rattle.stepwise.proofs.call_over.Tie as tie
@@ -32,7 +31,7 @@ decoded c = c .before .before .before
 abbrev called : tie.After-encode-arg → tie.After-call
 called c = c .before .before .before .before .before .before
 
-abbrev written : tie.After-by3 → tie.After-encode
+abbrev written : tie.After-by → tie.After-encode
 written c = c .before .before .before
 
 no-state : (c : tie.Then1) → isState (behindNo c .args .state .now) ≡ false
@@ -46,36 +45,17 @@ a-state c = passes-test (behindYes c .args .state .now) (c .before .is-state .re
 is-state-requires : tie.Need-is-state-requires
 is-state-requires c κs = search needs
 
-is-call-requires : tie.Need-is-call-requires
-is-call-requires c κs = search needs
-
-by-requires : tie.Need-by-requires
-by-requires c κs = search needs
+without-state-requires : tie.Need-without-state-requires
+without-state-requires c κs = search needs
 
 same-length : tie.Need-same-length
 same-length c = search needs
 
 returns : tie.Need-returns
 returns c =
-    let code = c .before .before .is-call in
-    let branch = c .before .before .before in
+    let branch = c .before in
     let first = behindNo branch in
-    let no-call = sym (code .ensures) ∙ not-true (code .result) (c .before .if2 .taken) in
-    rw (c .by .ensures) (call-two (first .args .image .now) (hands first) (first .args .q) (no-state branch) no-call)
-
-by-requires-2 : tie.Need-by-requires-2
-by-requires-2 c κs = search needs
-
-same-length-2 : tie.Need-same-length-2
-same-length-2 c = search needs
-
-returns-2 : tie.Need-returns-2
-returns-2 c =
-    let code = c .before .before .is-call in
-    let branch = c .before .before .before in
-    let first = behindNo branch in
-    let a-call = sym (code .ensures) ∙ not-false (code .result) (c .before .if2 .left) in
-    rw (c .by2 .ensures) (call-three (first .args .image .now) (hands first) (first .args .q) (no-state branch) a-call)
+    call-unsound (first .args .image .now) (hands first) (first .args .q) (c .without-state .result) (no-state branch) (c .without-state .ensures)
 
 decode-requires : tie.Need-decode-requires
 decode-requires c κs = state-long (behindYes (c .before) .args .state .now) (a-state (c .before))
@@ -88,8 +68,11 @@ encode-requires c κs =
     let branch = passed (decoded (called c)) in
     state-long (behindYes branch .args .state .now) (a-state branch)
 
-by-requires-3 : tie.Need-by-requires-3
-by-requires-3 c κs = search needs
+by-requires : tie.Need-by-requires
+by-requires c κs = search needs
+
+same-length-2 : tie.Need-same-length-2
+same-length-2 c = search needs
 
 same-length-3 : tie.Need-same-length-3
 same-length-3 c = search needs
@@ -97,11 +80,8 @@ same-length-3 c = search needs
 same-length-4 : tie.Need-same-length-4
 same-length-4 c = search needs
 
-same-length-5 : tie.Need-same-length-5
-same-length-5 c = search needs
-
-returns-3 : tie.Need-returns-3
-returns-3 c =
+returns-2 : tie.Need-returns-2
+returns-2 c =
     let encoding = written c .encode in
     let calling = called (written c .before) in
     let decoding = decoded calling in
@@ -110,26 +90,22 @@ returns-3 c =
     let bytes : Bytes (first .args .state .now) = record { at = λ i. omega (arith, branch .before .before .before .before .before .slice-known .given i) } in
     let reply = calling .call in
     call-stepped (first .args .image .now) (hands first) (first .args .q) bytes (a-state branch)
-    (decoding .decode .result) (reply .result) (c .by3 .result) (encoding .last .1 .0) (reply .last .1 .0) (reply .last .1 .1 .0)
-    (decoding .decode .ensures) (reply .ensures) (encoding .ensures) (c .by3 .ensures)
+    (decoding .decode .result) (reply .result) (c .by .result) (encoding .last .1 .0) (reply .last .1 .0) (reply .last .1 .1 .0)
+    (decoding .decode .ensures) (reply .ensures) (encoding .ensures) (c .by .ensures)
 
 pub call-over-spec : {M : Type 1} → statement M
 call-over-spec =
     tie.close
     (tie.spec
     is-state-requires
-    is-call-requires
-    by-requires
+    without-state-requires
     same-length
     returns
-    by-requires-2
-    same-length-2
-    returns-2
     decode-requires
     call-requires
     encode-requires
-    by-requires-3
+    by-requires
+    same-length-2
     same-length-3
     same-length-4
-    same-length-5
-    returns-3)
+    returns-2)

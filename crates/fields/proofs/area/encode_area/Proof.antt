@@ -7,9 +7,6 @@ use borrow.Author.Needs.{needs}
 use Rattle.fields.proofs.area.encode_area.Statement.{statement}
 use Rattle.fields.proofs.area.encode_area.Tie as tie
 
-backing-bytes-requires : tie.Need-backing-bytes-requires
-backing-bytes-requires c κs = search needs
-
 slice-write-out : tie.Need-slice-write-out
 slice-write-out c = search needs
 
@@ -25,17 +22,17 @@ flag-requires c κs = search needs
 slice-write-out-4 : tie.Need-slice-write-out-4
 slice-write-out-4 c = search needs
 
-array-read-out : tie.Need-array-read-out
-array-read-out c = search needs
+kind-of-requires : tie.Need-kind-of-requires
+kind-of-requires c κs = search needs
 
 slice-write-out-5 : tie.Need-slice-write-out-5
 slice-write-out-5 c = simp length-set (omega (arith, c .before .before .before .pre))
 
-array-read-out-2 : tie.Need-array-read-out-2
-array-read-out-2 c = search needs
+start-of-requires : tie.Need-start-of-requires
+start-of-requires c κs = search needs
 
 slice-write-out-6 : tie.Need-slice-write-out-6
-slice-write-out-6 c = simp length-set (omega (arith, c .before .before .before .pre))
+slice-write-out-6 c = simp length-set (omega (arith, c .before .before .before .before .pre))
 
 same-length : tie.Need-same-length
 same-length c = search needs
@@ -43,23 +40,22 @@ same-length c = search needs
 returns : tie.Need-returns
 unfolding areaBytes
 returns c =
-    let first = c .before .before .before in
-    rw (c .flag .ensures, c .before .backing-bytes .ensures)
+    let first = c .before .before .before .before in
+    rw (c .start-of .ensures, c .before .kind-of .ensures, c .before .before .flag .ensures)
     (stored-all (areaBytes (first .args .area)) (first .args .out .now) (first .pre))
 
 pub encode-area-spec : {M : Type 1} → statement M
 encode-area-spec =
     tie.close
     (tie.spec
-    backing-bytes-requires
     slice-write-out
     slice-write-out-2
     slice-write-out-3
     flag-requires
     slice-write-out-4
-    array-read-out
+    kind-of-requires
     slice-write-out-5
-    array-read-out-2
+    start-of-requires
     slice-write-out-6
     same-length
     returns)
