@@ -17,11 +17,11 @@ use areas::area::Area;
 use areas::area::Areas;
 use interface::PageNo;
 use interface::Slot;
+use records::Record;
 use slots::backing_at;
 use slots::is_committed;
 use slots::is_mapped;
 use slots::rights_at;
-use records::Record;
 
 // Where a sandbox and its snapshot differ.
 pub struct Difference;

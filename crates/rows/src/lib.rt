@@ -17,9 +17,9 @@ use areas::area::Areas;
 use interface::Attributes;
 use interface::PageNo;
 use interface::Request;
+use records::Record;
 use slots::is_mapped;
 use slots::rights_at;
-use records::Record;
 
 // Row 4, of one of the four sandboxes: "but for open, not open".
 pub fn not_open(opened: bool, q: Request) -> bool
