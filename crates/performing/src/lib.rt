@@ -5,7 +5,7 @@ ghost use mathlib.Core.Path.{_≡_};
 ghost use Rattle.state.specs.World.{worldOf, recordAt};
 ghost use Rattle.rules.specs.After.{presentAfter};
 ghost use Rattle.memory.specs.Parts.{Asked};
-ghost use Rattle.step.specs.Step.{Performed};
+ghost use Rattle.step.specs.Performed.{Performed};
 ghost use Rattle.step.specs.Reply.{outcomeOf};
 use areas::area::Areas;
 use effects::store_after;

@@ -33,7 +33,8 @@ use Rattle.rules.proofs.FitLaws.{fit, page-small}
 use Rattle.memory.specs.Memory.{valueAt}
 use Rattle.memory.specs.Parts.{Asked, StoreStepped}
 use Rattle.memory.proofs.MemoryLaws.{with-frames}
-use Rattle.step.specs.Step.{viewAt, Outcome, Stepped, Performed, numberAt, takes, gives, step}
+use Rattle.step.specs.Step.{viewAt, Outcome, Stepped, numberAt, takes, gives, step}
+use Rattle.step.specs.Performed.{Performed}
 
 module _ (image : List ℕ) (w : World) (q : Request) where
   -- a refused call

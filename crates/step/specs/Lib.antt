@@ -1,3 +1,4 @@
 -- In reading order.
 pub mod Step
+pub mod Performed
 pub mod Reply

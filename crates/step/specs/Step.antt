@@ -20,7 +20,6 @@ use Rattle.soundness.specs.Test.{soundb}
 use Rattle.rules.specs.After.{recordAfter}
 use Rattle.runs.specs.Row.{InLongest}
 use Rattle.memory.specs.Memory.{Unheld, givesAt, runsAfter, storeAfter, valueAt}
-use Rattle.memory.specs.Parts.{ownSandbox, WithFrames}
 
 -- ---- the step
 
@@ -83,10 +82,3 @@ pub record Stepped (image : List ℕ) (w : World) (q : Request) (o : Outcome) : 
   pub given : ℕ
   pub chosen : Chosen image w q frame given
   pub equals : o ≡ step image frame given w q
-
--- an accepted request, performed
-abbrev pub Performed : List ℕ → World → Request → Outcome → Type 0
-Performed image w q o = WithFrames q w (λ frame given. o ≡ record {
-  answer = record { number = 0; value = valueAt image q (ownSandbox q w) (w .store) };
-  world = worldAfter image frame given w q;
-})
