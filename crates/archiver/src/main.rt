@@ -3,12 +3,13 @@
 // It promises that what it reads, one line after the other, is one roll played from a start, and that answer and output are those of the archive roll of what
 // that roll left (`Performed`); so what it hands on to be written is the plain machine's archive roll, or nothing where that is refused (specs/Prints of
 // `archive_program`).
-// It stands on `starting` for the start, on `roll_input` for the roll played, on `archiving`, on `archive_program` for what is promised, on `image_file` for the
-// image, and on the kit's `io`, `os` and `libc`; which bytes these read and write nothing proves.
+// It stands on `starting` for the start, on `roll_input` for the roll played, on `archiving` for the archive roll, on `archive_program` for what is promised, on
+// `image_file` for the image, and on the kit's `io`, `os` and `libc`; which bytes these read and write nothing proves.
 ghost use mathlib.Core.Path.{_≡_};
 ghost use Prim.Native.Nat.{_*_, _≤_};
 ghost use lib.ListN.{length};
 ghost use Rattle.interface.specs.Answers.{valueOf};
+ghost use Rattle.columns.specs.Sizes.{LineBytes};
 ghost use Rattle.state.specs.Start.{startedBy};
 ghost use Rattle.archive_program.specs.Performed.{Performed};
 use archive_program::name;
@@ -42,7 +43,7 @@ fn main() {
 fn perform(pool: &mut [u8], table: &mut [u16], image: &[u8], sandbox: u16, out: &mut [u8]) -> Answer
     ensures { λ r. let started = startedBy (now (pool .entry)) (now (table .entry)) (now (image .entry)) in
         ⌜ Performed (now (image .entry)) started sandbox (now (out .entry)) r (now (out .exit)) ⌝ }
-    ensures { λ r. ⌜ valueOf r * 43 ≤ length (now (out .exit)) ⌝ }
+    ensures { λ r. ⌜ valueOf r * LineBytes ≤ length (now (out .exit)) ⌝ }
 {
     let begun = start(pool, table, image).machine;
     let machine = play_input(begun, pool, table, image);
@@ -61,7 +62,7 @@ fn output() -> [u8; OUTPUT]
 
 // How many bytes of the output are the roll: none where it is refused.
 fn size(answer: Answer) -> usize
-    ensures { λ r. ⌜ r ≡ valueOf answer * 43 ⌝ }
+    ensures { λ r. ⌜ r ≡ valueOf answer * LineBytes ⌝ }
 {
     codes::value(answer) as usize * Line::BYTES
 }

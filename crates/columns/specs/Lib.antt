@@ -1,3 +1,4 @@
 -- In reading order.
+pub mod Sizes
 pub mod Prints
 pub mod Fields

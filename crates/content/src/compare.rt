@@ -3,7 +3,7 @@ ghost use mathlib.Core.Path.{_≡_};
 ghost use mathlib.Core.Bool.{true};
 ghost use Prim.Native.Nat.{_*_, _≤_, _<_};
 ghost use lib.ListN.{length};
-ghost use Rattle.interface.specs.Numbers.{PageBytes, Sandboxes, pagesIn};
+ghost use Rattle.interface.specs.Numbers.{PageBytes, Sandboxes, pagesIn, MostFrames};
 ghost use Rattle.interface.specs.Slots.{isCommitted, backingAt};
 ghost use Rattle.interface.specs.Compare.{agree};
 ghost use Rattle.frames.specs.declared.Held.{Held as Words};
@@ -87,9 +87,9 @@ fn stays(area: Area, copied: Area) -> bool
 
 // Whether a page agrees with the snapshot's in being mapped, in rights and in bytes, from what stands there in both and from its front and back entries.
 fn agrees(pool: &[u8], image: &[u8], present: Slot, snapshot: Slot, front: u16, back: u16) -> bool
-    requires { ⌜ front ≤ 128 ⌝ }
+    requires { ⌜ front ≤ MostFrames ⌝ }
     requires { ⌜ front * PageBytes ≤ length (now pool) ⌝ }
-    requires { ⌜ back ≤ 128 ⌝ }
+    requires { ⌜ back ≤ MostFrames ⌝ }
     requires { ⌜ back * PageBytes ≤ length (now pool) ⌝ }
     requires { ⌜ backingEnd (backingAt present) * PageBytes ≤ length (now image) ⌝ }
     requires { ⌜ backingEnd (backingAt snapshot) * PageBytes ≤ length (now image) ⌝ }

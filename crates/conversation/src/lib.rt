@@ -4,6 +4,7 @@
 ghost use mathlib.Core.Path.{_≡_};
 ghost use mathlib.Core.Bool.{_&&_};
 ghost use lib.Dec.{eqb};
+ghost use Rattle.columns.specs.Sizes.{LineBytes};
 use lines::Line;
 use state::sandbox::Machine;
 
@@ -17,7 +18,7 @@ pub struct Progress {
 
 // Whether another line is to be read: not after "A short last line", nor after a reply that could not be written.
 pub fn goes_on(written: bool, got: usize) -> bool
-    ensures { λ r. ⌜ r ≡ (written && eqb got 43) ⌝ }
+    ensures { λ r. ⌜ r ≡ (written && eqb got LineBytes) ⌝ }
 {
     written & (got == Line::BYTES)
 }

@@ -2,7 +2,7 @@
 ghost use mathlib.Core.Path.{_≡_};
 ghost use Prim.Native.Nat.{_+_, _*_, _≤_, _<_};
 ghost use lib.ListN.{length};
-ghost use Rattle.interface.specs.Numbers.{PageBytes, PageCount, Sandboxes};
+ghost use Rattle.interface.specs.Numbers.{PageBytes, PageCount, Sandboxes, MostFrames};
 ghost use Rattle.frames.specs.declared.Held.{Held as Words};
 ghost use Rattle.table.specs.Store.{kept, frontOf, Ranged, take, storeByte};
 ghost use Rattle.table.specs.Virtual.{frontAt, bytesUnder, Placed};
@@ -46,7 +46,7 @@ pub fn take(
 ) -> Held
     requires { ⌜ Placed (now image) page ⌝ }
     requires { ⌜ Ranged PageBytes (now pool) (now table) ⌝ }
-    requires { ⌜ f .0 < 128 ⌝ }
+    requires { ⌜ f .0 < MostFrames ⌝ }
     requires { ⌜ f .0 * PageBytes + PageBytes ≤ length (now pool) ⌝ }
     ensures { λ r. ⌜ (let before = kept held (now (pool .entry)) (now (table .entry)) in
         kept r (now (pool .exit)) (now (table .exit))

@@ -6,7 +6,8 @@ ghost use mathlib.Core.Path.{_≡_};
 ghost use Prim.Native.Nat.{_≤_, _<_};
 ghost use lib.Dec.{eqb};
 ghost use Rattle.basics.specs.Ranges.{one};
-ghost use Rattle.words.specs.Word.{bit};
+ghost use Rattle.interface.specs.Numbers.{MostFrames};
+ghost use Rattle.words.specs.Word.{bit, WordBits};
 ghost use Rattle.frames.specs.Frames.{held, mark, noneHeld, sameHeld, countHeld, greatest};
 ghost use Rattle.frames.specs.Frames.{leastHeld, bothHeld, apartHeld};
 use words::has;
@@ -52,7 +53,7 @@ impl Held {
 
     // Whether a frame is held.
     pub fn contains(self, frame: FrameNo) -> bool
-        requires { ⌜ frame .0 < 128 ⌝ }
+        requires { ⌜ frame .0 < MostFrames ⌝ }
         ensures { λ r. ⌜ r ≡ eqb (held self (frame .0)) 1 ⌝ }
     {
         let n = frame.0;
@@ -65,7 +66,7 @@ impl Held {
 
     // The same marks, and this frame held.
     pub fn with(self, frame: FrameNo) -> Held
-        requires { ⌜ frame .0 < 128 ⌝ }
+        requires { ⌜ frame .0 < MostFrames ⌝ }
         ensures { λ r. ⌜ r ≡ mark self (frame .0) 1 ⌝ }
     {
         marked(self, frame, true)
@@ -73,7 +74,7 @@ impl Held {
 
     // The same marks, and this frame not held.
     pub fn without(self, frame: FrameNo) -> Held
-        requires { ⌜ frame .0 < 128 ⌝ }
+        requires { ⌜ frame .0 < MostFrames ⌝ }
         ensures { λ r. ⌜ r ≡ mark self (frame .0) 0 ⌝ }
     {
         marked(self, frame, false)
@@ -88,7 +89,7 @@ impl Held {
 
     // The greatest frame of a pool of so many frames that is not held.
     pub fn greatest_free(self, frames: u8) -> Free
-        requires { ⌜ frames ≤ 128 ⌝ }
+        requires { ⌜ frames ≤ MostFrames ⌝ }
         ensures { λ r. ⌜ r ≡ greatest (held self) frames ⌝ }
     {
         if frames <= Held::WORD {
@@ -139,7 +140,7 @@ impl Held {
 
 // The same marks, and this frame held or not.
 fn marked(marks: Held, frame: FrameNo, on: bool) -> Held
-    requires { ⌜ frame .0 < 128 ⌝ }
+    requires { ⌜ frame .0 < MostFrames ⌝ }
     ensures { λ r. ⌜ r ≡ mark marks (frame .0) (one on) ⌝ }
 {
     let n = frame.0;
@@ -158,7 +159,7 @@ fn marked(marks: Held, frame: FrameNo, on: bool) -> Held
 
 // The greatest of the low places, so many of them, whose bit is not set.
 fn greatest_unset(word: u64, places: u8) -> Free
-    requires { ⌜ places ≤ 64 ⌝ }
+    requires { ⌜ places ≤ WordBits ⌝ }
     ensures { λ r. ⌜ r ≡ greatest (bit word) places ⌝ }
 {
     if places == 0 {

@@ -6,7 +6,7 @@ ghost use mathlib.Core.Path.{_≡_};
 ghost use mathlib.Core.List.{List};
 ghost use Prim.Native.Nat.{ℕ, _+_, _≤_, _<_};
 ghost use lib.ListN.{length, getD};
-ghost use Rattle.interface.specs.Numbers.{PageCount, Sandboxes, TableEntries};
+ghost use Rattle.interface.specs.Numbers.{PageCount, Sandboxes, TableEntries, MostFrames};
 ghost use Rattle.interface.specs.Runs.{isSpared};
 ghost use Rattle.interface.specs.declared.page.Slot.the-variants.{Mapped};
 ghost use Rattle.frames.specs.declared.Held.{Held as Words};
@@ -30,7 +30,7 @@ pub fn gathered(table: &[u16], present: Areas, runs: Runs, sandbox: u8) -> Runs
     requires { ⌜ sandbox < Sandboxes ⌝ }
     requires { ⌜ Formed present ⌝ }
     requires { ⌜ length (now table) ≡ TableEntries ⌝ }
-    requires { ⌜ ((k : ℕ) → getD (now table) k 0 ≤ 128) ⌝ }
+    requires { ⌜ ((k : ℕ) → getD (now table) k 0 ≤ MostFrames) ⌝ }
     ensures { λ r. ⌜ ((h : Words) (pool : List ℕ) →
         r ≡ tabled (rowRewound (storeOf h pool (now (table .entry))) sandbox (slots present) (row runs))) ⌝ }
 {
@@ -48,7 +48,7 @@ fn push_area(table: &[u16], area: Area, runs: Runs, sandbox: u8) -> Runs
     requires { ⌜ sandbox < Sandboxes ⌝ }
     requires { ⌜ area .first .0 + area .pages ≤ PageCount ⌝ }
     requires { ⌜ length (now table) ≡ TableEntries ⌝ }
-    requires { ⌜ ((k : ℕ) → getD (now table) k 0 ≤ 128) ⌝ }
+    requires { ⌜ ((k : ℕ) → getD (now table) k 0 ≤ MostFrames) ⌝ }
     ensures { λ r. ⌜ r ≡ pushed runs (runOf (now (table .entry)) sandbox area) ⌝ }
 {
     if !is_spared(area) {
@@ -72,7 +72,7 @@ fn fronts(table: &[u16], sandbox: u8, first: PageNo, pages: u8) -> Held
     requires { ⌜ sandbox < Sandboxes ⌝ }
     requires { ⌜ first .0 + pages ≤ PageCount ⌝ }
     requires { ⌜ length (now table) ≡ TableEntries ⌝ }
-    requires { ⌜ ((k : ℕ) → getD (now table) k 0 ≤ 128) ⌝ }
+    requires { ⌜ ((k : ℕ) → getD (now table) k 0 ≤ MostFrames) ⌝ }
     ensures { λ r. ⌜ r ≡ frontsTo (now (table .entry)) sandbox (first .0) pages ⌝ }
 {
     let mut run = Held::none();
@@ -84,7 +84,7 @@ fn fronts(table: &[u16], sandbox: u8, first: PageNo, pages: u8) -> Held
 
 // The frame that an entry names, if it names one, comes to the run.
 fn with_entry(run: Held, entry: u16) -> Held
-    requires { ⌜ entry ≤ 128 ⌝ }
+    requires { ⌜ entry ≤ MostFrames ⌝ }
     ensures { λ r. ⌜ r ≡ withEntry entry run ⌝ }
 {
     if entry == 0 {

@@ -5,6 +5,7 @@ ghost use mathlib.Core.Path.{_≡_};
 ghost use mathlib.Core.List.{List};
 ghost use Prim.Native.Nat.{ℕ, _+_, _≤_, _<_};
 ghost use lib.ListN.{length, set};
+ghost use Rattle.interface.specs.Numbers.{MostFrames};
 ghost use Rattle.frames.specs.Frames.{mark, countHeld, leastHeld};
 ghost use Rattle.table.specs.Store.{kept as storeOf};
 ghost use Rattle.kept.specs.Spare.{leftOf, adoptTo};
@@ -38,7 +39,7 @@ pub fn grant(held: Held, table: &mut [u16], first: usize, run: Held, n: u8) -> G
 // One entry takes the smallest frame.
 fn grant_one(g: Granted, table: &mut [u16], at: usize) -> Granted
     requires { ⌜ at < length (now table) ⌝ }
-    requires { ⌜ leastHeld (g .rest) < 128 ⌝ }
+    requires { ⌜ leastHeld (g .rest) < MostFrames ⌝ }
     ensures { λ r. ⌜ r .held ≡ mark (g .held) (leastHeld (g .rest)) 1 ⌝ }
     ensures rest { λ r. ⌜ r .rest ≡ mark (g .rest) (leastHeld (g .rest)) 0 ⌝ }
     ensures entry { λ r. ⌜ now (table .exit) ≡ set (now (table .entry)) at (leastHeld (g .rest) + 1) ⌝ }

@@ -65,3 +65,7 @@ MostImagePages = 64
 -- "The page table is 512 16-bit numbers"
 abbrev pub TableEntries : ℕ
 TableEntries = 512
+
+-- "for each sandbox 64 front entries, then 64 back entries"
+abbrev pub SandboxEntries : ℕ
+SandboxEntries = 128

@@ -7,7 +7,7 @@ ghost use mathlib.Core.Bool.{_&&_};
 ghost use Prim.Native.Nat.{_+_, _*_, _≤_};
 ghost use lib.Dec.{eqb, ltb};
 ghost use lib.ListN.{length, getD};
-ghost use Rattle.interface.specs.Numbers.{PageBytes};
+ghost use Rattle.interface.specs.Numbers.{PageBytes, MostFrames};
 ghost use Rattle.basics.specs.Ranges.{every};
 ghost use Rattle.runs.specs.Row.{row};
 ghost use Rattle.kept.specs.Test.{addRun, runsTo, blankb, frameOk};
@@ -44,9 +44,9 @@ fn add_run(found: Marks, run: Held) -> Marks
 
 // Whether every kept frame is one of the pool, and zero: each is looked at, the smallest first, and no other.
 pub fn frames_ok(kept: Held, pool: &[u8], frames: u8) -> bool
-    requires { ⌜ frames ≤ 128 ⌝ }
+    requires { ⌜ frames ≤ MostFrames ⌝ }
     requires { ⌜ length (now pool) ≡ frames * PageBytes ⌝ }
-    ensures { λ r. ⌜ r ≡ every (frameOk frames (now (pool .entry)) kept) 0 128 ⌝ }
+    ensures { λ r. ⌜ r ≡ every (frameOk frames (now (pool .entry)) kept) 0 MostFrames ⌝ }
 {
     let mut rest = kept;
     let mut left = kept.count();

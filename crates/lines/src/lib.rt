@@ -5,6 +5,7 @@
 ghost use mathlib.Core.Path.{_≡_};
 ghost use Prim.Native.Nat.{_+_, _*_, _≤_, _<_};
 ghost use lib.ListN.{length};
+ghost use Rattle.columns.specs.Sizes.{LineBytes};
 ghost use Rattle.lines.specs.Lines.{fieldAt, parsed, linesOf, lineAt};
 use columns::Field;
 use columns::is_number;
@@ -112,7 +113,7 @@ pub fn line_at(roll: &[u8], line: usize) -> Line
 
 // What a field of the line says, from 0 on.
 fn field_at(line: &[u8], k: usize) -> Field
-    requires { ⌜ (length (now line) ≡ 43) × (k < 7) ⌝ }
+    requires { ⌜ (length (now line) ≡ LineBytes) × (k < 7) ⌝ }
     ensures { λ r. ⌜ r ≡ fieldAt (now (line .entry)) k ⌝ }
 {
     let at = k * Line::FIELD;

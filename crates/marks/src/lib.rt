@@ -6,6 +6,7 @@
 ghost use mathlib.Core.Path.{_≡_};
 ghost use Prim.Native.Nat.{_+_, _*_, _≤_, _<_};
 ghost use lib.ListN.{length};
+ghost use Rattle.interface.specs.Numbers.{MostFrames, SandboxEntries, TableEntries};
 ghost use Rattle.frames.specs.Frames.{countHeld};
 ghost use Rattle.marks.specs.Marks.{addEntry, marksTo, from, marksb};
 ghost use Rattle.marks.specs.Named.{used as usedOne, usedBelow};
@@ -26,7 +27,7 @@ impl Marks {
 
     // One more entry, of a table over a pool of so many frames.
     pub fn add(self, frames: u8, entry: u16) -> Marks
-        requires { ⌜ frames ≤ 128 ⌝ }
+        requires { ⌜ frames ≤ MostFrames ⌝ }
         ensures { λ r. ⌜ r ≡ addEntry frames self entry ⌝ }
     {
         if entry == 0 {
@@ -49,8 +50,8 @@ impl Marks {
 
 // Whether the marks are those of the frames that the table names, each a frame of the pool and named once.
 pub fn marks_match(held: Held, table: &[u16], frames: u8) -> bool
-    requires { ⌜ length (now table) ≡ 512 ⌝ }
-    requires { ⌜ frames ≤ 128 ⌝ }
+    requires { ⌜ length (now table) ≡ TableEntries ⌝ }
+    requires { ⌜ frames ≤ MostFrames ⌝ }
     ensures { λ r. ⌜ r ≡ marksb frames held (now (table .entry)) ⌝ }
 {
     let found = marks_of(table, 0, Marks::ENTRIES, frames);
@@ -60,10 +61,11 @@ pub fn marks_match(held: Held, table: &[u16], frames: u8) -> bool
 
 // How many frames the entries of one sandbox name, by the count of their marks.
 pub fn frames_held(table: &[u16], sandbox: u8, frames: u8) -> u8
-    requires { ⌜ length (now table) ≡ 512 ⌝ }
+    requires { ⌜ length (now table) ≡ TableEntries ⌝ }
     requires { ⌜ sandbox < 4 ⌝ }
-    requires { ⌜ frames ≤ 128 ⌝ }
-    ensures { λ r. ⌜ r ≡ countHeld (marksTo frames (from (sandbox * 128) (now (table .entry))) 128 .held) ⌝ }
+    requires { ⌜ frames ≤ MostFrames ⌝ }
+    ensures { λ r. ⌜ (let own = from (sandbox * SandboxEntries) (now (table .entry)) in
+        r ≡ countHeld (marksTo frames own SandboxEntries .held)) ⌝ }
 {
     let first = sandbox as usize * Marks::SANDBOX_ENTRIES;
     let found = marks_of(table, first, Marks::SANDBOX_ENTRIES, frames);
@@ -74,7 +76,7 @@ pub fn frames_held(table: &[u16], sandbox: u8, frames: u8) -> u8
 // The marks of the frames that a run of entries names.
 pub fn marks_of(table: &[u16], first: usize, entries: usize, frames: u8) -> Marks
     requires { ⌜ first + entries ≤ length (now table) ⌝ }
-    requires { ⌜ frames ≤ 128 ⌝ }
+    requires { ⌜ frames ≤ MostFrames ⌝ }
     ensures { λ r. ⌜ r ≡ marksTo frames (from first (now (table .entry))) entries ⌝ }
 {
     let mut found = Marks {
@@ -90,9 +92,9 @@ pub fn marks_of(table: &[u16], first: usize, entries: usize, frames: u8) -> Mark
 // How many entries of a sandbox name a frame.
 pub fn used(table: &[u16], sandbox: u8) -> u16
     requires { ⌜ sandbox < 4 ⌝ }
-    requires { ⌜ length (now table) ≡ 512 ⌝ }
-    ensures { λ r. ⌜ r ≡ usedBelow (from (sandbox * 128) (now (table .entry))) 128 ⌝ }
-    ensures small { λ r. ⌜ r ≤ 128 ⌝ }
+    requires { ⌜ length (now table) ≡ TableEntries ⌝ }
+    ensures { λ r. ⌜ r ≡ usedBelow (from (sandbox * SandboxEntries) (now (table .entry))) SandboxEntries ⌝ }
+    ensures small { λ r. ⌜ r ≤ SandboxEntries ⌝ }
 {
     let first = sandbox as usize * Marks::SANDBOX_ENTRIES;
     let mut n: u16 = 0;

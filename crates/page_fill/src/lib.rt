@@ -4,7 +4,7 @@
 ghost use mathlib.Core.Path.{_≡_};
 ghost use Prim.Native.Nat.{_+_, _*_, _≤_};
 ghost use lib.ListN.{length};
-ghost use Rattle.interface.specs.Numbers.{PageBytes};
+ghost use Rattle.interface.specs.Numbers.{PageBytes, MostFrames};
 ghost use Rattle.pages.specs.Parts.{setFrame};
 ghost use Rattle.table.specs.Store.{pageIn, pageFrom};
 ghost use Rattle.table.specs.Backing.{backingPage, backingEnd};
@@ -17,7 +17,7 @@ mod backing;
 // Frame `f` gets the bytes of the frame that an entry names, or the backing's where it names none.
 pub fn fill_frame(pool: &mut [u8], f: FrameNo, entry: u16, image: &[u8], backing: Backing)
     requires { ⌜ f .0 * PageBytes + PageBytes ≤ length (now pool) ⌝ }
-    requires { ⌜ entry ≤ 128 ⌝ }
+    requires { ⌜ entry ≤ MostFrames ⌝ }
     requires { ⌜ entry * PageBytes ≤ length (now pool) ⌝ }
     requires { ⌜ backingEnd backing * PageBytes ≤ length (now image) ⌝ }
     ensures { λ r. ⌜ now (pool .exit) ≡ setFrame PageBytes (now (pool .entry)) (f .0)

@@ -4,6 +4,7 @@
 ghost use mathlib.Core.Path.{_≡_};
 ghost use Prim.Native.Nat.{_<_};
 ghost use lib.ListN.{length, getD, set};
+ghost use Rattle.interface.specs.Numbers.{PageBytes};
 ghost use Rattle.pages.specs.Parts.{zeros, sameBytes};
 
 // "a page has 256 bytes"
@@ -34,7 +35,7 @@ pub fn fill(part: &mut [u8], src: &[u8])
 
 // The bytes of a page, by value.
 pub fn load(part: &[u8]) -> [u8; Page::SIZE]
-    requires { ⌜ length (now part) ≡ 256 ⌝ }
+    requires { ⌜ length (now part) ≡ PageBytes ⌝ }
     ensures { λ r. ⌜ r ≡ now (part .entry) ⌝ }
 {
     let mut page = [0u8; Page::SIZE];

@@ -7,6 +7,7 @@
 ghost use mathlib.Core.Path.{_≡_};
 ghost use Prim.Native.Nat.{_≤_};
 ghost use lib.ListN.{length};
+ghost use Rattle.columns.specs.Sizes.{LineBytes, MostLines, ReplyBytes};
 ghost use Rattle.state.specs.World.{worldOf};
 ghost use Rattle.state.specs.Start.{startedBy};
 ghost use Rattle.conversation.specs.Conversation.{turnOf, goesOn, Answers, Talked};
@@ -64,8 +65,8 @@ fn turn(
     line: &mut [u8],
     reply: &mut [u8],
 ) -> Progress
-    requires { ⌜ (length (now line) ≡ 43) × (length (now reply) ≡ 19) ⌝ }
-    requires { ⌜ player .line ≤ 65535 ⌝ }
+    requires { ⌜ (length (now line) ≡ LineBytes) × (length (now reply) ≡ ReplyBytes) ⌝ }
+    requires { ⌜ player .line ≤ MostLines ⌝ }
     ensures { λ r. let before = worldOf (player .machine) (now (pool .entry)) (now (table .entry)) in
         ⌜ Answers (now (image .entry)) (player .line) before (turnOf r (now (line .exit)) (now (reply .exit)))
         (worldOf (r .machine) (now (pool .exit)) (now (table .exit))) ⌝ }

@@ -4,6 +4,7 @@
 ghost use mathlib.Core.Path.{_≡_};
 ghost use Prim.Native.Nat.{_+_, _*_, _/_, _≤_};
 ghost use lib.ListN.{length};
+ghost use Rattle.columns.specs.Sizes.{PrintedNumbers, ReplyBytes};
 ghost use Rattle.lines.specs.Lines.{linesOf};
 ghost use Rattle.state.specs.World.{worldOf};
 ghost use Rattle.roll.specs.Play.{Played};
@@ -39,8 +40,8 @@ pub fn play(
     roll: &[u8],
     out: &mut [u8],
 ) -> Machine
-    requires { ⌜ linesOf (length (now roll)) * 19 ≤ length (now out) ⌝ }
-    requires { ⌜ player .line + linesOf (length (now roll)) ≤ 1000000 ⌝ }
+    requires { ⌜ linesOf (length (now roll)) * ReplyBytes ≤ length (now out) ⌝ }
+    requires { ⌜ player .line + linesOf (length (now roll)) ≤ PrintedNumbers ⌝ }
     ensures { λ r. let before = worldOf (player .machine) (now (pool .entry)) (now (table .entry)) in
         let lines = linesOf (length (now (roll .entry))) in
         ⌜ Played (now (image .entry)) before (now (roll .entry)) lines (player .line) (now (out .entry))
@@ -67,9 +68,9 @@ fn play_lines(
     roll: &[u8],
     out: &mut [u8],
 ) -> Playing
-    requires { ⌜ (playing .first + length (now out) / 19 ≤ 1000000) × (playing .answered ≡ 0) ⌝ }
+    requires { ⌜ (playing .first + length (now out) / ReplyBytes ≤ PrintedNumbers) × (playing .answered ≡ 0) ⌝ }
     ensures { λ r. let before = worldOf (playing .machine) (now (pool .entry)) (now (table .entry)) in
-        let lines = length (now (out .entry)) / 19 in
+        let lines = length (now (out .entry)) / ReplyBytes in
         ⌜ Played (now (image .entry)) before (now (roll .entry)) lines (playing .first) (now (out .entry))
         (now (out .exit)) (worldOf (r .machine) (now (pool .exit)) (now (table .exit))) ⌝ }
 {

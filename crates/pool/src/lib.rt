@@ -5,14 +5,15 @@
 ghost use mathlib.Core.Path.{_≡_};
 ghost use Prim.Native.Nat.{_+_, _*_, _≤_};
 ghost use lib.ListN.{length, getD, set};
+ghost use Rattle.interface.specs.Numbers.{PageBytes};
 ghost use Rattle.pages.specs.Parts.{zeros, frame, setFrame};
 use frames::FrameNo;
 use pages::Page;
 
 // Frame `f` becomes zero bytes.
 pub fn clear_frame(pool: &mut [u8], f: FrameNo)
-    requires { ⌜ f .0 * 256 + 256 ≤ length (now pool) ⌝ }
-    ensures { λ r. ⌜ now (pool .exit) ≡ setFrame 256 (now (pool .entry)) (f .0) (zeros 256) ⌝ }
+    requires { ⌜ f .0 * PageBytes + PageBytes ≤ length (now pool) ⌝ }
+    ensures { λ r. ⌜ now (pool .exit) ≡ setFrame PageBytes (now (pool .entry)) (f .0) (zeros PageBytes) ⌝ }
 {
     let start = f.0 as usize * Page::SIZE;
     pages::clear(&mut pool[start..start + Page::SIZE]);
@@ -20,9 +21,9 @@ pub fn clear_frame(pool: &mut [u8], f: FrameNo)
 
 // Frame `f` gets the bytes of `src`, which is a page long.
 pub fn fill_frame(pool: &mut [u8], f: FrameNo, src: &[u8])
-    requires { ⌜ f .0 * 256 + 256 ≤ length (now pool) ⌝ }
-    requires { ⌜ length (now src) ≡ 256 ⌝ }
-    ensures { λ r. ⌜ now (pool .exit) ≡ setFrame 256 (now (pool .entry)) (f .0) (now (src .entry)) ⌝ }
+    requires { ⌜ f .0 * PageBytes + PageBytes ≤ length (now pool) ⌝ }
+    requires { ⌜ length (now src) ≡ PageBytes ⌝ }
+    ensures { λ r. ⌜ now (pool .exit) ≡ setFrame PageBytes (now (pool .entry)) (f .0) (now (src .entry)) ⌝ }
 {
     let start = f.0 as usize * Page::SIZE;
     pages::fill(&mut pool[start..start + Page::SIZE], src);
@@ -30,8 +31,8 @@ pub fn fill_frame(pool: &mut [u8], f: FrameNo, src: &[u8])
 
 // The bytes of frame `f`, by value.
 pub fn load_frame(pool: &[u8], f: FrameNo) -> [u8; Page::SIZE]
-    requires { ⌜ f .0 * 256 + 256 ≤ length (now pool) ⌝ }
-    ensures { λ r. ⌜ r ≡ frame 256 (now (pool .entry)) (f .0) ⌝ }
+    requires { ⌜ f .0 * PageBytes + PageBytes ≤ length (now pool) ⌝ }
+    ensures { λ r. ⌜ r ≡ frame PageBytes (now (pool .entry)) (f .0) ⌝ }
 {
     let start = f.0 as usize * Page::SIZE;
     pages::load(&pool[start..start + Page::SIZE])
@@ -39,10 +40,10 @@ pub fn load_frame(pool: &[u8], f: FrameNo) -> [u8; Page::SIZE]
 
 // Frame `to` gets the bytes of frame `from`, by way of a page by value: two frames of one pool are never lent at once.
 pub fn copy_frame(pool: &mut [u8], from: FrameNo, to: FrameNo)
-    requires { ⌜ from .0 * 256 + 256 ≤ length (now pool) ⌝ }
-    requires { ⌜ to .0 * 256 + 256 ≤ length (now pool) ⌝ }
+    requires { ⌜ from .0 * PageBytes + PageBytes ≤ length (now pool) ⌝ }
+    requires { ⌜ to .0 * PageBytes + PageBytes ≤ length (now pool) ⌝ }
     ensures { λ r. ⌜ (let before = now (pool .entry) in
-        now (pool .exit) ≡ setFrame 256 before (to .0) (frame 256 before (from .0))) ⌝ }
+        now (pool .exit) ≡ setFrame PageBytes before (to .0) (frame PageBytes before (from .0))) ⌝ }
 {
     let page = load_frame(pool, from);
     fill_frame(pool, to, &page);
@@ -50,9 +51,9 @@ pub fn copy_frame(pool: &mut [u8], from: FrameNo, to: FrameNo)
 
 // One byte of frame `f` is stored.
 pub fn store_byte(pool: &mut [u8], f: FrameNo, offset: u8, byte: u8)
-    requires { ⌜ f .0 * 256 + 256 ≤ length (now pool) ⌝ }
+    requires { ⌜ f .0 * PageBytes + PageBytes ≤ length (now pool) ⌝ }
     ensures { λ r. ⌜ (let before = now (pool .entry) in
-        now (pool .exit) ≡ setFrame 256 before (f .0) (set (frame 256 before (f .0)) offset byte)) ⌝ }
+        now (pool .exit) ≡ setFrame PageBytes before (f .0) (set (frame PageBytes before (f .0)) offset byte)) ⌝ }
 {
     let start = f.0 as usize * Page::SIZE;
     pages::store(&mut pool[start..start + Page::SIZE], offset as usize, byte);
@@ -60,8 +61,8 @@ pub fn store_byte(pool: &mut [u8], f: FrameNo, offset: u8, byte: u8)
 
 // One byte of frame `f` is read.
 pub fn read_byte(pool: &[u8], f: FrameNo, offset: u8) -> u8
-    requires { ⌜ f .0 * 256 + 256 ≤ length (now pool) ⌝ }
-    ensures { λ r. ⌜ r ≡ getD (frame 256 (now (pool .entry)) (f .0)) offset 0 ⌝ }
+    requires { ⌜ f .0 * PageBytes + PageBytes ≤ length (now pool) ⌝ }
+    ensures { λ r. ⌜ r ≡ getD (frame PageBytes (now (pool .entry)) (f .0)) offset 0 ⌝ }
 {
     let start = f.0 as usize * Page::SIZE;
     pages::read(&pool[start..start + Page::SIZE], offset as usize)

@@ -6,12 +6,13 @@ ghost use Prim.Native.Nat.{_+_, _*_, _≤_};
 ghost use lib.ListN.{length};
 ghost use Rattle.pages.specs.Parts.{setPart};
 ghost use Rattle.columns.specs.Prints.{lastDigit, column, printedField, printedRequest, printedReply};
+ghost use Rattle.columns.specs.Sizes.{LineBytes, ReplyBytes};
 use interface::Request;
 use lines::Line;
 
 // Prints a reply, "line number from 1, refusal number or 0, value", and a line feed, into 19 bytes.
 pub fn print_reply(out: &mut [u8], line: u32, number: u32, value: u32)
-    requires { ⌜ length (now out) ≡ 19 ⌝ }
+    requires { ⌜ length (now out) ≡ ReplyBytes ⌝ }
     requires { ⌜ (line ≤ 999999) × (number ≤ 999999) × (value ≤ 999999) ⌝ }
     ensures { λ _. ⌜ now (out .exit) ≡ printedReply line number value ⌝ }
 {
@@ -23,7 +24,7 @@ pub fn print_reply(out: &mut [u8], line: u32, number: u32, value: u32)
 
 // Prints a request, "call, sandbox, p1 to p5", and a line feed, into 43 bytes.
 pub fn print_request(out: &mut [u8], q: Request)
-    requires { ⌜ length (now out) ≡ 43 ⌝ }
+    requires { ⌜ length (now out) ≡ LineBytes ⌝ }
     ensures { λ _. ⌜ now (out .exit) ≡ printedRequest q ⌝ }
 {
     print_at(out, Line::CODE, q.code as u32);

@@ -4,6 +4,7 @@
 ghost use mathlib.Core.Path.{_≡_};
 ghost use mathlib.Core.List.{[], _∷_};
 ghost use Prim.Native.Nat.{_+_, _<_};
+ghost use Rattle.columns.specs.Sizes.{MostLines};
 ghost use Rattle.archive.specs.Archive.{only};
 ghost use Rattle.printing.specs.Put.{placed, put, Room};
 use interface::Request;
@@ -19,7 +20,7 @@ pub struct Cursor {
 impl Cursor {
     // The cursor behind one more line.
     fn next(self) -> Cursor
-        requires { ⌜ self .line < 65535 ⌝ }
+        requires { ⌜ self .line < MostLines ⌝ }
         ensures { λ r. ⌜ r ≡ record { line = self .line + 1; writes = self .writes } ⌝ }
     {
         Cursor {

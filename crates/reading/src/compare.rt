@@ -2,7 +2,7 @@
 ghost use mathlib.Core.Path.{_≡_};
 ghost use Prim.Native.Nat.{_*_, _≤_};
 ghost use lib.ListN.{length};
-ghost use Rattle.interface.specs.Numbers.{PageBytes};
+ghost use Rattle.interface.specs.Numbers.{PageBytes, MostFrames};
 ghost use Rattle.pages.specs.Parts.{sameBytes};
 ghost use Rattle.table.specs.Store.{pageIn, pageFrom};
 ghost use Rattle.table.specs.Backing.{backingPage, backingEnd};
@@ -19,10 +19,10 @@ pub fn same_pages(
     other: u16,
     twin: Backing,
 ) -> bool
-    requires { ⌜ entry ≤ 128 ⌝ }
+    requires { ⌜ entry ≤ MostFrames ⌝ }
     requires { ⌜ entry * PageBytes ≤ length (now pool) ⌝ }
     requires { ⌜ backingEnd backing * PageBytes ≤ length (now image) ⌝ }
-    requires { ⌜ other ≤ 128 ⌝ }
+    requires { ⌜ other ≤ MostFrames ⌝ }
     requires { ⌜ other * PageBytes ≤ length (now pool) ⌝ }
     requires { ⌜ backingEnd twin * PageBytes ≤ length (now image) ⌝ }
     ensures { λ r. ⌜ r ≡ sameBytes PageBytes
@@ -50,7 +50,7 @@ pub fn same_pages(
 // Whether a part, one page long, has the bytes of a page: those of the frame that the entry names, or else its backing's.
 fn has_page(part: &[u8], pool: &[u8], image: &[u8], entry: u16, backing: Backing) -> bool
     requires { ⌜ length (now part) ≡ PageBytes ⌝ }
-    requires { ⌜ entry ≤ 128 ⌝ }
+    requires { ⌜ entry ≤ MostFrames ⌝ }
     requires { ⌜ entry * PageBytes ≤ length (now pool) ⌝ }
     requires { ⌜ backingEnd backing * PageBytes ≤ length (now image) ⌝ }
     ensures { λ r. ⌜ r ≡ sameBytes PageBytes (now (part .entry))

@@ -7,16 +7,18 @@ ghost use Prim.Native.Nat.{_+_, _*_, _≤_};
 ghost use lib.ListN.{length, take, drop};
 ghost use Rattle.interface.specs.Answers.{numberOf, valueOf};
 ghost use Rattle.columns.specs.Prints.{printedReply};
+ghost use Rattle.columns.specs.Sizes.{MostNumber, MostPrinted, ReplyBytes};
 use interface::Answer;
 use lines::Line;
 use printer::print_reply;
 
 // Prints an answer under its line's number, as the reply with this place, from 0 on.
 pub fn print_answer(out: &mut [u8], place: usize, line: u32, answer: Answer)
-    requires { ⌜ place * 19 + 19 ≤ length (now out) ⌝ }
-    requires { ⌜ (line ≤ 999999) × (valueOf answer ≤ 65535) ⌝ }
+    requires { ⌜ place * ReplyBytes + ReplyBytes ≤ length (now out) ⌝ }
+    requires { ⌜ (line ≤ MostPrinted) × (valueOf answer ≤ MostNumber) ⌝ }
     ensures { λ _. let before = now (out .entry) in let reply = printedReply line (numberOf answer) (valueOf answer) in
-        ⌜ now (out .exit) ≡ take (place * 19) before ++ (reply ++ drop (place * 19 + 19) before) ⌝ }
+        ⌜ now (out .exit)
+        ≡ take (place * ReplyBytes) before ++ (reply ++ drop (place * ReplyBytes + ReplyBytes) before) ⌝ }
 {
     let at = place * Line::REPLY;
     let end = at + Line::REPLY;
@@ -25,8 +27,8 @@ pub fn print_answer(out: &mut [u8], place: usize, line: u32, answer: Answer)
 
 // Prints an answer under its line's number, into 19 bytes.
 fn print(out: &mut [u8], line: u32, answer: Answer)
-    requires { ⌜ length (now out) ≡ 19 ⌝ }
-    requires { ⌜ (line ≤ 999999) × (valueOf answer ≤ 65535) ⌝ }
+    requires { ⌜ length (now out) ≡ ReplyBytes ⌝ }
+    requires { ⌜ (line ≤ MostPrinted) × (valueOf answer ≤ MostNumber) ⌝ }
     ensures { λ _. ⌜ now (out .exit) ≡ printedReply line (numberOf answer) (valueOf answer) ⌝ }
 {
     print_reply(

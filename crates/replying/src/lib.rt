@@ -8,6 +8,7 @@ ghost use lib.ListN.{length};
 ghost use Rattle.interface.specs.Answers.{valueOf};
 ghost use Rattle.state.specs.World.{worldOf};
 ghost use Rattle.step.specs.Reply.{outcomeOf};
+ghost use Rattle.columns.specs.Sizes.{MostNumber, MostPrinted, ReplyBytes};
 ghost use Rattle.roll.specs.Play.{Turned, Replied};
 use interface::Answer;
 use interface::Refusal;
@@ -33,10 +34,12 @@ pub fn reply<'a, 'b>(
     line: Line,
     out: &'a mut [u8],
 ) -> Playing
-    requires { ⌜ (playing .answered * 19 + 19 ≤ length (now out)) × (playing .first + playing .answered ≤ 999999) ⌝ }
+    requires { ⌜ (playing .answered * ReplyBytes + ReplyBytes ≤ length (now out))
+        × (playing .first + playing .answered ≤ MostPrinted) ⌝ }
     ensures { λ r. let before = worldOf (playing .machine) (now (pool .entry)) (now (table .entry)) in
         let k = playing .answered in
-        ⌜ Replied (now (image .entry)) before line (playing .first + k) (k * 19) (now (out .entry)) (now (out .exit))
+        ⌜ Replied (now (image .entry)) before line (playing .first + k) (k * ReplyBytes)
+        (now (out .entry)) (now (out .exit))
         (worldOf (r .machine) (now (pool .exit)) (now (table .exit)))
         × (r .first ≡ playing .first) × (r .answered ≡ k + 1) ⌝ }
 {
@@ -61,7 +64,7 @@ pub fn reply<'a, 'b>(
 fn turn(machine: Machine, pool: &mut [u8], table: &mut [u16], image: &[u8], line: Line) -> Reply
     ensures { λ r. ⌜ Turned (now (image .entry)) (worldOf machine (now (pool .entry)) (now (table .entry))) line
         (outcomeOf r (now (pool .exit)) (now (table .exit))) ⌝ }
-    ensures { λ r. ⌜ valueOf (r .answer) ≤ 65535 ⌝ }
+    ensures { λ r. ⌜ valueOf (r .answer) ≤ MostNumber ⌝ }
 {
     match line {
         Line::Call(q) => call(machine, pool, table, image, q),

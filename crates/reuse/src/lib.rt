@@ -7,7 +7,7 @@ ghost use mathlib.Core.List.{List};
 ghost use Prim.Native.Nat.{ℕ, _+_, _*_, _≤_, _<_};
 ghost use lib.Dec.{leb, ltb};
 ghost use lib.ListN.{length};
-ghost use Rattle.interface.specs.Numbers.{PageCount, Sandboxes, TableEntries};
+ghost use Rattle.interface.specs.Numbers.{PageCount, Sandboxes, TableEntries, MostFrames, SandboxEntries};
 ghost use Rattle.basics.specs.Choice.{_when_else_};
 ghost use Rattle.interface.specs.Requests.{Map};
 ghost use Rattle.interface.specs.Outcome.{firstOf};
@@ -95,8 +95,8 @@ pub struct Given {
 pub fn give_up(table: &[u16], runs: Runs, kept: Held, share: u8, sandbox: u8) -> Given
     requires { ⌜ sandbox < Sandboxes ⌝ }
     requires { ⌜ length (now table) ≡ TableEntries ⌝ }
-    requires { ⌜ usedBelow (from (sandbox * 128) (now table)) 128 < share ⌝ }
-    ensures { λ r. ⌜ (let named = usedBelow (from (sandbox * 128) (now (table .entry))) 128 in
+    requires { ⌜ usedBelow (from (sandbox * SandboxEntries) (now table)) SandboxEntries < share ⌝ }
+    ensures { λ r. ⌜ (let named = usedBelow (from (sandbox * SandboxEntries) (now (table .entry))) SandboxEntries in
         GaveUp (ltb share (named + keptBy (row runs) + 1)) runs kept r) ⌝ }
 {
     let most = runs.kept();
@@ -123,7 +123,7 @@ pub fn give_up(table: &[u16], runs: Runs, kept: Held, share: u8, sandbox: u8) ->
 
 // The greatest frame that no entry names and no run keeps; there is one.
 pub fn unheld_frame(named: Held, kept: Held, frames: u8) -> FrameNo
-    requires { ⌜ frames ≤ 128 ⌝ }
+    requires { ⌜ frames ≤ MostFrames ⌝ }
     requires { ⌜ ((f : ℕ) × ((f < frames) × ((held named f ≡ 0) × (held kept f ≡ 0)))) ⌝ }
     ensures { λ r. ⌜ r .0 < frames ⌝ }
     ensures unnamed { λ r. ⌜ held named (r .0) ≡ 0 ⌝ }

@@ -3,7 +3,7 @@ ghost use mathlib.Core.Path.{_≡_};
 ghost use Prim.Native.Nat.{_*_, _<_};
 ghost use lib.Dec.{eqb};
 ghost use lib.ListN.{length, getD};
-ghost use Rattle.interface.specs.Numbers.{PageBytes, PageCount, Sandboxes, TableEntries, pagesIn};
+ghost use Rattle.interface.specs.Numbers.{PageBytes, PageCount, Sandboxes, TableEntries, pagesIn, SandboxEntries};
 ghost use Rattle.basics.specs.Choice.{_when_else_};
 ghost use Rattle.table.specs.Store.{kept, frontOf, Ranged, rewindTo};
 ghost use Rattle.areas.specs.Areas.{slots, Near};
@@ -33,7 +33,7 @@ pub fn rewind(
     requires { ⌜ Ranged PageBytes (now pool) (now table) ⌝ }
     ensures { λ r. ⌜ (let before = kept held (now (pool .entry)) (now (table .entry)) in
         kept r (now (pool .exit)) (now (table .exit))
-        ≡ rewindTo PageBytes (s * 128) (keepsFront b) (copyPage (now (image .entry)) b) before PageCount) ⌝ }
+        ≡ rewindTo PageBytes (s * SandboxEntries) (keepsFront b) (copyPage (now (image .entry)) b) before PageCount) ⌝ }
 {
     let present = b.present;
     let mut h = held;

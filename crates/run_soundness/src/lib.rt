@@ -6,7 +6,7 @@ ghost use mathlib.Core.Path.{_≡_};
 ghost use mathlib.Core.List.{List};
 ghost use Prim.Native.Nat.{ℕ, _*_, _≤_, _<_};
 ghost use lib.ListN.{length, getD};
-ghost use Rattle.interface.specs.Numbers.{PageBytes, Sandboxes, TableEntries};
+ghost use Rattle.interface.specs.Numbers.{PageBytes, Sandboxes, TableEntries, MostFrames, SandboxEntries};
 ghost use Rattle.frames.specs.declared.Held.{Held as Words};
 ghost use Rattle.marks.specs.Named.{usedBelow};
 ghost use Rattle.marks.specs.Marks.{from};
@@ -29,7 +29,7 @@ pub fn spare_ok(
     pool: &[u8],
     frames: u8,
 ) -> bool
-    requires { ⌜ frames ≤ 128 ⌝ }
+    requires { ⌜ frames ≤ MostFrames ⌝ }
     requires { ⌜ length (now pool) ≡ frames * PageBytes ⌝ }
     ensures { λ r. ⌜ ((table : List ℕ) → let rows : Rows = λ s. row (getD sandboxes s closedSandbox .runs) in
         r ≡ spareb frames (storeOf held (now (pool .entry)) table) rows) ⌝ }
@@ -50,7 +50,7 @@ pub fn spare_ok(
 pub fn runs_ok(runs: Runs, table: &[u16], s: u8, opened: bool, share: u8) -> bool
     requires { ⌜ s < Sandboxes ⌝ }
     requires { ⌜ length (now table) ≡ TableEntries ⌝ }
-    requires { ⌜ usedBelow (from (s * 128) (now table)) 128 ≤ share ⌝ }
+    requires { ⌜ usedBelow (from (s * SandboxEntries) (now table)) SandboxEntries ≤ share ⌝ }
     ensures { λ r. ⌜ ((h : Words) (pool : List ℕ) →
         r ≡ runsOk (storeOf h pool (now (table .entry))) s opened share runs) ⌝ }
 {

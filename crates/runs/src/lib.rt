@@ -8,6 +8,7 @@ ghost use Rattle.basics.specs.Ranges.{sum, every};
 ghost use Rattle.basics.specs.Rows.{best, longer, noLonger, fitter};
 ghost use Rattle.frames.specs.Frames.{noneHeld, sameHeld};
 ghost use Rattle.interface.specs.Runs.{longestRun, runFor};
+ghost use Rattle.interface.specs.Numbers.{MostFrames};
 ghost use Rattle.runs.specs.Row.{row, lengthsOf, noRuns, withRunAt, betterBy, betterOf, movedRuns, pushed};
 use frames::Held;
 
@@ -77,7 +78,7 @@ impl Runs {
     fn length(self, place: u8) -> u8
         requires { ⌜ place < 8 ⌝ }
         ensures { λ r. ⌜ r ≡ lengthsOf self place ⌝ }
-        ensures small { λ r. ⌜ r ≤ 128 ⌝ }
+        ensures small { λ r. ⌜ r ≤ MostFrames ⌝ }
     {
         let run = self.at(place);
         run.count()

@@ -7,6 +7,7 @@ ghost use Rattle.interface.specs.Slots.{isMapped, isCommitted, isUncommitted, r
 ghost use Rattle.interface.specs.Slots.{withRights, withCommitted, advance, kindOf, startOf, follows};
 ghost use Rattle.interface.specs.Runs.{isAnonymous};
 ghost use Rattle.interface.specs.Outcome.{pageOn};
+ghost use Rattle.interface.specs.Numbers.{ByteValues};
 use interface::Attributes;
 use interface::Backing;
 use interface::ImagePageNo;
@@ -132,7 +133,7 @@ pub fn with_committed(slot: Slot) -> Slot
 
 // A page of an area, so many pages after its first.
 pub fn page_on(first: Attributes, pages: u8) -> Slot
-    requires { ⌜ startOf (first .backing) + pages < 256 ⌝ }
+    requires { ⌜ startOf (first .backing) + pages < ByteValues ⌝ }
     ensures { λ r. ⌜ r ≡ pageOn first pages ⌝ }
 {
     let start = first.backing;
@@ -162,7 +163,7 @@ pub fn follows(first: Backing, pages: u8, second: Backing) -> bool
 
 // The backing of the page that is so many pages on.
 fn advanced(backing: Backing, pages: u8) -> Backing
-    requires { ⌜ startOf backing + pages < 256 ⌝ }
+    requires { ⌜ startOf backing + pages < ByteValues ⌝ }
     ensures { λ r. ⌜ r ≡ advance backing pages ⌝ }
 {
     match backing {

@@ -3,7 +3,7 @@ ghost use mathlib.Core.Path.{_≡_};
 ghost use mathlib.Core.List.{List};
 ghost use Prim.Native.Nat.{ℕ, _+_, _-_, _*_, _≤_, _<_};
 ghost use lib.ListN.{length, getD};
-ghost use Rattle.interface.specs.Numbers.{PageCount, Sandboxes, TableEntries};
+ghost use Rattle.interface.specs.Numbers.{PageCount, Sandboxes, TableEntries, MostFrames};
 ghost use Rattle.basics.specs.Choice.{_when_else_};
 ghost use Rattle.frames.specs.declared.Held.{Held as Words};
 ghost use Rattle.table.specs.Store.{kept, frontOf, backOf, move, moveTo};
@@ -51,7 +51,7 @@ pub fn move_fronts(table: &mut [u16], sandbox: u8)
     requires { ⌜ sandbox < Sandboxes ⌝ }
     requires { ⌜ length (now table) ≡ TableEntries ⌝ }
     ensures { λ r. ⌜ ((h : Words) (pool : List ℕ) → let before = kept h pool (now (table .entry)) in
-        kept h pool (now (table .exit)) ≡ moveTo (sandbox * 128) before PageCount) ⌝ }
+        kept h pool (now (table .exit)) ≡ moveTo (sandbox * MostFrames) before PageCount) ⌝ }
 {
     for i in 0..PageNo::COUNT as u8 {
         move_front(table, sandbox, PageNo(i));
@@ -85,7 +85,7 @@ pub fn front_index(sandbox: u8, page: PageNo) -> usize
 // The frame that an entry names, which names one.
 pub fn frame_of(entry: u16) -> FrameNo
     requires { ⌜ 0 < entry ⌝ }
-    requires { ⌜ entry ≤ 128 ⌝ }
+    requires { ⌜ entry ≤ MostFrames ⌝ }
     ensures { λ r. ⌜ r .0 ≡ entry - 1 ⌝ }
 {
     FrameNo((entry - 1) as u8)

@@ -6,11 +6,11 @@ ghost use mathlib.Core.Path.{_≡_};
 ghost use Prim.Native.Nat.{_<_};
 ghost use lib.Dec.{eqb};
 ghost use Rattle.basics.specs.Ranges.{one, lowest};
-ghost use Rattle.words.specs.Word.{bit, putBit};
+ghost use Rattle.words.specs.Word.{bit, putBit, WordBits};
 
 // Whether the bit at a place is set.
 pub fn has(word: u64, place: u8) -> bool
-    requires { ⌜ place < 64 ⌝ }
+    requires { ⌜ place < WordBits ⌝ }
     ensures { λ r. ⌜ r ≡ eqb (bit word place) 1 ⌝ }
 {
     (word >> place) & 1 == 1
@@ -18,7 +18,7 @@ pub fn has(word: u64, place: u8) -> bool
 
 // The word with the bit at a place set, or not set.
 pub fn put(word: u64, place: u8, on: bool) -> u64
-    requires { ⌜ place < 64 ⌝ }
+    requires { ⌜ place < WordBits ⌝ }
     ensures { λ r. ⌜ r ≡ putBit word place (one on) ⌝ }
 {
     if on {
@@ -30,7 +30,7 @@ pub fn put(word: u64, place: u8, on: bool) -> u64
 
 // The lowest place whose bit is set; 64 where none is.
 pub fn lowest_set(word: u64) -> u8
-    ensures { λ r. ⌜ r ≡ lowest (λ k. eqb (bit word k) 1) 0 64 ⌝ }
+    ensures { λ r. ⌜ r ≡ lowest (λ k. eqb (bit word k) 1) 0 WordBits ⌝ }
 {
     u64::trailing_zeros(word) as u8
 }
