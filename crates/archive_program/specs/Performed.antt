@@ -8,7 +8,7 @@ use Rattle.interface.specs.Answers.{valueOf}
 use Rattle.state.specs.World.{World}
 use Rattle.replay.specs.Snapshot.{written}
 use Rattle.whole_roll.specs.Whole.{left}
-use Rattle.roll_input.specs.Input.{RollPlayed}
+use Rattle.roll.specs.Input.{RollPlayed}
 
 -- The roll is played from a world, and answer and output are those of the archive roll of what it leaves.
 pub record Performed (image : List ℕ) (w : World) (sandbox : ℕ) (out₀ : List ℕ) (answer : Answer) (out : List ℕ) : Type 0 where

@@ -20,7 +20,7 @@ use Rattle.archive.specs.Archive.{archive}
 use Rattle.archive.specs.Text.{printedRoll}
 use Rattle.archive.specs.Written.{plainWritten}
 use Rattle.whole_roll.specs.Whole.{left}
-use Rattle.roll_input.specs.Input.{RollPlayed}
+use Rattle.roll.specs.Input.{RollPlayed}
 use Rattle.image_file.specs.declared.Found.the-variants.{Unreadable}
 use Rattle.image_file.specs.Image.{imageBytes}
 use Rattle.archive_program.specs.Performed.{Performed, handedOn}

@@ -13,11 +13,10 @@ use Rattle.basics.proofs.TestLaws.{by-cases, and-left, and-right, and-of, impli
 use Rattle.basics.proofs.LoopLaws.{every-at, every-of}
 use Rattle.interface.specs.declared.page.Backing.{Backing}
 use Rattle.interface.specs.declared.page.Backing.the-variants.{Anonymous, Image}
-use Rattle.interface.specs.Runs.{isAnonymous}
 use Rattle.interface.specs.Limits.{rightsOk}
 use Rattle.areas.specs.declared.area.Area.{Area}
 use Rattle.areas.specs.declared.area.Areas.{Areas}
-use Rattle.interface.specs.Slots.{startOf}
+use Rattle.interface.specs.Slots.{startOf, isAnonymous}
 use Rattle.areas.specs.Areas.{none, Near}
 use Rattle.areas.specs.Formed.{ImagesExist, Proper, Apart, WellFormed, imagesExist, proper, isApart, isNone, placeOk, wellFormed}
 

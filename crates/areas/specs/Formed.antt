@@ -9,9 +9,8 @@ use Rattle.basics.specs.Ranges.{every}
 use Rattle.interface.specs.declared.page.Backing.{Backing}
 use Rattle.interface.specs.declared.page.Backing.the-variants.{Anonymous, Image}
 use Rattle.interface.specs.declared.page.Attributes.{Attributes}
-use Rattle.interface.specs.Slots.{follows}
+use Rattle.interface.specs.Slots.{follows, isAnonymous}
 use Rattle.interface.specs.Limits.{rightsOk}
-use Rattle.interface.specs.Runs.{isAnonymous}
 use Rattle.areas.specs.declared.area.Area.{Area}
 use Rattle.areas.specs.declared.area.Areas.{Areas}
 use Rattle.areas.specs.Areas.{none, attributesOf}

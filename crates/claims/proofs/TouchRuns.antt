@@ -15,8 +15,8 @@ use Rattle.basics.proofs.TestLaws.{by-cases, and-left, and-right, never}
 use Rattle.basics.proofs.RangeLaws.{inside-yes}
 use Rattle.interface.specs.declared.request.Request.{Request}
 use Rattle.interface.specs.Requests.{_is_, Open, Map, Write, Snapshot, Rewind}
-use Rattle.interface.specs.Runs.{runPlaces, isSpared, takesRun}
-use Rattle.interface.proofs.RunLaws.{run-low, granted-le, granted-run, longest-low}
+use Rattle.run_choice.specs.Runs.{runPlaces, isSpared, takesRun}
+use Rattle.run_choice.proofs.RunLaws.{run-low, granted-le, granted-run, longest-low}
 use Rattle.frames.specs.declared.Held.{Held}
 use Rattle.frames.specs.Frames.{held, mark}
 use Rattle.frames.proofs.FrameLaws.{lt-or-ge}

@@ -13,9 +13,9 @@ use Rattle.basics.proofs.RangeLaws.{inside-end, inside-yes}
 use Rattle.interface.specs.declared.request.Request.{Request}
 use Rattle.interface.specs.Requests.{_is_, Map, Unmap, Write, Snapshot, Rewind, pageOf, offsetOf}
 use Rattle.interface.specs.Slots.{isCommitted, backingAt}
-use Rattle.interface.specs.Runs.{takesRun}
+use Rattle.run_choice.specs.Runs.{takesRun}
 use Rattle.interface.specs.Limits.{pagesOk, usesTwo, within}
-use Rattle.interface.proofs.RunLaws.{granted-run}
+use Rattle.run_choice.proofs.RunLaws.{granted-run}
 use Rattle.interface.proofs.KindLaws.{Kind, isMap, isUnmap, isProtect, isWrite, isSnapshot, isRewind, isOther}
 use Rattle.interface.specs.Numbers.{pagesIn}
 use Rattle.frames.specs.Frames.{held, mark}

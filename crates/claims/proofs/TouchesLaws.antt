@@ -12,9 +12,9 @@ use Rattle.basics.proofs.TestLaws.{by-cases, and-left, never}
 use Rattle.interface.specs.declared.request.Request.{Request}
 use Rattle.interface.specs.Requests.{_is_, Open, Map, Read, Write, Snapshot, Rewind, Report, Compare, pageOf, offsetOf}
 use Rattle.interface.specs.Limits.{within}
-use Rattle.interface.specs.Runs.{takesRun}
+use Rattle.run_choice.specs.Runs.{takesRun}
 use Rattle.interface.proofs.AcceptedLaws.{map-fits}
-use Rattle.interface.proofs.RunLaws.{run-low, granted-le}
+use Rattle.run_choice.proofs.RunLaws.{run-low, granted-le}
 use Rattle.interface.proofs.KindLaws.{kind}
 use Rattle.interface.specs.Numbers.{pagesIn}
 use Rattle.frames.specs.Frames.{held, mark}

@@ -13,7 +13,7 @@ use Rattle.basics.specs.Rows.{inPlace}
 use Rattle.interface.specs.declared.request.Request.{Request}
 use Rattle.interface.specs.Requests.{_is_, Open, Map, Unmap, Protect, Read, Write, Snapshot, Rewind, Report, Compare, pageOf, offsetOf}
 use Rattle.interface.specs.Outcome.{firstOf}
-use Rattle.interface.specs.Runs.{isSpared, takesRun}
+use Rattle.run_choice.specs.Runs.{isSpared, takesRun}
 use Rattle.frames.specs.declared.Held.{Held}
 use Rattle.frames.specs.Frames.{held, mark, leastHeld}
 use Rattle.pages.specs.Parts.{frame, setFrame}

@@ -15,8 +15,8 @@ use Rattle.interface.specs.declared.request.Request.{Request}
 use Rattle.interface.specs.declared.page.Slot.{Slot}
 use Rattle.interface.specs.Requests.{Compare}
 use Rattle.interface.specs.Slots.{isCommitted, rightsAt}
-use Rattle.interface.specs.Compare.{agree}
-use Rattle.interface.proofs.CompareLaws.{agree-bytes, difference-same}
+use Rattle.comparison.specs.Compare.{agree}
+use Rattle.comparison.proofs.CompareLaws.{agree-bytes, difference-same}
 use Rattle.interface.specs.Numbers.{pagesIn}
 use Rattle.frames.specs.declared.Held.{Held}
 use Rattle.frames.specs.Frames.{held, apartHeld}
@@ -36,7 +36,7 @@ use Rattle.run_soundness.specs.Test.{runsOk}
 use Rattle.soundness.specs.Test.{sandboxOk, sandboxesOk, runsOkAt, keptOk, soundb}
 use Rattle.soundness.proofs.TestLaws.{Tested, tested}
 use Rattle.content.specs.Content.{pageUnder, pageRead, copyRead, differing}
-use Rattle.content.proofs.CompareLaws.{passed-over}
+use Rattle.agreement.proofs.CompareLaws.{passed-over}
 use Rattle.memory.specs.Memory.{valueAt}
 use Rattle.memory.proofs.ValueLaws.{compare-value}
 use Rattle.step.specs.Step.{numberAt, step}

@@ -18,10 +18,10 @@ use Rattle.interface.specs.Outcome.{slotsAfter}
 use Rattle.interface.specs.Refusals.{refusal}
 use Rattle.interface.specs.Settled.{Settled}
 use Rattle.interface.specs.Examples.{ok}
-use Rattle.interface.specs.Gaps.{Unmaps, isHole, unmapOf, mappedAlone, allOk}
-use Rattle.interface.proofs.GapLaws.{without, none-in, without-none, unmap-fits, unmap-then, unmap-accepted, unmap-hole, unmap-over-gap, unmaps-of}
+use Rattle.gaps.specs.Gaps.{Unmaps, isHole, unmapOf, mappedAlone, allOk}
+use Rattle.gaps.proofs.GapLaws.{without, none-in, without-none, unmap-fits, unmap-then, unmap-accepted, unmap-hole, unmap-over-gap, unmaps-of}
 use Rattle.interface.proofs.AcceptedLaws.{accepted}
-use Rattle.interface.proofs.AloneLaws.{Unmapping, alone}
+use Rattle.gaps.proofs.AloneLaws.{Unmapping, alone}
 use Rattle.interface.specs.Numbers.{pagesIn}
 use Rattle.table.specs.Store.{entry, frontOf, freeTo}
 use Rattle.table.proofs.FreeLaws.{freeTo-join, freeTo-none}

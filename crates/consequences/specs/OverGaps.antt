@@ -10,7 +10,7 @@ use Rattle.interface.specs.declared.request.Request.{Request}
 use Rattle.interface.specs.Answers.{Answered}
 use Rattle.interface.specs.Slots.{Slots, isMapped, areas, allAre}
 use Rattle.interface.specs.Examples.{ok, refused}
-use Rattle.interface.specs.Gaps.{Unmaps, isHole, mappedAlone, allOk}
+use Rattle.gaps.specs.Gaps.{Unmaps, isHole, mappedAlone, allOk}
 use Rattle.areas.specs.Areas.{slots}
 use Rattle.state.specs.World.{World, recordAt}
 use Rattle.state.specs.Sound.{Sound}

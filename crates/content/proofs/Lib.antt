@@ -1,4 +1,1 @@
--- In reading order.
 pub mod ReadingLaws
-pub mod CompareLaws
-pub mod UnchangedLaws

@@ -2,7 +2,7 @@
 use mathlib.Core.List.{List}
 use Prim.Native.Nat.{ℕ}
 use Rattle.interface.specs.Slots.{isCommitted, backingAt}
-use Rattle.interface.specs.Compare.{lowestDifference}
+use Rattle.comparison.specs.Compare.{lowestDifference}
 use Rattle.pages.specs.Parts.{sameBytes}
 use Rattle.table.specs.Store.{Store, frontOf, backOf, contents, pageFrom, underFront}
 use Rattle.table.specs.Backing.{backingPage}

@@ -13,8 +13,8 @@ use Rattle.basics.proofs.TestLaws.{by-cases}
 use Rattle.interface.specs.declared.page.Backing.{Backing}
 use Rattle.interface.specs.declared.page.Backing.the-variants.{Anonymous, Image}
 use Rattle.interface.specs.declared.page.Slot.the-variants.{Unmapped, Mapped}
-use Rattle.interface.specs.Slots.{Slots, advance, startsArea}
-use Rattle.interface.specs.Runs.{isAnonymous, isSpared}
+use Rattle.interface.specs.Slots.{Slots, advance, startsArea, isAnonymous}
+use Rattle.run_choice.specs.Runs.{isSpared}
 use Rattle.frames.specs.declared.Held.{Held}
 use Rattle.frames.specs.Frames.{noneHeld}
 use Rattle.table.specs.Store.{Store, entry, frontOf}

@@ -5,7 +5,7 @@ use lib.Dec.{eqb}
 use lib.ListN.{getD}
 use Rattle.basics.specs.Choice.{_when_else_}
 use Rattle.interface.specs.declared.page.Slot.the-variants.{Mapped}
-use Rattle.interface.specs.Runs.{isSpared}
+use Rattle.run_choice.specs.Runs.{isSpared}
 use Rattle.frames.specs.declared.Held.{Held}
 use Rattle.frames.specs.Frames.{mark, noneHeld}
 use Rattle.table.specs.Store.{frontOf}

@@ -7,7 +7,7 @@ ghost use mathlib.Core.List.{List};
 ghost use Prim.Native.Nat.{ℕ, _+_, _≤_, _<_};
 ghost use lib.ListN.{length, getD};
 ghost use Rattle.interface.specs.Numbers.{PageCount, Sandboxes, TableEntries, MostFrames};
-ghost use Rattle.interface.specs.Runs.{isSpared};
+ghost use Rattle.run_choice.specs.Runs.{isSpared};
 ghost use Rattle.interface.specs.declared.page.Slot.the-variants.{Mapped};
 ghost use Rattle.frames.specs.declared.Held.{Held as Words};
 ghost use Rattle.table.specs.Store.{kept as storeOf};

@@ -8,7 +8,7 @@ use Rattle.interface.specs.declared.request.Request.{Request}
 use Rattle.interface.specs.Answers.{Answered}
 use Rattle.interface.specs.Requests.{Snapshot, Rewind}
 use Rattle.interface.specs.Slots.{allAre}
-use Rattle.interface.specs.Gaps.{Unmaps}
+use Rattle.gaps.specs.Gaps.{Unmaps}
 use Rattle.interface.specs.Numbers.{pagesIn}
 use Rattle.pages.specs.Parts.{zeros}
 use Rattle.state.specs.World.{lengthsOk}

@@ -4,9 +4,4 @@ pub mod KindLaws
 pub mod AcceptedLaws
 pub mod ChargeLaws
 pub mod RowLaws
-pub mod GapLaws
-pub mod AloneLaws
-pub mod CompareLaws
 pub mod EdgeLaws
-pub mod RunLaws
-pub mod KeepingLaws

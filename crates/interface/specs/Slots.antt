@@ -52,6 +52,10 @@ abbrev pub advance : Backing → ℕ → Backing
 advance Anonymous pages = Anonymous
 advance (Image first) pages = Image (record { 0 = first .0 + pages })
 
+abbrev pub isAnonymous : Backing → Bool
+isAnonymous Anonymous = true
+isAnonymous (Image page) = false
+
 -- "p3 backing, 0 anonymous, 1 image"
 abbrev pub kindOf : Backing → ℕ
 kindOf Anonymous = AnonymousBacking

@@ -7,7 +7,7 @@ use native.Mathlib.Omega.{arith}
 use lib.Dec.{eqb}
 use Rattle.basics.specs.Rows.{inPlace}
 use Rattle.basics.proofs.TestLaws.{by-cases}
-use Rattle.interface.specs.Runs.{runPlaces}
+use Rattle.run_choice.specs.Runs.{runPlaces}
 use Rattle.frames.specs.declared.Held.{Held}
 use Rattle.frames.specs.Frames.{held, mark, countHeld, leastHeld}
 use Rattle.frames.proofs.FrameLaws.{lt-or-ge, held-lt, held-mark-same, held-mark-other, count-without}

@@ -16,7 +16,7 @@ use Rattle.basics.proofs.TestLaws.{by-cases, when-cases, and-left, and-right}
 use Rattle.basics.proofs.CountLaws.{count-sum, count-zero, count-once}
 use Rattle.basics.proofs.RowLaws.{walked-sum, walked-same}
 use Rattle.interface.specs.Slots.{Slots, startsArea}
-use Rattle.interface.specs.Runs.{runPlaces, isSpared, runsRewound}
+use Rattle.run_choice.specs.Runs.{runPlaces, isSpared, runsRewound}
 use Rattle.frames.specs.declared.Held.{Held}
 use Rattle.frames.specs.Frames.{held, mark, noneHeld, countHeld}
 use Rattle.frames.proofs.FrameLaws.{held-lt, held-or, held-zero, held-mark-other, count-with, none-count}

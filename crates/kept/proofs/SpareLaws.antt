@@ -6,7 +6,7 @@ use native.Mathlib.Omega.{arith}
 use Rattle.basics.specs.Ranges.{sum}
 use Rattle.basics.specs.Rows.{inPlace}
 use Rattle.basics.proofs.CountLaws.{sum-put, sum-swap, sum-plus, sum-hole, part-le}
-use Rattle.interface.specs.Runs.{runPlaces}
+use Rattle.run_choice.specs.Runs.{runPlaces}
 use Rattle.frames.specs.declared.Held.{Held}
 use Rattle.frames.specs.Frames.{held, mark, countHeld}
 use Rattle.words.proofs.SumLaws.{sum-same, sum-add}

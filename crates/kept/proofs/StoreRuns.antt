@@ -11,7 +11,7 @@ use Rattle.basics.specs.Ranges.{sum}
 use Rattle.basics.specs.Rows.{best, noLonger, movedUp, push, Walk, walkTo, walked}
 use Rattle.basics.proofs.TestLaws.{by-cases, when-cases}
 use Rattle.interface.specs.Slots.{Slots, startsArea}
-use Rattle.interface.specs.Runs.{runPlaces}
+use Rattle.run_choice.specs.Runs.{runPlaces}
 use Rattle.frames.specs.declared.Held.{Held}
 use Rattle.frames.specs.Frames.{held, mark, noneHeld, countHeld, leastHeld}
 use Rattle.words.proofs.SumLaws.{sum-same, sum-none}

@@ -13,7 +13,7 @@ use Rattle.basics.specs.Choice.{implies}
 use Rattle.basics.specs.Ranges.{sum, every}
 use Rattle.basics.proofs.TestLaws.{by-cases, never, both-ways, and-both, and-of, implied, implies-of}
 use Rattle.basics.proofs.LoopLaws.{every-at, every-of}
-use Rattle.interface.specs.Runs.{runPlaces}
+use Rattle.run_choice.specs.Runs.{runPlaces}
 use Rattle.frames.specs.declared.Held.{Held}
 use Rattle.frames.specs.Frames.{held, mark, countHeld, leastHeld, apartHeld, noneHeld, sameHeld}
 use Rattle.frames.proofs.FrameLaws.{held-lt, held-zero, held-mark-other, count-none, same-held-true}

@@ -8,7 +8,7 @@ use lib.Dec.{eqb}
 use lib.ListN.{length}
 use Rattle.basics.specs.Rows.{inPlace}
 use Rattle.basics.proofs.TestLaws.{by-cases}
-use Rattle.interface.specs.Runs.{runPlaces}
+use Rattle.run_choice.specs.Runs.{runPlaces}
 use Rattle.frames.specs.declared.Held.{Held}
 use Rattle.frames.specs.Frames.{held, mark}
 use Rattle.frames.proofs.FrameLaws.{held-lt, held-or, held-mark-same, held-mark-other, count-without}

@@ -8,7 +8,7 @@ use Rattle.basics.specs.Choice.{_when_else_}
 use Rattle.basics.specs.Ranges.{sum}
 use Rattle.basics.specs.Rows.{inPlace, walked}
 use Rattle.interface.specs.Slots.{Slots, startsArea}
-use Rattle.interface.specs.Runs.{runPlaces, isSpared}
+use Rattle.run_choice.specs.Runs.{runPlaces, isSpared}
 use Rattle.frames.specs.declared.Held.{Held}
 use Rattle.frames.specs.Frames.{held, mark, noneHeld, countHeld, leastHeld}
 use Rattle.pages.specs.Parts.{frame, zeros}

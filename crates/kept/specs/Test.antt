@@ -6,7 +6,7 @@ use lib.Dec.{eqb, ltb}
 use lib.ListN.{getD}
 use Rattle.basics.specs.Choice.{implies}
 use Rattle.basics.specs.Ranges.{every}
-use Rattle.interface.specs.Runs.{runPlaces}
+use Rattle.run_choice.specs.Runs.{runPlaces}
 use Rattle.frames.specs.declared.Held.{Held}
 use Rattle.frames.specs.Frames.{held, noneHeld, bothHeld, apartHeld}
 use Rattle.pages.specs.Parts.{frame}

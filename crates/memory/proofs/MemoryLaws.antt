@@ -13,7 +13,7 @@ use Rattle.interface.specs.declared.request.Request.{Request}
 use Rattle.interface.specs.declared.page.Slot.{Slot}
 use Rattle.interface.specs.Requests.{_is_, Map, Unmap, Write, Snapshot, Rewind, pageOf, offsetOf}
 use Rattle.interface.specs.Slots.{isCommitted, backingAt}
-use Rattle.interface.specs.Runs.{takesRun}
+use Rattle.run_choice.specs.Runs.{takesRun}
 use Rattle.frames.specs.Frames.{held}
 use Rattle.table.specs.Store.{Store, frontOf, backOf, Ranged, Tidy}
 use Rattle.table.specs.Store.{take, storeByte, freeTo, moveTo, rewindPage, rewindTo}

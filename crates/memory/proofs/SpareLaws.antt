@@ -10,7 +10,7 @@ use borrow.Author.Tests.{ltb-true, ltb-false}
 use Rattle.basics.proofs.TestLaws.{by-cases}
 use Rattle.interface.specs.declared.request.Request.{Request}
 use Rattle.interface.specs.Requests.{_is_, Map, Write}
-use Rattle.interface.proofs.RunLaws.{run-low, granted-run, longest-low}
+use Rattle.run_choice.proofs.RunLaws.{run-low, granted-run, longest-low}
 use Rattle.interface.specs.Outcome.{firstOf}
 use Rattle.frames.specs.Frames.{held, mark}
 use Rattle.frames.proofs.FrameLaws.{held-mark-same, held-mark-other}

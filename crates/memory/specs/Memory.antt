@@ -10,7 +10,7 @@ use Rattle.interface.specs.declared.request.Request.{Request}
 use Rattle.interface.specs.Requests.{_is_, Map, Unmap, Read, Write, Snapshot, Rewind, Report, Compare, pageOf, offsetOf}
 use Rattle.interface.specs.Slots.{isCommitted, mappedPages}
 use Rattle.interface.specs.Outcome.{firstOf}
-use Rattle.interface.specs.Runs.{takesRun, runFor, granted, longestRun, givesUp}
+use Rattle.run_choice.specs.Runs.{takesRun, runFor, granted, longestRun, givesUp}
 use Rattle.frames.specs.Frames.{held, mark, countHeld}
 use Rattle.marks.specs.Named.{usedBelow}
 use Rattle.marks.specs.Marks.{marksTo, from}

@@ -5,12 +5,12 @@ use mathlib.Core.List.{List, [], _∷_}
 use Rattle.basics.specs.Ranges.{count, sum, every, lowest, inside, over, alike}
 use Rattle.basics.specs.Rows.{best, movedUp, push, walkTo, walked}
 use Rattle.interface.specs.Slots.{follows, joins, areas, mappedPages, uncommittedPages, lowestGap, chargeOf}
-use Rattle.interface.specs.Compare.{agree, lowestDifference}
+use Rattle.comparison.specs.Compare.{agree, lowestDifference}
 use Rattle.interface.specs.Limits.{within}
 use Rattle.interface.specs.Outcome.{firstOf, slotsAfter, copyAfter}
 use Rattle.interface.specs.Refusals.{allMapped, applies, refusal}
 use Rattle.interface.specs.Requests.{Open}
-use Rattle.interface.specs.Runs.{runFor, granted, longestRun, runsRewound}
+use Rattle.run_choice.specs.Runs.{runFor, granted, longestRun, runsRewound}
 use Rattle.interface.specs.Examples.{Line, _gives_, ok, call₁, mapAt}
 use Rattle.interface.specs.Edges.{closedEdges, bareEdges, fullEdges, eightEdges}
 use Rattle.plain.specs.Machine.{bytesAfter, frontAfter, backAfter, copiedBackAfter, runsAfter, framesHeld, differing, coreValue, answer, fresh}

@@ -16,10 +16,10 @@ use Rattle.interface.specs.declared.request.Request.{Request}
 use Rattle.interface.specs.Answers.{Answered}
 use Rattle.interface.specs.Requests.{_is_, Map, Unmap, Read, Write, Snapshot, Rewind, Report, Compare, pageOf, offsetOf, backingOf}
 use Rattle.interface.specs.Slots.{Slots, isCommitted, advance, mappedPages, copied}
-use Rattle.interface.specs.Compare.{lowestDifference}
+use Rattle.comparison.specs.Compare.{lowestDifference}
 use Rattle.interface.specs.Outcome.{firstOf, slotsAfter, copyAfter, shareAfter}
 use Rattle.interface.specs.Refusals.{View, refusal}
-use Rattle.interface.specs.Runs.{runPlaces, takesRun, runFor, granted, longestRun, givesUp, runsRewound}
+use Rattle.run_choice.specs.Runs.{runPlaces, takesRun, runFor, granted, longestRun, givesUp, runsRewound}
 
 -- "with the image and the pool's number of frames"
 pub record Given : Type 0 where

@@ -20,7 +20,7 @@ use Rattle.interface.specs.Refusals.{View, allMapped, applies, refusal}
 use Rattle.interface.specs.Accepted.{Accepted}
 use Rattle.interface.specs.Examples.{ok}
 use Rattle.interface.proofs.AcceptedLaws.{accepted}
-use Rattle.interface.proofs.CompareLaws.{agree-self, agree-mapped, agree-same, difference-none, none-differs}
+use Rattle.comparison.proofs.CompareLaws.{agree-self, agree-mapped, agree-same, difference-none, none-differs}
 use Rattle.plain.specs.Machine.{Given, Core, Plain, copySlots, copyBytes, differing, coreValue, viewOf, shares, numberAt, answer}
 use Rattle.plain_claims.specs.Lists.{upTo, Then, Rewound, back, still}
 use Rattle.plain_claims.specs.Claims.{Keeps, Restored, compareOf, copyAnswer, CleanReadsCopy}

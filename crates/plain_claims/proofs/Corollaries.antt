@@ -10,9 +10,9 @@ use Rattle.interface.specs.Requests.{_is_, Open, Read, Rewind, Report, Compare}
 use Rattle.interface.specs.Slots.{isCommitted, copied}
 use Rattle.interface.specs.Outcome.{slotsAfter, copyAfter}
 use Rattle.interface.specs.Refusals.{applies, refusal}
-use Rattle.interface.specs.Runs.{isSpared, runsRewound}
+use Rattle.run_choice.specs.Runs.{isSpared, runsRewound}
 use Rattle.interface.proofs.AcceptedLaws.{accepted}
-use Rattle.interface.proofs.RunLaws.{spared-uncommitted}
+use Rattle.run_choice.proofs.RunLaws.{spared-uncommitted}
 use Rattle.plain.specs.Machine.{Given, Kept, Plain, copySlots, copyBytes, withKept, numberAt, after}
 use Rattle.plain.specs.Machine.{bytesAfter, frontAfter, backAfter, copiedBackAfter, runsAfter, keptAfter}
 use Rattle.plain_claims.specs.Lists.{upTo}

@@ -15,10 +15,10 @@ use Rattle.interface.specs.Slots.{Slots, isMapped, areas}
 use Rattle.interface.specs.Outcome.{slotsAfter, copyAfter}
 use Rattle.interface.specs.Settled.{Settled}
 use Rattle.interface.specs.Examples.{ok}
-use Rattle.interface.specs.Gaps.{unmapOf, allOk}
-use Rattle.interface.proofs.GapLaws.{without, none-in, without-none, unmap-fits, unmap-then, unmap-accepted, unmaps-of}
+use Rattle.gaps.specs.Gaps.{unmapOf, allOk}
+use Rattle.gaps.proofs.GapLaws.{without, none-in, without-none, unmap-fits, unmap-then, unmap-accepted, unmaps-of}
 use Rattle.interface.proofs.AcceptedLaws.{accepted}
-use Rattle.interface.proofs.AloneLaws.{Unmapping, alone}
+use Rattle.gaps.proofs.AloneLaws.{Unmapping, alone}
 use Rattle.plain.specs.Machine.{Given, Kept, Plain, shares, viewOf, withKept, numberAt, answer, answers, after, afterAll, coreValue}
 use Rattle.plain.specs.Machine.{bytesAfter, frontAfter, backAfter, copiedBackAfter, runsAfter, keptAfter}
 use Rattle.plain_claims.specs.Lists.{upTo}

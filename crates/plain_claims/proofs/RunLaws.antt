@@ -16,9 +16,9 @@ use Rattle.interface.specs.declared.request.Request.{Request}
 use Rattle.interface.specs.Requests.{_is_, Map, Unmap, Write, Snapshot, Rewind, pageOf}
 use Rattle.interface.specs.Slots.{Slots, isCommitted, startsArea}
 use Rattle.interface.specs.Outcome.{firstOf}
-use Rattle.interface.specs.Runs.{runPlaces, isSpared, runFor, granted, longestRun, runsRewound}
+use Rattle.run_choice.specs.Runs.{runPlaces, isSpared, runFor, granted, longestRun, runsRewound}
 use Rattle.interface.proofs.ChargeLaws.{inside-part}
-use Rattle.interface.proofs.RunLaws.{run-low, granted-le, granted-run, longest-low, longest-some, sum-less, spared-uncommitted}
+use Rattle.run_choice.proofs.RunLaws.{run-low, granted-le, granted-run, longest-low, longest-some, sum-less, spared-uncommitted}
 use Rattle.plain.specs.Machine.{Traces, framesHeld, frontAfter, backAfter, copiedBackAfter, lessBy, runsAfter}
 
 -- ---- a map

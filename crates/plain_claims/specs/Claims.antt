@@ -16,7 +16,7 @@ use Rattle.interface.specs.Slots.{Slots, isMapped, isCommitted, isUncommitted, 
 use Rattle.interface.specs.Limits.{within}
 use Rattle.interface.specs.Refusals.{isTaken}
 use Rattle.interface.specs.Examples.{ok, refused, call, inSandbox}
-use Rattle.interface.specs.Gaps.{Unmaps, mappedAlone, allOk}
+use Rattle.gaps.specs.Gaps.{Unmaps, mappedAlone, allOk}
 use Rattle.plain.specs.Machine.{Given, Core, Kept, Plain, fresh, closed, framesHeld, copySlots, copyBytes, backingByte, shares, viewOf}
 use Rattle.plain.specs.Machine.{numberAt, answer, answers, after, afterAll}
 use Rattle.plain_claims.specs.Lists.{upTo, Then, naming, toldLater, Rewound}

@@ -10,8 +10,8 @@ use Rattle.basics.specs.Ranges.{sum}
 use Rattle.basics.proofs.TestLaws.{by-cases}
 use Rattle.interface.specs.declared.request.Request.{Request}
 use Rattle.interface.specs.Requests.{_is_, Map}
-use Rattle.interface.specs.Runs.{takesRun, runFor, granted, longestRun}
-use Rattle.interface.proofs.RunLaws.{longest-some}
+use Rattle.run_choice.specs.Runs.{takesRun, runFor, granted, longestRun}
+use Rattle.run_choice.proofs.RunLaws.{longest-some}
 use Rattle.interface.specs.Outcome.{firstOf}
 use Rattle.frames.specs.declared.Held.{Held}
 use Rattle.frames.specs.Frames.{held, mark, countHeld, leastHeld, bothHeld}

@@ -5,7 +5,7 @@ use Prim.Native.Nat.{ℕ}
 use Rattle.basics.specs.Choice.{_when_else_}
 use Rattle.interface.specs.declared.request.Request.{Request}
 use Rattle.interface.specs.Outcome.{firstOf}
-use Rattle.interface.specs.Runs.{takesRun, runFor, granted, longestRun}
+use Rattle.run_choice.specs.Runs.{takesRun, runFor, granted, longestRun}
 use Rattle.frames.specs.declared.Held.{Held}
 use Rattle.frames.specs.Frames.{mark}
 use Rattle.table.specs.Store.{Store, frontOf}

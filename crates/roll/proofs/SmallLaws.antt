@@ -22,7 +22,7 @@ use Rattle.interface.specs.declared.page.Backing.the-variants.{Anonymous, Image
 use Rattle.interface.specs.Requests.{_is_, isCall, Map, Read, Snapshot, Report, Compare, pageOf, offsetOf}
 use Rattle.interface.specs.Answers.{refusalNumber, numberOf, valueOf, answered}
 use Rattle.interface.specs.Slots.{isCommitted, backingAt}
-use Rattle.interface.specs.Compare.{lowestDifference}
+use Rattle.comparison.specs.Compare.{lowestDifference}
 use Rattle.interface.specs.Outcome.{firstOf}
 use Rattle.interface.specs.Refusals.{refusal}
 use Rattle.interface.proofs.AcceptedLaws.{accepted, map-fits}

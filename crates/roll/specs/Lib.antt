@@ -2,3 +2,4 @@
 pub mod Play
 pub mod Replies
 pub mod Join
+pub mod Input

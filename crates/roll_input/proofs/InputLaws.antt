@@ -14,7 +14,7 @@ use Rattle.playing.proofs.PrefixLaws.{few-lines}
 use Rattle.roll.specs.Join.{WholeLines}
 use Rattle.roll.proofs.PlayLaws.{played-none}
 use Rattle.roll.proofs.JoinLaws.{joins, counts-on, played-alone}
-use Rattle.roll_input.specs.Input.{LinesRead, full as all, last, next, RollPlayed}
+use Rattle.roll.specs.Input.{LinesRead, full as all, last, next, RollPlayed}
 
 -- the lines before this number, each of 43 bytes, are played; whatever is read from it on is read behind them
 pub record SoFar (image : List ℕ) (w : World) (number : ℕ) (v : World) : Type 0 where

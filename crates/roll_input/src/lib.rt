@@ -2,7 +2,7 @@
 // It promises that what it reads, one line after the other until a short one or the 65,535th, is one roll played (`RollPlayed`).
 // It stands on `playing`, on `input` for when another line is read, and on the kit's `io` and `libc`; which bytes these read nothing proves.
 ghost use Rattle.state.specs.World.{worldOf};
-ghost use Rattle.roll_input.specs.Input.{RollPlayed};
+ghost use Rattle.roll.specs.Input.{RollPlayed};
 use input::is_whole;
 use lines::Line;
 use playing::Player;

@@ -7,7 +7,7 @@ use mathlib.Core.List.{List, [], _∷_}
 use lib.ListN.{getD, set, replicate}
 use Rattle.basics.specs.Choice.{_when_else_}
 use Rattle.basics.specs.Rows.{best, longer, noLonger, fitter}
-use Rattle.interface.specs.Runs.{longestRun}
+use Rattle.run_choice.specs.Runs.{longestRun}
 use Rattle.frames.specs.declared.Held.{Held}
 use Rattle.frames.specs.Frames.{held, noneHeld, countHeld}
 use Rattle.runs.specs.declared.Runs.{Runs}

@@ -7,7 +7,7 @@ ghost use Prim.Native.Nat.{_≤_, _<_};
 ghost use Rattle.basics.specs.Ranges.{sum, every};
 ghost use Rattle.basics.specs.Rows.{best, longer, noLonger, fitter};
 ghost use Rattle.frames.specs.Frames.{noneHeld, sameHeld};
-ghost use Rattle.interface.specs.Runs.{longestRun, runFor};
+ghost use Rattle.run_choice.specs.Runs.{longestRun, runFor};
 ghost use Rattle.interface.specs.Numbers.{MostFrames};
 ghost use Rattle.runs.specs.Row.{row, lengthsOf, noRuns, withRunAt, betterBy, betterOf, movedRuns, pushed};
 use frames::Held;

@@ -7,7 +7,7 @@ use lib.Dec.{eqb}
 use lib.ListN.{getD}
 use borrow.Author.Tests.{eq-eqb, ne-eqb}
 use Rattle.basics.specs.Ranges.{one, count, sum}
-use Rattle.interface.specs.Runs.{runPlaces}
+use Rattle.run_choice.specs.Runs.{runPlaces}
 use Rattle.words.proofs.SumLaws.{sum-same}
 use Rattle.marks.specs.Named.{used, usedBelow}
 use Rattle.marks.specs.Marks.{from}

@@ -19,7 +19,7 @@ use Rattle.interface.specs.Outcome.{firstOf, copyAfter}
 use Rattle.interface.specs.Refusals.{View}
 use Rattle.interface.specs.Accepted.{Accepted}
 use Rattle.interface.proofs.AcceptedLaws.{map-fits, map-unmapped}
-use Rattle.interface.proofs.RunLaws.{run-low, granted-le, granted-run, granted-same}
+use Rattle.run_choice.proofs.RunLaws.{run-low, granted-le, granted-run, granted-same}
 use Rattle.frames.specs.Frames.{countHeld}
 use Rattle.frames.proofs.FrameLaws.{lt-or-ge}
 use Rattle.pages.specs.Parts.{listed, zeros}

@@ -16,7 +16,7 @@ use Rattle.words.specs.Word.{bit, putBit}
 use Rattle.frames.specs.Frames.{held, mark, countHeld, greatest, leastHeld, bothHeld, apartHeld}
 use Rattle.basics.specs.Rows.{best, movedUp, walkTo, walked}
 use Rattle.basics.specs.Rows as rows
-use Rattle.interface.specs.Runs.{runFor, granted, longestRun}
+use Rattle.run_choice.specs.Runs.{runFor, granted, longestRun}
 use Rattle.marks.specs.Named.{usedBelow}
 use Rattle.runs.specs.Row.{rowTo}
 use Rattle.kept.specs.Spare.{keptBy, rowRewound, leftOf, grantTo}

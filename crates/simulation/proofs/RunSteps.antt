@@ -15,11 +15,11 @@ use Rattle.interface.specs.Requests.{_is_, Map, Write, Snapshot, pageOf, offset
 use Rattle.interface.specs.Slots.{isMapped}
 use Rattle.interface.specs.Outcome.{firstOf}
 use Rattle.interface.specs.Refusals.{allMapped}
-use Rattle.interface.specs.Runs.{runPlaces, runFor, granted, longestRun, givesUp, runsRewound}
+use Rattle.run_choice.specs.Runs.{runPlaces, runFor, granted, longestRun, givesUp, runsRewound}
 use Rattle.interface.specs.Accepted.{Accepted}
 use Rattle.interface.proofs.SlotLaws.{untaken-copied}
 use Rattle.interface.proofs.KindLaws.{Kind, isMap, isUnmap, isProtect, isWrite, isSnapshot, isRewind, isOther}
-use Rattle.interface.proofs.RunLaws.{run-low, granted-run, longest-low, longest-same, run-same, granted-same, spared-uncommitted}
+use Rattle.run_choice.proofs.RunLaws.{run-low, granted-run, longest-low, longest-same, run-same, granted-same, spared-uncommitted}
 use Rattle.frames.specs.declared.Held.{Held}
 use Rattle.frames.specs.Frames.{held, mark, countHeld}
 use Rattle.pages.proofs.ListedLaws.{length-listed}

@@ -21,7 +21,7 @@ use Rattle.interface.specs.Refusals.{View, allMapped, applies, refusal}
 use Rattle.interface.specs.Accepted.{Accepted}
 use Rattle.interface.proofs.KindLaws.{kind}
 use Rattle.interface.proofs.AcceptedLaws.{accepted}
-use Rattle.interface.proofs.CompareLaws.{agree-bytes, difference-same}
+use Rattle.comparison.proofs.CompareLaws.{agree-bytes, difference-same}
 use Rattle.frames.specs.Frames.{held}
 use Rattle.pages.specs.Parts.{sameBytes}
 use Rattle.pages.proofs.ListedLaws.{listed-at, same-listed}

@@ -13,8 +13,8 @@ use Rattle.interface.specs.Requests.{_is_, Write, isCall, pageOf}
 use Rattle.interface.specs.Refusals.{refusal}
 use Rattle.interface.specs.Accepted.{Accepted}
 use Rattle.interface.proofs.AcceptedLaws.{accepted}
-use Rattle.interface.specs.Runs.{runPlaces}
-use Rattle.interface.proofs.RunLaws.{longest-low}
+use Rattle.run_choice.specs.Runs.{runPlaces}
+use Rattle.run_choice.proofs.RunLaws.{longest-low}
 use Rattle.frames.specs.Frames.{held}
 use Rattle.frames.proofs.FrameLaws.{lt-or-ge}
 use Rattle.runs.specs.Row.{lengthsOf}

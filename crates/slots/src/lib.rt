@@ -3,9 +3,8 @@
 // It stands on `interface`, whose definitions it computes. (A crate of its own, so that an edit of those definitions is tried without it.)
 ghost use mathlib.Core.Path.{_≡_};
 ghost use Prim.Native.Nat.{_+_, _<_};
-ghost use Rattle.interface.specs.Slots.{isMapped, isCommitted, isUncommitted, rightsAt, backingAt};
+ghost use Rattle.interface.specs.Slots.{isMapped, isCommitted, isUncommitted, rightsAt, backingAt, isAnonymous};
 ghost use Rattle.interface.specs.Slots.{withRights, withCommitted, advance, kindOf, startOf, follows};
-ghost use Rattle.interface.specs.Runs.{isAnonymous};
 ghost use Rattle.interface.specs.Outcome.{pageOn};
 ghost use Rattle.interface.specs.Numbers.{ByteValues};
 use interface::Attributes;

@@ -11,9 +11,9 @@ use Rattle.basics.specs.Ranges.{one, count, sum}
 use Rattle.basics.proofs.TestLaws.{by-cases}
 use Rattle.basics.proofs.CountLaws.{count-sum, sum-plus}
 use Rattle.interface.specs.Slots.{isMapped, mappedPages}
-use Rattle.interface.specs.Runs.{longestRun}
+use Rattle.run_choice.specs.Runs.{longestRun}
 use Rattle.interface.proofs.ChargeLaws.{charge-covers}
-use Rattle.interface.proofs.RunLaws.{longest-some}
+use Rattle.run_choice.proofs.RunLaws.{longest-some}
 use Rattle.interface.specs.Numbers.{pagesIn}
 use Rattle.frames.specs.Frames.{held}
 use Rattle.marks.specs.Named.{used, usedBelow}

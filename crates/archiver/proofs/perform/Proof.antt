@@ -1,7 +1,7 @@
 -- The roll is played from what a start leaves, and then the archive roll is written of what it left.
 use mathlib.Core.Path.{subst}
 use Rattle.state.specs.World.{worldOf}
-use Rattle.roll_input.specs.Input.{RollPlayed}
+use Rattle.roll.specs.Input.{RollPlayed}
 use Rattle.archive_program.proofs.PerformedLaws.{answered-fits}
 use borrow.Author.Needs.{needs}
 use Rattle.archiver.proofs.perform.Statement.{statement}

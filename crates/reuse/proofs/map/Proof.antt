@@ -4,12 +4,12 @@ use Prim.Native.Nat.{ℕ}
 use native.Mathlib.Omega.{arith}
 use lib.Dec.{leb}
 use Rattle.basics.specs.Choice.{_when_else_}
-use Rattle.interface.proofs.RunLaws.{granted-le, granted-run}
+use Rattle.run_choice.proofs.RunLaws.{granted-le, granted-run}
 use Rattle.frames.specs.declared.Held.{Held}
 use Rattle.frames.specs.Frames.{countHeld}
 use Rattle.runs.specs.Row.{row, lengthsOf, withRunAt}
 use Rattle.areas.proofs.FormedLaws.{near}
-use Rattle.interface.specs.Runs.{runFor, granted}
+use Rattle.run_choice.specs.Runs.{runFor, granted}
 use Rattle.reuse.proofs.ReuseLaws.{named-none, image-none, untaken-store, untaken-runs, frames-there, taken-store, taken-runs}
 use borrow.Author.Needs.{needs}
 use Rattle.reuse.proofs.map.Statement.{statement}

@@ -1,6 +1,6 @@
 -- The fitting run is the best by its rule.
 use borrow.Author.Needs.{needs}
-use Rattle.interface.specs.Runs.{runFor}
+use Rattle.run_choice.specs.Runs.{runFor}
 use Rattle.runs.specs.Row.{betterBy}
 use Rattle.runs.proofs.Runs.fitting.Statement.{statement}
 use Rattle.runs.proofs.Runs.fitting.Tie as tie

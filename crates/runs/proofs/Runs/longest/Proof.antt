@@ -1,6 +1,6 @@
 -- The longest run is the best by its rule.
 use borrow.Author.Needs.{needs}
-use Rattle.interface.specs.Runs.{longestRun}
+use Rattle.run_choice.specs.Runs.{longestRun}
 use Rattle.runs.specs.Row.{betterBy}
 use Rattle.runs.proofs.Runs.longest.Statement.{statement}
 use Rattle.runs.proofs.Runs.longest.Tie as tie

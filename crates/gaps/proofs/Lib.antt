@@ -1,0 +1,2 @@
+pub mod GapLaws
+pub mod AloneLaws
