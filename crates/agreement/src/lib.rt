@@ -44,7 +44,14 @@ fn stays(area: Area, copied: Area) -> bool
 }
 
 // Whether a page agrees with the snapshot's in being mapped, in rights and in bytes, from what stands there in both and from its front and back entries.
-pub fn agrees(pool: &[u8], image: &[u8], present: Slot, snapshot: Slot, front: u16, back: u16) -> bool
+pub fn agrees(
+    pool: &[u8],
+    image: &[u8],
+    present: Slot,
+    snapshot: Slot,
+    front: u16,
+    back: u16,
+) -> bool
     requires { ⌜ front ≤ MostFrames ⌝ }
     requires { ⌜ front * PageBytes ≤ length (now pool) ⌝ }
     requires { ⌜ back ≤ MostFrames ⌝ }
