@@ -1,6 +1,6 @@
 // Request A1, "Still clean?": the lowest page at which a sandbox and its snapshot differ.
-// It promises: the page is the one that comparing all 64 pages by what they read would find (`differing` of content/specs/Content), though a committed page with
-// unchanged rights and no front is passed over. Nothing is changed.
+// It promises: the page is the one that comparing all 64 pages by what they read would find (`differing` of content/specs/Content), though a committed page
+// with unchanged rights and no front is passed over. Nothing is changed.
 // It stands on `agreement` for one page compared, on `content` for what pages read, and on `rules` for what a record of a sound state is.
 ghost use mathlib.Core.Path.{_≡_};
 ghost use Prim.Native.Nat.{_<_};
