@@ -1,6 +1,6 @@
 // One page compared with the snapshot's, where the bytes stand; and whether the areas are those of the snapshot, so that a page without a front agrees.
-// It promises: the test of a page is `agree` of comparison/specs/Compare, by the bytes that both read; the test of the areas is specs/Unchanged. No byte is looked
-// at of a page that is committed, has unchanged rights and no front.
+// It promises: the test of a page is `agree` of comparison/specs/Compare, by the bytes that both read; the test of the areas is specs/Unchanged. No byte is
+// looked at of a page that is committed, has unchanged rights and no front.
 // It stands on `comparison` for what is compared, on `reading` for the bytes, and on `areas` and `slots` for what stands at a page.
 ghost use mathlib.Core.Path.{_≡_};
 ghost use mathlib.Core.Bool.{true};
