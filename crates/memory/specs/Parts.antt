@@ -15,12 +15,13 @@ use Rattle.marks.specs.Named.{usedBelow}
 use Rattle.marks.specs.Marks.{from}
 use Rattle.table.specs.Store.{Store, entry, frontOf, Filed}
 use Rattle.runs.specs.declared.Runs.{Runs}
-use Rattle.runs.specs.Row.{InLongest}
+use Rattle.runs.specs.Row.{row, InLongest}
 use Rattle.kept.specs.Spare.{keptAt, Spare}
 use Rattle.kept.specs.Test.{keptTo}
 use Rattle.areas.specs.Areas.{slots}
 use Rattle.state.specs.declared.sandbox.Sandbox.{Sandbox}
-use Rattle.state.specs.World.{World, sandboxAt, framesOf, rowsOf}
+use Rattle.state.specs.World.{World, sandboxIn, sandboxAt, framesOf, rowsOf}
+use Rattle.totals.specs.declared.together.Together.{Together}
 use Rattle.rules.specs.Ready.{Fit, Ready}
 use Rattle.memory.specs.Memory.{Unheld, holdsIn, givesAt, runsAfter, touched, storeAfter}
 
@@ -49,6 +50,15 @@ pub record Asked (image : List ℕ) (q : Request) (w : World) : Type 0 where
   -- and where kept frames leave room too, a frame is not held
   pub room : q .code ≡ Write → ownFront q (w .store) ≡ 0 → holdsIn (w .store) (q .sandbox) (ownSandbox q w) < ownSandbox q w .rec .share
       → (f : ℕ) × Unheld w f
+
+-- What is handed over of a row of sandboxes to a call on one of them: the sandbox that the request names, and for a write the marks of all kept frames.
+pub record Handed (q : Request) (b : Sandbox) (all : Together) (sandboxes : List Sandbox) : Type 0 where
+  pub own : b ≡ sandboxIn sandboxes (q .sandbox)
+  pub kept : q .code ≡ Write → all .kept ≡ keptTo (λ s. row (sandboxIn sandboxes s .runs)) 4 .held
+
+-- a row of sandboxes of which this is handed over, and which over this store is as the parts of an accepted call ask
+abbrev pub AskedOf : List ℕ → Request → Sandbox → Together → Store → List Sandbox → Type 0
+AskedOf image q b all st sandboxes = Handed q b all sandboxes × Asked image q (record { sandboxes = sandboxes; store = st })
 
 -- the frame that a write takes "was unheld, or was given up by this very call"
 abbrev pub Takes : Request → World → ℕ → ℕ → Type 0

@@ -13,6 +13,11 @@ use marks::Marks;
 use state::sandbox::Machine;
 use state::sandbox::Sandbox;
 
+pub mod together;
+
+pub use together::Together;
+pub use together::put_together;
+
 // "the shares together"
 pub fn shares(sandboxes: [Sandbox; Machine::SANDBOXES]) -> u16
     ensures { λ r. ⌜ r ≡ sum (λ s. getD sandboxes s closedSandbox .rec .share) 4 ⌝ }

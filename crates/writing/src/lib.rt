@@ -1,30 +1,42 @@
 // A write: a page without a front takes a frame, and then one byte of its front is stored.
 // It promises: the store and the runs after it are those of memory/specs/Memory, whichever unheld frame it takes and whichever frame of the longest run it
 // gives up first.
-// It stands on `memory` for the definitions and their laws, on `reuse` and `totals` for the frame that is taken, and on `filling` for what is put into it.
+// It stands on `memory` for the definitions and their laws, on `reuse` for the frame that is taken, on `totals` for the frames that are kept, and on `filling` for what is put into it.
 ghost use mathlib.Core.Path.{_≡_};
+ghost use mathlib.Core.List.{List};
 ghost use Rattle.interface.specs.Requests.{Write};
 ghost use Rattle.table.specs.Store.{kept};
-ghost use Rattle.state.specs.World.{worldOf};
-ghost use Rattle.memory.specs.Parts.{Asked, StoreStepped, TouchStepped};
+ghost use Rattle.state.specs.declared.sandbox.Sandbox.{Sandbox as Owner};
+ghost use Rattle.state.specs.World.{World};
+ghost use Rattle.memory.specs.Parts.{AskedOf, StoreStepped, TouchStepped};
 use interface::PageNo;
 use interface::Request;
 use pages::Page;
 use reuse::Left;
 use reuse::give_up;
 use reuse::unheld_frame;
-use state::sandbox::Machine;
+use state::sandbox::Sandbox;
 use table::page::VirtualPage;
-use totals::kept_marks;
+use totals::Together;
 
 // "Write": a page without a front first takes a frame, and then one byte of its front is stored.
-pub fn write(machine: Machine, pool: &mut [u8], table: &mut [u16], image: &[u8], q: Request) -> Left
+pub fn write(
+    b: Sandbox,
+    all: Together,
+    pool: &mut [u8],
+    table: &mut [u16],
+    image: &[u8],
+    q: Request,
+) -> Left
     requires { ⌜ q .code ≡ Write ⌝ }
-    requires { ⌜ Asked (now image) q (worldOf machine (now pool) (now table)) ⌝ }
-    ensures { λ r. ⌜ (let w = worldOf machine (now (pool .entry)) (now (table .entry)) in
-        StoreStepped (now (image .entry)) q w (kept (r .held) (now (pool .exit)) (now (table .exit))) (r .runs)) ⌝ }
+    requires { ⌜ ((row : List Owner) × AskedOf (now image) q b all (kept (all .held) (now pool) (now table)) row) ⌝ }
+    ensures { λ r. ⌜ ((row : List Owner) →
+        let before = kept (all .held) (now (pool .entry)) (now (table .entry)) in
+        let w : World = record { sandboxes = row; store = before } in
+        AskedOf (now (image .entry)) q b all before row
+        → StoreStepped (now (image .entry)) q w (kept (r .held) (now (pool .exit)) (now (table .exit))) (r .runs)) ⌝ }
 {
-    let left = touch(machine, pool, table, image, q);
+    let left = touch(b, all, pool, table, image, q);
     let s = q.sandbox as u8;
     let page = PageNo((q.p1 / PageNo::BYTES as u16) as u8);
     filling::store::store_byte(
@@ -39,19 +51,26 @@ pub fn write(machine: Machine, pool: &mut [u8], table: &mut [u16], image: &[u8],
 }
 
 // A page without a front takes a frame; one with a front keeps it.
-fn touch(machine: Machine, pool: &mut [u8], table: &mut [u16], image: &[u8], q: Request) -> Left
+fn touch(
+    b: Sandbox,
+    all: Together,
+    pool: &mut [u8],
+    table: &mut [u16],
+    image: &[u8],
+    q: Request,
+) -> Left
     requires { ⌜ q .code ≡ Write ⌝ }
-    requires { ⌜ Asked (now image) q (worldOf machine (now pool) (now table)) ⌝ }
-    ensures { λ r. ⌜ (let w = worldOf machine (now (pool .entry)) (now (table .entry)) in
-        TouchStepped (now (image .entry)) q w (kept (r .held) (now (pool .exit)) (now (table .exit))) (r .runs)) ⌝ }
+    requires { ⌜ ((row : List Owner) × AskedOf (now image) q b all (kept (all .held) (now pool) (now table)) row) ⌝ }
+    ensures { λ r. ⌜ ((row : List Owner) →
+        let before = kept (all .held) (now (pool .entry)) (now (table .entry)) in
+        let w : World = record { sandboxes = row; store = before } in
+        AskedOf (now (image .entry)) q b all before row
+        → TouchStepped (now (image .entry)) q w (kept (r .held) (now (pool .exit)) (now (table .exit))) (r .runs)) ⌝ }
 {
     let s = q.sandbox as u8;
     let number = PageNo((q.p1 / PageNo::BYTES as u16) as u8);
-    let k = q.sandbox as usize;
-    let sandboxes = machine.sandboxes;
-    let b = sandboxes[k];
     let runs = b.runs;
-    let held = machine.held;
+    let held = all.held;
     let front = table::entry::front(table, s, number);
     if front != 0 {
         return Left {
@@ -59,9 +78,7 @@ fn touch(machine: Machine, pool: &mut [u8], table: &mut [u16], image: &[u8], q: 
             runs: runs,
         };
     }
-    let found = kept_marks(sandboxes);
-    let all = found.held;
-    let given = give_up(table, runs, all, b.rec.share, s);
+    let given = give_up(table, runs, all.kept, b.rec.share, s);
     let rest = given.kept;
     let left = given.runs;
     let frames = (pool.len() / Page::SIZE) as u8;

@@ -3,48 +3,53 @@ use mathlib.Core.Path.{_≡_, sym, ap, subst, _∙_}
 use mathlib.Core.List.{List}
 use Prim.Native.Nat.{ℕ, _*_, _/_, _≤_, _<_}
 use native.Mathlib.Omega.{arith}
-use lib.ListN.{length, getD}
-use Rattle.basics.proofs.TestLaws.{length-mapped}
+use lib.ListN.{length}
 use Rattle.interface.specs.declared.page.Slot.{Slot}
 use Rattle.interface.specs.Requests.{pageOf}
 use Rattle.interface.specs.Slots.{backingAt}
 use Rattle.interface.specs.Numbers.{pagesIn}
-use Rattle.marks.specs.declared.Marks.{Marks}
-use Rattle.table.specs.Store.{frontOf, take}
+use Rattle.table.specs.Store.{Store, kept, frontOf, take}
 use Rattle.table.specs.Backing.{backingEnd}
 use Rattle.table.proofs.FiledLaws.{filed-ranged}
 use Rattle.kept.specs.Test.{keptTo}
 use Rattle.areas.specs.Areas.{slots}
 use Rattle.areas.proofs.FormedLaws.{near}
 use Rattle.state.specs.declared.sandbox.Sandbox.{Sandbox}
-use Rattle.state.specs.World.{World, worldOf, framesOf, rowsOf}
-use Rattle.state.proofs.SharesLaws.{zeroSandbox}
+use Rattle.state.specs.World.{World, framesOf, rowsOf}
 use Rattle.rules.proofs.FitLaws.{page-small}
 use Rattle.content.proofs.ReadingLaws.{backing-there, under-is}
 use Rattle.reuse.specs.Reuse.{GaveUp}
-use Rattle.memory.specs.Parts.{ownSandbox, ownFront, Asked}
+use Rattle.memory.specs.Parts.{ownSandbox, ownFront, Asked, AskedOf}
 use Rattle.memory.proofs.SpareLaws.{gives, frame-there}
-use Rattle.memory.proofs.MemoryLaws.{read-own, touch-kept, touch-made}
+use Rattle.memory.proofs.MemoryLaws.{touch-kept, touch-made}
 use borrow.Author.Needs.{needs}
 use Rattle.writing.proofs.touch.Statement.{statement}
 use Rattle.writing.proofs.touch.Tie as tie
 
--- ---- what is handed in
+-- ---- what is handed in, and a row of sandboxes from which it is
 
-abbrev worldIn : tie.Start → World
-worldIn s = worldOf (s .args .machine) (s .args .pool .now) (s .args .table .now)
+abbrev storeIn : tie.Start → Store
+storeIn s = kept (s .args .all .held) (s .args .pool .now) (s .args .table .now)
 
-abbrev own : tie.Start → Sandbox
-own s = ownSandbox (s .args .q) (worldIn s)
+abbrev worldIn : tie.Start → List Sandbox → World
+worldIn s row = record { sandboxes = row; store = storeIn s }
 
-abbrev asked : (s : tie.Start) → Asked (s .args .image .now) (s .args .q) (worldIn s)
-asked s = s .pre .1
+abbrev Row : tie.Start → List Sandbox → Type 0
+Row s row = AskedOf (s .args .image .now) (s .args .q) (s .args .b) (s .args .all) (storeIn s) row
 
-four : (s : tie.Start) → length (s .args .machine .sandboxes) ≡ 4
-four s = search length-mapped
+-- one such row is there
+abbrev there : tie.Start → List Sandbox
+there s = s .pre .1 .0
 
-same-sandbox : (s : tie.Start) → getD (s .args .machine .sandboxes) (s .args .q .sandbox) zeroSandbox ≡ own s
-same-sandbox s = read-own (s .args .machine .sandboxes) (s .args .q .sandbox) (four s) (asked s .row)
+abbrev its : (s : tie.Start) → Row s (there s)
+its s = s .pre .1 .1
+
+abbrev asked : (s : tie.Start) → Asked (s .args .image .now) (s .args .q) (worldIn s (there s))
+asked s = its s .1
+
+-- the sandbox handed in is that of the row
+same-sandbox : (s : tie.Start) (row : List Sandbox) → Row s row → s .args .b ≡ ownSandbox (s .args .q) (worldIn s row)
+same-sandbox s row a = a .0 .own
 
 small : (s : tie.Start) → s .args .q .p1 / 256 < 64
 small s = page-small (s .args .q .p1) (asked s .fit .written (s .pre .0) .0)
@@ -52,7 +57,7 @@ small s = page-small (s .args .q .p1) (asked s .fit .written (s .pre .0) .0)
 -- ---- what is known behind each part
 
 abbrev argued : tie.After-front-arg → tie.Start
-argued c = c .before .before .before .before .before .before .before .before .before .before .before
+argued c = c .before .before .before .before .before .before .before .before
 
 abbrev fronted : tie.After-front → tie.Start
 fronted c = argued (c .before)
@@ -60,21 +65,19 @@ fronted c = argued (c .before)
 abbrev bare : tie.Else1 → tie.Start
 bare c = fronted (c .before)
 
-no-front : (c : tie.Else1) → ownFront (bare c .args .q) (worldIn (bare c) .store) ≡ 0
-no-front c = sym (c .before .front .ensures) ∙ c .if1 .left
+no-front : (c : tie.Else1) (row : List Sandbox) → ownFront (bare c .args .q) (worldIn (bare c) row .store) ≡ 0
+no-front c row = sym (c .before .front .ensures) ∙ c .if1 .left
 
 abbrev spared : tie.After-give-up → tie.Else1
-spared c = c .before .before .before .before
+spared c = c .before .before
 
 -- what was given up
-gave : (c : tie.After-give-up) → let s = bare (spared c) in
-    GaveUp (gives (s .args .image .now) (s .args .q) (worldIn s) (asked s) (s .pre .0) (no-front (spared c)))
-    (own s .runs) (keptTo (rowsOf (worldIn s)) 4 .held) (c .give-up .result)
-gave c =
+gave : (c : tie.After-give-up) (row : List Sandbox) (a : Row (bare (spared c)) row) → let s = bare (spared c) in
+    GaveUp (gives (s .args .image .now) (s .args .q) (worldIn s row) (a .1) (s .pre .0) (no-front (spared c) row))
+    (ownSandbox (s .args .q) (worldIn s row) .runs) (keptTo (rowsOf (worldIn s row)) 4 .held) (c .give-up .result)
+gave c row a =
     let s = bare (spared c) in
-    let found = c .before .before .before .kept-marks in
-    let marks : found .result .held ≡ keptTo (rowsOf (worldIn s)) 4 .held = ap (λ (m : Marks). m .held) (found .ensures) in
-    rw (← marks, ← same-sandbox s) (c .give-up .ensures)
+    rw (← a .0 .kept (s .pre .0), ← same-sandbox s row a) (c .give-up .ensures)
 
 abbrev framed : tie.After-unheld-frame → tie.After-give-up
 framed c = c .before .before .before
@@ -85,38 +88,31 @@ looked c = c .before .before
 abbrev behind : tie.After-slot → tie.Start
 behind c = bare (spared (framed (looked c)))
 
-slot-is : (c : tie.After-slot) → c .slot .result ≡ slots (own (behind c) .rec .present) (behind c .args .q .p1 / 256)
-slot-is c = c .slot .ensures ∙ ap (λ (b : Sandbox). slots (b .rec .present) (behind c .args .q .p1 / 256)) (same-sandbox (behind c))
+slot-is : (c : tie.After-slot) (row : List Sandbox) → Row (behind c) row
+    → c .slot .result ≡ slots (ownSandbox (behind c .args .q) (worldIn (behind c) row) .rec .present) (behind c .args .q .p1 / 256)
+slot-is c row a = c .slot .ensures ∙ ap (λ (b : Sandbox). slots (b .rec .present) (behind c .args .q .p1 / 256)) (same-sandbox (behind c) row a)
 
 -- its image page is there
 backing-here : (c : tie.After-slot) → backingEnd (backingAt (c .slot .result)) * 256 ≤ length (behind c .args .image .now)
 backing-here c =
     let s = behind c in
-    subst (λ (x : Slot). backingEnd (backingAt x) * 256 ≤ length (s .args .image .now)) (sym (slot-is c))
-    (backing-there (s .args .image .now) (own s .rec .present) (asked s .ready .sound .present) (s .args .q .p1 / 256))
+    let own = ownSandbox (s .args .q) (worldIn s (there s)) in
+    subst (λ (x : Slot). backingEnd (backingAt x) * 256 ≤ length (s .args .image .now)) (sym (slot-is c (there s) (its s)))
+    (backing-there (s .args .image .now) (own .rec .present) (asked s .ready .sound .present) (s .args .q .p1 / 256))
 
 -- ---- the needs
 
 cast-s : tie.Need-cast-s
-cast-s c = search needs
+cast-s c = let row = asked (c .before .before .before .before) .row in search needs
 
-cast-t25 : tie.Need-cast-t25
-cast-t25 c = search needs
+cast-t21 : tie.Need-cast-t21
+cast-t21 c = search needs
 
-div-t26 : tie.Need-div-t26
-div-t26 c = search needs
+div-t22 : tie.Need-div-t22
+div-t22 c = search needs
 
-cast-t27 : tie.Need-cast-t27
-cast-t27 c = search needs
-
-cast-k : tie.Need-cast-k
-cast-k c = search needs
-
-mul-b : tie.Need-mul-b
-mul-b c = search needs
-
-array-copy-out-b : tie.Need-array-copy-out-b
-array-copy-out-b c = search needs
+cast-t23 : tie.Need-cast-t23
+cast-t23 c = search needs
 
 front-requires : tie.Need-front-requires
 front-requires c κs = let s = argued c in (asked s .row, (small s, asked s .filed .entries))
@@ -125,19 +121,17 @@ same-length : tie.Need-same-length
 same-length c = search needs
 
 returns : tie.Need-returns
-returns c =
+returns c row a =
     let s = fronted (c .before) in
-    rw (same-sandbox s)
-    (touch-kept (s .args .image .now) (s .args .q) (worldIn s) (asked s) (s .pre .0) (λ z. c .if1 .taken (c .before .front .ensures ∙ z)))
-
-kept-marks-requires : tie.Need-kept-marks-requires
-kept-marks-requires c κs = search needs
+    rw (same-sandbox s row a)
+    (touch-kept (s .args .image .now) (s .args .q) (worldIn s row) (a .1) (s .pre .0) (λ z. c .if1 .taken (c .before .front .ensures ∙ z)))
 
 give-up-requires : tie.Need-give-up-requires
 give-up-requires c κs =
-    let bared = c .before .before .before in
+    let bared = c .before in
     let s = bare bared in
-    (asked s .row, (asked s .filed .entries, rw (same-sandbox s) (asked s .fits (s .pre .0) (no-front bared))))
+    let row = there s in
+    (asked s .row, (asked s .filed .entries, rw (same-sandbox s row (its s)) (asked s .fits (s .pre .0) (no-front bared row))))
 
 cast-frames : tie.Need-cast-frames
 cast-frames c = omega (arith, asked (bare (spared (c .before .before))) .filed .few)
@@ -145,16 +139,22 @@ cast-frames c = omega (arith, asked (bare (spared (c .before .before))) .filed .
 unheld-frame-requires : tie.Need-unheld-frame-requires
 unheld-frame-requires c κs =
     let g = c .before .before in
-    let s = bare (spared g) in (
+    let s = bare (spared g) in
+    let row = there s in (
       asked s .filed .few,
-      frame-there (s .args .image .now) (s .args .q) (worldIn s) (asked s) (s .pre .0) (no-front (spared g)) (g .give-up .result) (gave g),
+      frame-there (s .args .image .now) (s .args .q) (worldIn s row) (asked s) (s .pre .0) (no-front (spared g) row) (g .give-up .result)
+          (gave g row (its s)),
     )
 
 slot-requires : tie.Need-slot-requires
 slot-requires c κs =
     let s = bare (spared (framed (c .before))) in
     let ready = asked s .ready in
-    (rw (same-sandbox s) (near (pagesIn (length (s .args .image .now))) (own s .rec .present) (ready .sound .present) (ready .few)), small s)
+    let own = ownSandbox (s .args .q) (worldIn s (there s)) in
+    (
+      rw (same-sandbox s (there s) (its s)) (near (pagesIn (length (s .args .image .now))) (own .rec .present) (ready .sound .present) (ready .few)),
+      small s,
+    )
 
 take-requires : tie.Need-take-requires
 take-requires c κs =
@@ -164,7 +164,7 @@ take-requires c κs =
     let filed = asked s .filed in (
       record { row = asked s .row; inside = small s; backed = backing-here found },
       (
-        filed-ranged 256 (framesOf (worldIn s)) (worldIn s .store) filed,
+        filed-ranged 256 (framesOf (worldIn s (there s))) (storeIn s) filed,
         (omega (arith, low, filed .few), omega (arith, low, filed .pages)),
       ),
     )
@@ -176,34 +176,31 @@ same-length-3 : tie.Need-same-length-3
 same-length-3 c = search needs
 
 returns-2 : tie.Need-returns-2
-returns-2 c =
+returns-2 c row h =
     let taken = c .before .before .before .before in
     let found = taken .before .before .before in
     let s = behind found in
     let a = s .args in
+    let w = worldIn s row in
     let g = framed (looked found) in
     let f = looked found .unheld-frame in
     let front = frontOf (a .q .sandbox) (pageOf (a .q)) in
-    touch-made (a .image .now) (a .q) (worldIn s) (asked s) (s .pre .0) _ (g .give-up .result) (f .result .0) (no-front (spared g)) (gave g)
+    touch-made (a .image .now) (a .q) w (h .1) (s .pre .0) _ (g .give-up .result) (f .result .0) (no-front (spared g) row) (gave g row h)
     (f .ensures .0) (f .ensures .1 .0) (f .ensures .1 .1)
-    (taken .take .ensures ∙ ap (λ (bytes : List ℕ). take 256 front (f .result .0) bytes (worldIn s .store))
-    (under-is (a .image .now) (worldIn s .store) (own s .rec) (a .q .sandbox) _ (found .slot .result) (slot-is found)))
+    (taken .take .ensures ∙ ap (λ (bytes : List ℕ). take 256 front (f .result .0) bytes (w .store))
+    (under-is (a .image .now) (w .store) (ownSandbox (a .q) w .rec) (a .q .sandbox) _ (found .slot .result) (slot-is found row h)))
 
 pub touch-spec : {M : Type 1} → statement M
 touch-spec =
     tie.close
     (tie.spec
     cast-s
-    cast-t25
-    div-t26
-    cast-t27
-    cast-k
-    mul-b
-    array-copy-out-b
+    cast-t21
+    div-t22
+    cast-t23
     front-requires
     same-length
     returns
-    kept-marks-requires
     give-up-requires
     cast-frames
     unheld-frame-requires

@@ -1,18 +1,32 @@
 -- A byte is stored into the front that the page then has.
 use Prim.Native.Nat.{_/_, _<_}
 use native.Mathlib.Omega.{arith}
-use Rattle.state.specs.World.{World, worldOf}
+use mathlib.Core.List.{List}
+use Rattle.table.specs.Store.{Store, kept}
+use Rattle.state.specs.declared.sandbox.Sandbox.{Sandbox}
+use Rattle.state.specs.World.{World}
+use Rattle.memory.specs.Parts.{Asked}
 use Rattle.rules.proofs.FitLaws.{page-small}
 use Rattle.memory.proofs.MemoryLaws.{touch-ranged, written}
 use borrow.Author.Needs.{needs}
 use Rattle.writing.proofs.write.Statement.{statement}
 use Rattle.writing.proofs.write.Tie as tie
 
-abbrev worldIn : tie.Start → World
-worldIn s = worldOf (s .args .machine) (s .args .pool .now) (s .args .table .now)
+abbrev storeIn : tie.Start → Store
+storeIn s = kept (s .args .all .held) (s .args .pool .now) (s .args .table .now)
+
+abbrev worldIn : tie.Start → List Sandbox → World
+worldIn s row = record { sandboxes = row; store = storeIn s }
+
+-- a row from which the sandbox is
+abbrev there : tie.Start → List Sandbox
+there s = s .pre .1 .0
+
+abbrev asked : (s : tie.Start) → Asked (s .args .image .now) (s .args .q) (worldIn s (there s))
+asked s = s .pre .1 .1 .1
 
 small : (s : tie.Start) → s .args .q .p1 / 256 < 64
-small s = page-small (s .args .q .p1) (s .pre .1 .fit .written (s .pre .0) .0)
+small s = page-small (s .args .q .p1) (asked s .fit .written (s .pre .0) .0)
 
 -- behind the touch, and where the byte is stored
 abbrev behind : tie.After-touch → tie.Start
@@ -48,16 +62,15 @@ cast-store-byte-4 : tie.Need-cast-store-byte-4
 cast-store-byte-4 c = search needs
 
 cast-store-byte-5 : tie.Need-cast-store-byte-5
-cast-store-byte-5 c = let s = behind (touched c) in omega (arith, s .pre .1 .fit .written (s .pre .0) .1)
+cast-store-byte-5 c = let s = behind (touched c) in omega (arith, asked s .fit .written (s .pre .0) .1)
 
 store-byte-requires : tie.Need-store-byte-requires
 store-byte-requires c κs =
     let touching = touched c in
     let s = behind touching in
-    let asked = s .pre .1 in (
-      asked .row,
-      (small s, touch-ranged (s .args .image .now) (s .args .q) (worldIn s) asked (s .pre .0) _ _ (small s) (touching .touch .ensures)),
-    )
+    let row = there s in
+    let ranged = touch-ranged (s .args .image .now) (s .args .q) (worldIn s row) (asked s) (s .pre .0) _ _ (small s) (touching .touch .ensures row (s .pre .1 .1)) in
+    (asked s .row, (small s, ranged))
 
 same-length : tie.Need-same-length
 same-length c = search needs
@@ -66,11 +79,11 @@ same-length-2 : tie.Need-same-length-2
 same-length-2 c = search needs
 
 returns : tie.Need-returns
-returns c =
+returns c row a =
     let stored = c .before .before in
     let touch = touched (stored .before) .touch in
     let s = behind (touched (stored .before)) in
-    written (s .args .image .now) (s .args .q) (worldIn s) _ _ (touch .result .runs) (touch .ensures) (s .pre .0)
+    written (s .args .image .now) (s .args .q) (worldIn s row) _ _ (touch .result .runs) (touch .ensures row a) (s .pre .0)
     (stored .store-byte .ensures (touch .result .held))
 
 pub write-spec : {M : Type 1} → statement M
