@@ -2,16 +2,18 @@
 // It promises: the store and the runs after a request are those of memory/specs/Memory, whichever unheld frame a write takes and whichever frame of the
 // longest run it gives up.
 // It stands on `memory` for the definitions and their laws, on `writing`, `rewinding` and `freeing` for the frames, on `reuse` and `gathering` for the
-// runs, and on `rules` for what a request within its limits is.
+// runs, on `totals` for what the sandboxes have together, and on `rules` for what a request within its limits is.
 ghost use mathlib.Core.Path.{_≡_};
+ghost use mathlib.Core.List.{List};
 ghost use Prim.Native.Nat.{_<_};
 ghost use lib.ListN.{length};
 ghost use Rattle.interface.specs.Numbers.{PageBytes, Sandboxes, pagesIn};
 ghost use Rattle.interface.specs.Requests.{Map, Write};
 ghost use Rattle.table.specs.Store.{kept, Ranged};
-ghost use Rattle.state.specs.World.{worldOf};
+ghost use Rattle.state.specs.declared.sandbox.Sandbox.{Sandbox as Owner};
+ghost use Rattle.state.specs.World.{World};
 ghost use Rattle.rules.specs.Ready.{Fit, Ready};
-ghost use Rattle.memory.specs.Parts.{Asked, LeftBy, StoreStepped};
+ghost use Rattle.memory.specs.Parts.{AskedOf, LeftBy, StoreStepped};
 use frames::Held;
 use freeing::store::free_range;
 use gathering::gathered;
@@ -20,31 +22,32 @@ use interface::Request;
 use reuse::Left;
 use reuse::map;
 use rewinding::store::rewind;
-use state::sandbox::Machine;
 use state::sandbox::Sandbox;
 use table::entry::move_fronts;
+use totals::Together;
 use writing::write;
 
 // The store and the runs after an accepted request.
 pub fn store_after(
-    machine: Machine,
+    b: Sandbox,
+    all: Together,
     pool: &mut [u8],
     table: &mut [u16],
     image: &[u8],
     q: Request,
 ) -> Left
-    requires { ⌜ Asked (now image) q (worldOf machine (now pool) (now table)) ⌝ }
-    ensures { λ r. ⌜ (let w = worldOf machine (now (pool .entry)) (now (table .entry)) in
-        StoreStepped (now (image .entry)) q w (kept (r .held) (now (pool .exit)) (now (table .exit))) (r .runs)) ⌝ }
+    requires { ⌜ ((row : List Owner) × AskedOf (now image) q b all (kept (all .held) (now pool) (now table)) row) ⌝ }
+    ensures { λ r. ⌜ ((row : List Owner) →
+        let before = kept (all .held) (now (pool .entry)) (now (table .entry)) in
+        let w : World = record { sandboxes = row; store = before } in
+        AskedOf (now (image .entry)) q b all before row
+        → StoreStepped (now (image .entry)) q w (kept (r .held) (now (pool .exit)) (now (table .exit))) (r .runs)) ⌝ }
 {
     let code = q.code;
-    let k = q.sandbox as usize;
-    let held = machine.held;
-    let sandboxes = machine.sandboxes;
-    let b = sandboxes[k];
+    let held = all.held;
     match code {
         Request::MAP => map(held, table, b, q),
-        Request::WRITE => write(machine, pool, table, image, q),
+        Request::WRITE => write(b, all, pool, table, image, q),
         _ => without_frames(held, pool, table, image, b, q),
     }
 }
