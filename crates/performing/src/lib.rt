@@ -1,51 +1,84 @@
-// An accepted call, performed: its value, the lent memory, and the sandbox afterwards.
-// It promises: what `perform` leaves is what `Performed` of `step` says, the frames that a write takes and gives up being the only thing left open.
-// It stands on `effects` and `values` for the lent memory, the runs and the value, and on `rules` for the sandbox's record.
+// A call on one sandbox: what is decided of it, and, where it is accepted, performed.
+// It promises: with the sandbox put back in its place, what `act` leaves and answers is the step of any sound state of which it was handed a sandbox, the
+// frames that a write takes and gives up being the only thing left open.
+// It stands on `decision` for what is refused, on `effects` and `values` for the lent memory, the runs and the value, on `rules` for the sandbox's record, and
+// on `totals` for what it is told of the other sandboxes.
 ghost use mathlib.Core.Path.{_≡_};
-ghost use Rattle.state.specs.World.{worldOf, recordAt};
-ghost use Rattle.rules.specs.After.{presentAfter};
-ghost use Rattle.memory.specs.Parts.{Asked};
-ghost use Rattle.step.specs.Performed.{Performed};
-ghost use Rattle.step.specs.Reply.{outcomeOf};
-use areas::area::Areas;
+ghost use mathlib.Core.Bool.{true};
+ghost use mathlib.Core.List.{List};
+ghost use Prim.Native.Nat.{_<_};
+ghost use Rattle.interface.specs.Numbers.{Sandboxes};
+ghost use Rattle.interface.specs.Requests.{isCall};
+ghost use Rattle.interface.specs.Answers.{answered};
+ghost use Rattle.table.specs.Store.{kept};
+ghost use Rattle.state.specs.declared.sandbox.Sandbox.{Sandbox as Owner};
+ghost use Rattle.step.specs.Step.{Stepped};
+ghost use Rattle.step.specs.Acted.{worldFrom, Stands, putBack};
+use decision::Verdict;
+use decision::decide;
 use effects::store_after;
+use frames::Held;
 use interface::Answer;
+use interface::PageNo;
 use interface::Request;
 use rules::record_after;
-use state::sandbox::Machine;
 use state::sandbox::Sandbox;
-use step::Reply;
+use totals::Together;
 use values::value_of;
 
-// An accepted request: its value, then the store and the runs, then the sandbox with its new areas and runs.
-pub fn perform(
-    machine: Machine,
+// What a call leaves and answers: the sandbox, the marks of the frames that entries name, and the answer.
+pub struct Acted {
+    pub sandbox: Sandbox,
+    pub held: Held,
+    pub answer: Answer,
+}
+
+// A call on a sandbox of a sound state. An accepted one has its value worked out first, then the store and the runs, then the sandbox's record.
+pub fn act(
+    b: Sandbox,
+    all: Together,
     pool: &mut [u8],
     table: &mut [u16],
     image: &[u8],
     q: Request,
-    present: Areas,
-) -> Reply
-    requires { ⌜ Asked (now image) q (worldOf machine (now pool) (now table)) ⌝ }
-    requires { ⌜ present ≡ presentAfter q (recordAt (worldOf machine (now pool) (now table)) (q .sandbox)) ⌝ }
-    ensures { λ r. ⌜ (let before = worldOf machine (now (pool .entry)) (now (table .entry)) in
-        Performed (now (image .entry)) before q (outcomeOf r (now (pool .exit)) (now (table .exit)))) ⌝ }
+) -> Acted
+    requires { ⌜ isCall q ≡ true ⌝ }
+    requires { ⌜ q .sandbox < Sandboxes ⌝ }
+    requires { ⌜ ((row : List Owner) × Stands (now image) q b all (kept (all .held) (now pool) (now table)) row) ⌝ }
+    ensures { λ r. ⌜ ((row : List Owner) →
+        let before = kept (all .held) (now (pool .entry)) (now (table .entry)) in
+        let after = kept (r .held) (now (pool .exit)) (now (table .exit)) in
+        Stands (now (image .entry)) q b all before row
+        → Stepped (now (image .entry)) (worldFrom row before) q
+        (record { answer = answered (r .answer); world = putBack q (r .sandbox) row after })) ⌝ }
 {
-    let k = q.sandbox as usize;
-    let mut m = machine;
-    let b = m.sandboxes[k];
-    let value = value_of(pool, table, image, b, q);
-    let left = store_after(machine, pool, table, image, q);
-    let held = left.held;
-    let runs = left.runs;
-    let rec = record_after(b.rec, q, present);
-    m.sandboxes[k] = Sandbox {
-        rec: rec,
-        runs: runs,
-    };
-    m.held = held;
-    Reply {
-        machine: m,
-        answer: Answer::Value(value),
+    let rec = b.rec;
+    let frames = (pool.len() / PageNo::BYTES) as u8;
+    let images = (image.len() / PageNo::BYTES) as u8;
+    let decision = decide(rec, frames, images, all.shares, q);
+    let verdict = decision.verdict;
+    let areas = decision.areas;
+    let held = all.held;
+    match verdict {
+        Verdict::Refused(why) => Acted {
+            sandbox: b,
+            held: held,
+            answer: Answer::Refused(why),
+        },
+        Verdict::Accepted => {
+            let value = value_of(pool, table, image, b, q);
+            let left = store_after(b, all, pool, table, image, q);
+            let marks = left.held;
+            let runs = left.runs;
+            let after = record_after(rec, q, areas);
+            Acted {
+                sandbox: Sandbox {
+                    rec: after,
+                    runs: runs,
+                },
+                held: marks,
+                answer: Answer::Value(value),
+            }
+        }
     }
 }

@@ -2,3 +2,4 @@
 pub mod Step
 pub mod Performed
 pub mod Reply
+pub mod Acted

@@ -150,8 +150,7 @@ slot-requires : tie.Need-slot-requires
 slot-requires c κs =
     let s = bare (spared (framed (c .before))) in
     let ready = asked s .ready in
-    let own = ownSandbox (s .args .q) (worldIn s (there s)) in
-    (
+    let own = ownSandbox (s .args .q) (worldIn s (there s)) in (
       rw (same-sandbox s (there s) (its s)) (near (pagesIn (length (s .args .image .now))) (own .rec .present) (ready .sound .present) (ready .few)),
       small s,
     )
