@@ -1,21 +1,19 @@
 // The machine: ten calls over a state by value and lent pool, page table and image.
 // It promises: whatever is handed to it, `call` ends with the number, value, state, pool and table of `step` (step/specs/Step), the frames that a write takes
 // and gives up being the only thing left open; a refused call leaves state, pool and table as they were. It asks nothing of its caller.
-// It stands on `soundness` for the test of a state, on `sandbox_decision` for what is refused, and on `performing` for an accepted call.
+// It stands on `soundness` for the test of a state, on `performing` for a call on one sandbox, and on `totals` for what the sandboxes have together.
 ghost use mathlib.Core.Path.{_≡_};
 ghost use Rattle.state.specs.World.{worldOf};
 ghost use Rattle.step.specs.Step.{Stepped};
 ghost use Rattle.step.specs.Reply.{outcomeOf};
-use decision::Verdict;
 use interface::Answer;
-use interface::PageNo;
 use interface::Refusal;
 use interface::Request;
-use performing::perform;
-use sandbox_decision::decide;
+use performing::act;
 use soundness::sound::sound;
 use state::sandbox::Machine;
 use step::Reply;
+use totals::put_together;
 
 // One request. Whatever is handed in, it ends with the outcome of `step`.
 pub fn call(machine: Machine, pool: &mut [u8], table: &mut [u16], image: &[u8], q: Request) -> Reply
@@ -28,15 +26,23 @@ pub fn call(machine: Machine, pool: &mut [u8], table: &mut [u16], image: &[u8], 
     if !sound(machine, pool, table, image) {
         return refuse(machine, Refusal::Unsound);
     }
-    let frames = (pool.len() / PageNo::BYTES) as u8;
-    let images = (image.len() / PageNo::BYTES) as u8;
-    let sandboxes = machine.sandboxes;
-    let decision = decide(sandboxes, frames, images, q);
-    let verdict = decision.verdict;
-    let areas = decision.areas;
-    match verdict {
-        Verdict::Refused(why) => refuse(machine, why),
-        Verdict::Accepted => perform(machine, pool, table, image, q, areas),
+    if q.sandbox as usize >= Machine::SANDBOXES {
+        return refuse(machine, Refusal::NotOpen);
+    }
+    let k = q.sandbox as usize;
+    let mut m = machine;
+    let sandboxes = m.sandboxes;
+    let b = sandboxes[k];
+    let all = put_together(sandboxes, m.held, q.code == Request::WRITE);
+    let acted = act(b, all, pool, table, image, q);
+    let after = acted.sandbox;
+    let held = acted.held;
+    let answer = acted.answer;
+    m.sandboxes[k] = after;
+    m.held = held;
+    Reply {
+        machine: m,
+        answer: answer,
     }
 }
 

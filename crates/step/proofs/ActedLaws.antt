@@ -9,12 +9,19 @@ use Rattle.interface.specs.declared.request.Request.{Request}
 use Rattle.interface.specs.Answers.{refusalNumber}
 use Rattle.interface.specs.Refusals.{refusal}
 use Rattle.interface.specs.Numbers.{pagesIn}
-use Rattle.table.specs.Store.{Store}
+use Rattle.interface.specs.Requests.{Write}
+use Rattle.table.specs.Store.{Store, kept}
+use Rattle.runs.specs.Row.{row as rowOf}
+use Rattle.kept.specs.Test.{keptTo}
 use Rattle.runs.specs.declared.Runs.{Runs}
 use Rattle.records.specs.declared.Record.{Record}
 use Rattle.records.specs.Record.{viewFrom}
 use Rattle.state.specs.declared.sandbox.Sandbox.{Sandbox}
-use Rattle.state.specs.World.{World, closedSandbox, framesOf, sharesIn}
+use Rattle.state.specs.declared.sandbox.Machine.{Machine}
+use Rattle.state.proofs.SharesLaws.{zeroSandbox}
+use Rattle.soundness.specs.Test.{soundb}
+use Rattle.memory.proofs.MemoryLaws.{read-own}
+use Rattle.state.specs.World.{World, worldOf, sandboxIn, closedSandbox, framesOf, sharesIn}
 use Rattle.totals.specs.declared.together.Together.{Together}
 use Rattle.soundness.proofs.TestLaws.{Tested, tested}
 use Rattle.rules.specs.After.{recordAfter}
@@ -30,6 +37,18 @@ pub set-own : {A : Type 0} (l : List A) (k : ℕ) (none : A) → set l k (getD l
 set-own [] k none = refl
 set-own (x ∷ l) zero none = refl
 set-own (x ∷ l) (suc k) none = ap (λ rest. x ∷ rest) (set-own l k none)
+
+-- of a sound state everything is handed over that is asked: the sandbox as the code reads it, and what the four have together
+pub standing : (image : List ℕ) (q : Request) (m : Machine) (pool table : List ℕ) (all : Together) → length (m .sandboxes) ≡ 4 → q .sandbox < 4
+    → soundb image (worldOf m pool table) ≡ true → all .held ≡ m .held → all .shares ≡ sharesIn (m .sandboxes)
+    → (q .code ≡ Write → all .kept ≡ keptTo (λ s. rowOf (sandboxIn (m .sandboxes) s .runs)) 4 .held)
+    → Stands image q (getD (m .sandboxes) (q .sandbox) zeroSandbox) all (kept (all .held) pool table) (m .sandboxes)
+standing image q m pool table all four low sound held shares marks = record {
+  four = four;
+  sound = rw held sound;
+  handed = record { own = read-own (m .sandboxes) (q .sandbox) four low; kept = marks };
+  shares = shares;
+}
 
 module _ (image : List ℕ) (q : Request) (b : Sandbox) (all : Together) (st : Store) (row : List Sandbox) (S : Stands image q b all st row) where
   abbrev w : World

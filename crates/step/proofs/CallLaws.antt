@@ -1,15 +1,15 @@
 -- A call, by each of its ways out; and what a sound state gives to the parts of an accepted call.
-use Prim.Native.Nat.{ℕ, _<_}
+use Prim.Native.Nat.{ℕ, _≤_, _<_}
 use mathlib.Core.Path.{_≡_, refl, sym, ap, _∙_}
 use mathlib.Core.Logic.{⊎-elim, inl, inr}
 use mathlib.Core.Bool.{true, false, false≢true}
 use mathlib.Core.List.{List}
 use lib.Dec.{eqb}
 use lib.ListN.{length, set}
-use borrow.Author.Tests.{eq-eqb}
+use borrow.Author.Tests.{eq-eqb, le-ltb}
 use Rattle.basics.proofs.TestLaws.{and-left, and-right, and-of}
 use Rattle.interface.specs.declared.answer.Refusal.{Refusal}
-use Rattle.interface.specs.declared.answer.Refusal.the-variants.{NoSuchCall, Unsound}
+use Rattle.interface.specs.declared.answer.Refusal.the-variants.{NoSuchCall, Unsound, NotOpen}
 use Rattle.interface.specs.declared.request.Request.{Request}
 use Rattle.interface.specs.Answers.{refusalNumber}
 use Rattle.interface.specs.Requests.{Write, isCall, pageOf}
@@ -61,6 +61,11 @@ module _ (image : List ℕ) (w : World) (q : Request) where
   pub number-three : isCall q ≡ true → soundb image w ≡ false → refusalNumber Unsound ≡ numberAt image w q
   unfolding numberAt refusal applies
   number-three e s = sym (lowest-applies (applies (viewAt image w (q .sandbox)) q) Unsound (rw e, (refl, tt)) (rw s))
+
+  -- row 4, of a sandbox past the four
+  pub number-four : isCall q ≡ true → soundb image w ≡ true → 4 ≤ q .sandbox → refusalNumber NotOpen ≡ numberAt image w q
+  unfolding numberAt refusal applies
+  number-four e s past = sym (lowest-applies (applies (viewAt image w (q .sandbox)) q) NotOpen (rw s, (rw e, (refl, tt))) (rw (le-ltb (q .sandbox) 4 past)))
 
   -- the view of a sound state
   pub number-rest : soundb image w ≡ true

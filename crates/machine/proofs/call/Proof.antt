@@ -1,27 +1,21 @@
 -- A call: what each test shows of the number, and from it the step that each answer is.
-use mathlib.Core.Path.{_≡_, sym, ap, _∙_}
+use mathlib.Core.Path.{_≡_, sym, _∙_}
 use mathlib.Core.Bool.{true, false}
 use mathlib.Core.List.{List}
-use Prim.Native.Nat.{ℕ, _/_, _<_}
+use Prim.Native.Nat.{ℕ, _<_}
 use native.Mathlib.Omega.{arith}
 use lib.ListN.{length, getD}
-use borrow.Author.Tests.{not-true, not-false}
+use borrow.Author.Tests.{eq-eqb, not-true, not-false}
 use Rattle.basics.proofs.TestLaws.{length-mapped}
 use Rattle.interface.specs.declared.answer.Refusal.the-variants.{NoSuchCall, Unsound, NotOpen}
-use Rattle.interface.specs.Requests.{isCall}
-use Rattle.interface.specs.Refusals.{View, refusal}
-use Rattle.interface.specs.Numbers.{pagesIn}
-use Rattle.state.specs.declared.sandbox.Sandbox.{Sandbox}
-use Rattle.state.specs.World.{World, worldOf, recordAt}
-use Rattle.soundness.proofs.TestLaws.{Tested, tested}
-use Rattle.soundness.specs.Test.{soundb}
+use Rattle.interface.specs.Requests.{Write, isCall}
+use Rattle.table.specs.Store.{kept}
+use Rattle.state.specs.World.{World, worldOf}
 use Rattle.state.proofs.SharesLaws.{zeroSandbox}
-use Rattle.decision.specs.declared.Verdict.the-variants.{Accepted}
-use Rattle.decision.specs.declared.Decision.{Decision}
-use Rattle.rules.specs.After.{presentAfter}
-use Rattle.decision.specs.Decision.{verdictNumber, Decided}
-use Rattle.step.specs.Step.{viewAt, numberAt}
-use Rattle.step.proofs.CallLaws.{stepped-refused, number-two, number-three, number-rest, stepped, ready, asked}
+use Rattle.soundness.specs.Test.{soundb}
+use Rattle.step.specs.Acted.{Stands}
+use Rattle.step.proofs.CallLaws.{stepped-refused, number-two, number-three, number-four}
+use Rattle.step.proofs.ActedLaws.{standing}
 use borrow.Author.Needs.{needs}
 use Rattle.machine.proofs.call.Statement.{statement}
 use Rattle.machine.proofs.call.Tie as tie
@@ -34,8 +28,8 @@ imageIn c = c .args .image .now
 abbrev worldIn : tie.Start → World
 worldIn c = worldOf (c .args .machine) (c .args .pool .now) (c .args .table .now)
 
-abbrev viewIn : tie.Start → View
-viewIn c = viewAt (imageIn c) (worldIn c) (c .args .q .sandbox)
+four : (c : tie.Start) → length (c .args .machine .sandboxes) ≡ 4
+four c = search length-mapped
 
 -- ---- what is known behind each test
 
@@ -57,28 +51,25 @@ fails c = sym (c .before .sound .ensures) ∙ not-true (c .before .sound .result
 passes : (c : tie.Else2) → soundb (imageIn (behindState c)) (worldIn (behindState c)) ≡ true
 passes c = sym (c .before .sound .ensures) ∙ not-false (c .before .sound .result) (c .if2 .left)
 
-is-sound : (c : tie.Else2) → Tested (imageIn (behindState c)) (worldIn (behindState c))
-is-sound c = tested (imageIn (behindState c)) (worldIn (behindState c)) (passes c)
+abbrev behindRow : tie.Else3 → tie.Start
+behindRow c = behindState (c .before .before)
 
-abbrev atVerdict : tie.After-decide → tie.Else2
-atVerdict c = c .before .before
+in-row : (c : tie.Else3) → behindRow c .args .q .sandbox < 4
+in-row c = omega (arith, c .if3 .left)
 
-number-here : (c : tie.After-decide)
-    → let s = behindState (atVerdict c) in verdictNumber (c .decide .result .verdict) ≡ numberAt (imageIn s) (worldIn s) (s .args .q)
-number-here c =
-    let s = behindState (atVerdict c) in
-    c .decide .ensures .number ∙ number-rest (imageIn s) (worldIn s) (s .args .q) (passes (atVerdict c))
+-- what the sandboxes have together was found behind the tests
+abbrev tested : tie.After-put-together → tie.Else3
+tested c = c .before .before .before .before .before .before
 
--- the number of an accepted request is 0, and its areas are those that result
-accepted-here : (c : tie.After-decide) → c .decide .result .verdict ≡ Accepted
-    → let s = behindState (atVerdict c) in numberAt (imageIn s) (worldIn s) (s .args .q) ≡ 0
-accepted-here c e = sym (number-here c) ∙ ap verdictNumber e
-
-areas-here : (c : tie.After-decide) → c .decide .result .verdict ≡ Accepted
-    → let s = behindState (atVerdict c) in c .decide .result .areas ≡ presentAfter (s .args .q) (recordAt (worldIn s) (s .args .q .sandbox))
-areas-here c e =
-    let told = c .decide .ensures in
-    told .areas ∙ rw (sym (told .number) ∙ ap verdictNumber e)
+stands : (c : tie.After-put-together) → let start = behindRow (tested c) in let all = c .put-together .result in
+    Stands (imageIn start) (start .args .q) (getD (start .args .machine .sandboxes) (start .args .q .sandbox) zeroSandbox) all (kept (all .held) (start .args .pool .now) (start .args .table .now))
+    (start .args .machine .sandboxes)
+stands c =
+    let start = behindRow (tested c) in
+    let found = c .put-together in
+    standing (imageIn start) (start .args .q) (start .args .machine) (start .args .pool .now) (start .args .table .now) (found .result) (four start)
+    (in-row (tested c)) (passes (tested c .before .before)) (found .ensures .0) (found .ensures .1 .0)
+    (λ e. found .ensures .1 .1 (eq-eqb (start .args .q .code) Write e))
 
 -- ---- the needs
 
@@ -115,36 +106,11 @@ returns-2 c =
     (stepped-refused (imageIn start) (worldIn start) (start .args .q) Unsound
     (number-three (imageIn start) (worldIn start) (start .args .q) (a-call coded) (fails (c .before))))
 
-cast-frames : tie.Need-cast-frames
-cast-frames c = omega (arith, is-sound c .filed .few)
-
-cast-images : tie.Need-cast-images
-cast-images c = omega (arith, is-sound c .images)
-
-decide-requires : tie.Need-decide-requires
-decide-requires c κs =
-    let tested = c .before in
-    let start = behindState tested in
-    let w = worldIn start in
-    (a-call (tested .before .before .before .before), λ row. ready (imageIn start) w (start .args .q) (is-sound tested) row)
-
-enum-known-verdict : tie.Need-enum-known-verdict
-enum-known-verdict c = search needs
+cast-if3 : tie.Need-cast-if3
+cast-if3 c = search needs
 
 refuse-requires-3 : tie.Need-refuse-requires-3
 refuse-requires-3 c κs = search needs
-
-enum-told : tie.Need-enum-told
-enum-told c = search needs
-
-perform-requires : tie.Need-perform-requires
-perform-requires c κs =
-    let arm = c .before .before in
-    let deciding = arm .before .before .before in
-    let start = behindState (atVerdict deciding) in
-    let told = arm .enum-told .given .1 in
-    let n = accepted-here deciding told in
-    (asked (imageIn start) (worldIn start) (start .args .q) (is-sound (atVerdict deciding)) n, areas-here deciding told)
 
 same-length-3 : tie.Need-same-length-3
 same-length-3 c = search needs
@@ -154,12 +120,41 @@ same-length-4 c = search needs
 
 returns-3 : tie.Need-returns-3
 returns-3 c =
-    let arm = c .before .before in
-    let deciding = arm .before .before .before in
-    let start = behindState (atVerdict deciding) in
+    let sounded = c .before .before .before in
+    let start = behindState sounded in
     rw (c .refuse3 .ensures)
-    (stepped-refused (imageIn start) (worldIn start) (start .args .q) (arm .verdict .given .0 .0)
-    (ap verdictNumber (sym (arm .verdict .given .1)) ∙ number-here deciding))
+    (stepped-refused (imageIn start) (worldIn start) (start .args .q) NotOpen
+    (number-four (imageIn start) (worldIn start) (start .args .q) (a-call (sounded .before .before .before .before)) (passes sounded)
+    (omega (arith, c .before .if3 .taken))))
+
+cast-k : tie.Need-cast-k
+cast-k c = search needs
+
+mul-b : tie.Need-mul-b
+mul-b c = let low = in-row (c .before .before) in search needs
+
+array-copy-out-b : tie.Need-array-copy-out-b
+array-copy-out-b c = let low = in-row (c .before .before) in search needs
+
+put-together-requires : tie.Need-put-together-requires
+put-together-requires c κs = search needs
+
+act-requires : tie.Need-act-requires
+act-requires c κs =
+    let told = c .before .before in
+    let row = tested told in
+    let start = behindRow row in
+    (a-call (row .before .before .before .before .before .before), (in-row row, (start .args .machine .sandboxes, stands told)))
+
+mul-after : tie.Need-mul-after
+mul-after c = let low = in-row (tested (c .before .before .before .before .before .before .before .before .before)) in search needs
+
+element-set-from-after : tie.Need-element-set-from-after
+element-set-from-after c =
+    let row = tested (c .before .before .before .before .before .before .before .before .before) in
+    let low = in-row row in
+    let all = four (behindRow row) in
+    search needs
 
 same-length-5 : tie.Need-same-length-5
 same-length-5 c = search needs
@@ -169,11 +164,10 @@ same-length-6 c = search needs
 
 returns-4 : tie.Need-returns-4
 returns-4 c =
-    let performing = c .before .before .before .before in
-    let arm = performing .before .before .before in
-    let deciding = arm .before .before .before in
-    let start = behindState (atVerdict deciding) in
-    stepped (imageIn start) (worldIn start) (start .args .q) _ (accepted-here deciding (arm .enum-told .given .1)) (performing .perform .ensures)
+    let acted = c .before .before .before .before .before .before in
+    let told = acted .before .before .before in
+    let start = behindRow (tested told) in
+    rw (← told .put-together .ensures .0) (acted .act .ensures (start .args .machine .sandboxes) (stands told))
 
 pub call-spec : {M : Type 1} → statement M
 call-spec =
@@ -187,16 +181,18 @@ call-spec =
     same-length
     same-length-2
     returns-2
-    cast-frames
-    cast-images
-    decide-requires
-    enum-known-verdict
+    cast-if3
     refuse-requires-3
-    enum-told
-    perform-requires
     same-length-3
     same-length-4
     returns-3
+    cast-k
+    mul-b
+    array-copy-out-b
+    put-together-requires
+    act-requires
+    mul-after
+    element-set-from-after
     same-length-5
     same-length-6
     returns-4)
