@@ -22,6 +22,7 @@ use lines::Line;
 use marks::Marks;
 use playing::Player;
 use roll_input::play_input;
+use starting::accepted;
 use starting::start;
 
 fn main() {
@@ -45,8 +46,11 @@ fn perform(pool: &mut [u8], table: &mut [u16], image: &[u8], sandbox: u16, out: 
         ⌜ Performed (now (image .entry)) started sandbox (now (out .entry)) r (now (out .exit)) ⌝ }
     ensures { λ r. ⌜ valueOf r * LineBytes ≤ length (now (out .exit)) ⌝ }
 {
-    let begun = start(pool, table, image).machine;
-    let machine = play_input(begun, pool, table, image);
+    let begun = start(pool, table, image);
+    let answer = begun.answer;
+    let sound = accepted(answer);
+    let fresh = begun.machine;
+    let machine = play_input(fresh, sound, pool, table, image);
     write_archive(machine, pool, table, image, sandbox, out)
 }
 

@@ -11,8 +11,10 @@ use Rattle.basics.proofs.TestLaws.{and-both, and-true}
 use Rattle.lines.specs.Lines.{linesOf}
 use Rattle.state.specs.declared.sandbox.Machine.{Machine}
 use Rattle.state.specs.World.{World, worldOf}
+use Rattle.roll.specs.Known.{Known}
 use Rattle.roll.specs.Play.{Played}
 use Rattle.roll.proofs.PlayLaws.{played-none}
+use Rattle.roll.proofs.KnownLaws.{known-played}
 use Rattle.roll.proofs.JoinLaws.{joins, counts-on, played-alone}
 use Rattle.conversation.specs.Conversation.{Turn, goesOn, Answers, Conversation, full, last, next, rollOf, repliesOf, allWritten, Talked}
 
@@ -29,6 +31,12 @@ turn-answers image line reply₀ reply number got written w v low few size p = r
       let alone = played-alone image (take got line) reply₀ reply (linesOf (length (take got line))) number w v p in
       subst (λ n. Played image w (take got line) (linesOf (length (take got line))) number [] (take (linesOf n * 19) reply) v) size alone;
 }
+
+-- whether the state is sound is known after it, as it was before
+pub known-answers : (s : Bool) (image : List ℕ) (number : ℕ) (w : World) (t : Turn) (v : World) → Known s image w → Answers image number w t v
+    → Known s image v
+known-answers s image number w t v k a =
+    known-played s image w (t .line) (linesOf (length (t .line))) number [] (t .reply) v k (a .played)
 
 -- ---- all turns
 

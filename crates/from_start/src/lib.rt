@@ -6,6 +6,7 @@ ghost use Rattle.host_rolls.specs.FromStart.{regions, FromStart};
 use playing::Player;
 use playing::play;
 use room::room_for;
+use starting::accepted;
 use starting::start;
 
 // Starts the machine, plays the roll and says how many lines have a reply; without room for every reply it does nothing.
@@ -24,9 +25,13 @@ pub fn play_from_start(
     if !room.fits {
         return room.lines;
     }
-    let machine = start(pool, table, image).machine;
+    let begun = start(pool, table, image);
+    let answer = begun.answer;
+    let sound = accepted(answer);
+    let machine = begun.machine;
     let player = Player {
         machine: machine,
+        sound: sound,
         line: 1,
     };
     play(player, pool, table, image, roll, out);

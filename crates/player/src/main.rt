@@ -10,6 +10,7 @@ ghost use lib.ListN.{length};
 ghost use Rattle.columns.specs.Sizes.{LineBytes, MostLines, ReplyBytes};
 ghost use Rattle.state.specs.World.{worldOf};
 ghost use Rattle.state.specs.Start.{startedBy};
+ghost use Rattle.roll.specs.Known.{Known};
 ghost use Rattle.conversation.specs.Conversation.{turnOf, goesOn, Answers, Talked};
 use conversation::Progress;
 use conversation::goes_on;
@@ -37,13 +38,17 @@ fn perform(pool: &mut [u8], table: &mut [u16], image: &[u8]) -> bool
     ensures { λ r. let started = startedBy (now (pool .entry)) (now (table .entry)) (now (image .entry)) in
         ⌜ Talked (now (image .entry)) started (now (pool .exit)) (now (table .exit)) r ⌝ }
 {
-    let mut machine = starting::start(pool, table, image).machine;
+    let begun = starting::start(pool, table, image);
+    let answer = begun.answer;
+    let sound = starting::accepted(answer);
+    let mut machine = begun.machine;
     let mut number: u32 = 1;
     while number <= Player::LAST {
         let mut line = [0u8; Line::BYTES];
         let mut reply = [0u8; Line::REPLY];
         let player = Player {
             machine: machine,
+            sound: sound,
             line: number,
         };
         let progress = turn(player, pool, table, image, &mut line, &mut reply);
@@ -67,6 +72,7 @@ fn turn(
 ) -> Progress
     requires { ⌜ (length (now line) ≡ LineBytes) × (length (now reply) ≡ ReplyBytes) ⌝ }
     requires { ⌜ player .line ≤ MostLines ⌝ }
+    requires { ⌜ Known (player .sound) (now image) (worldOf (player .machine) (now pool) (now table)) ⌝ }
     ensures { λ r. let before = worldOf (player .machine) (now (pool .entry)) (now (table .entry)) in
         ⌜ Answers (now (image .entry)) (player .line) before (turnOf r (now (line .exit)) (now (reply .exit)))
         (worldOf (r .machine) (now (pool .exit)) (now (table .exit))) ⌝ }

@@ -7,6 +7,7 @@ ghost use lib.ListN.{length};
 ghost use Rattle.columns.specs.Sizes.{PrintedNumbers, ReplyBytes};
 ghost use Rattle.lines.specs.Lines.{linesOf};
 ghost use Rattle.state.specs.World.{worldOf};
+ghost use Rattle.roll.specs.Known.{Known};
 ghost use Rattle.roll.specs.Play.{Played};
 use lines::Line;
 use lines::lines_of;
@@ -17,9 +18,10 @@ use replying::Playing;
 use replying::reply;
 use state::sandbox::Machine;
 
-// Who plays: the machine, and the number of the next line.
+// Who plays: the machine, whether its state is sound, and the number of the next line.
 pub struct Player {
     pub machine: Machine,
+    pub sound: bool,
     pub line: u32,
 }
 
@@ -42,6 +44,7 @@ pub fn play(
 ) -> Machine
     requires { ⌜ linesOf (length (now roll)) * ReplyBytes ≤ length (now out) ⌝ }
     requires { ⌜ player .line + linesOf (length (now roll)) ≤ PrintedNumbers ⌝ }
+    requires { ⌜ Known (player .sound) (now image) (worldOf (player .machine) (now pool) (now table)) ⌝ }
     ensures { λ r. let before = worldOf (player .machine) (now (pool .entry)) (now (table .entry)) in
         let lines = linesOf (length (now (roll .entry))) in
         ⌜ Played (now (image .entry)) before (now (roll .entry)) lines (player .line) (now (out .entry))
@@ -51,6 +54,7 @@ pub fn play(
     let machine = player.machine;
     let playing = Playing {
         machine: machine,
+        sound: player.sound,
         first: player.line,
         answered: 0,
     };
@@ -68,7 +72,8 @@ fn play_lines(
     roll: &[u8],
     out: &mut [u8],
 ) -> Playing
-    requires { ⌜ (playing .first + length (now out) / ReplyBytes ≤ PrintedNumbers) × (playing .answered ≡ 0) ⌝ }
+    requires { ⌜ (playing .first + length (now out) / ReplyBytes ≤ PrintedNumbers) × (playing .answered ≡ 0)
+        × Known (playing .sound) (now image) (worldOf (playing .machine) (now pool) (now table)) ⌝ }
     ensures { λ r. let before = worldOf (playing .machine) (now (pool .entry)) (now (table .entry)) in
         let lines = length (now (out .entry)) / ReplyBytes in
         ⌜ Played (now (image .entry)) before (now (roll .entry)) lines (playing .first) (now (out .entry))

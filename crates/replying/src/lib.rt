@@ -9,6 +9,7 @@ ghost use Rattle.interface.specs.Answers.{valueOf};
 ghost use Rattle.state.specs.World.{worldOf};
 ghost use Rattle.step.specs.Reply.{outcomeOf};
 ghost use Rattle.columns.specs.Sizes.{MostNumber, MostPrinted, ReplyBytes};
+ghost use Rattle.roll.specs.Known.{Known};
 ghost use Rattle.roll.specs.Play.{Turned, Replied};
 use interface::Answer;
 use interface::Refusal;
@@ -18,9 +19,10 @@ use reply_text::print_answer;
 use state::sandbox::Machine;
 use step::Reply;
 
-// A roll that is being played: the machine, the number of the roll's first line, and how many lines are answered.
+// A roll that is being played: the machine, whether its state is sound, the number of the roll's first line, and how many lines are answered.
 pub struct Playing {
     pub machine: Machine,
+    pub sound: bool,
     pub first: u32,
     pub answered: usize,
 }
@@ -35,16 +37,17 @@ pub fn reply<'a, 'b>(
     out: &'a mut [u8],
 ) -> Playing
     requires { ⌜ (playing .answered * ReplyBytes + ReplyBytes ≤ length (now out))
-        × (playing .first + playing .answered ≤ MostPrinted) ⌝ }
+        × (playing .first + playing .answered ≤ MostPrinted)
+        × Known (playing .sound) (now image) (worldOf (playing .machine) (now pool) (now table)) ⌝ }
     ensures { λ r. let before = worldOf (playing .machine) (now (pool .entry)) (now (table .entry)) in
         let k = playing .answered in
         ⌜ Replied (now (image .entry)) before line (playing .first + k) (k * ReplyBytes)
         (now (out .entry)) (now (out .exit))
         (worldOf (r .machine) (now (pool .exit)) (now (table .exit)))
-        × (r .first ≡ playing .first) × (r .answered ≡ k + 1) ⌝ }
+        × (r .first ≡ playing .first) × (r .answered ≡ k + 1) × (r .sound ≡ playing .sound) ⌝ }
 {
     let machine = playing.machine;
-    let r = turn(machine, pool, table, image, line);
+    let r = turn(machine, playing.sound, pool, table, image, line);
     let answer = r.answer;
     print_answer(
         out,
@@ -55,13 +58,22 @@ pub fn reply<'a, 'b>(
     let after = r.machine;
     Playing {
         machine: after,
+        sound: playing.sound,
         first: playing.first,
         answered: playing.answered + 1,
     }
 }
 
-// One line: its request is called; a malformed one is refused.
-fn turn(machine: Machine, pool: &mut [u8], table: &mut [u16], image: &[u8], line: Line) -> Reply
+// One line: its request is called; a malformed one is refused. Whether the state is sound is known.
+fn turn(
+    machine: Machine,
+    sound: bool,
+    pool: &mut [u8],
+    table: &mut [u16],
+    image: &[u8],
+    line: Line,
+) -> Reply
+    requires { ⌜ Known sound (now image) (worldOf machine (now pool) (now table)) ⌝ }
     ensures { λ r. ⌜ Turned (now (image .entry)) (worldOf machine (now (pool .entry)) (now (table .entry))) line
         (outcomeOf r (now (pool .exit)) (now (table .exit))) ⌝ }
     ensures { λ r. ⌜ valueOf (r .answer) ≤ MostNumber ⌝ }

@@ -2,3 +2,4 @@ pub mod SmallLaws
 pub mod PlayLaws
 pub mod RepliesLaws
 pub mod JoinLaws
+pub mod KnownLaws

@@ -1,4 +1,5 @@
 -- In reading order.
+pub mod Known
 pub mod Play
 pub mod Replies
 pub mod Join

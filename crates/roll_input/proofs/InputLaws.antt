@@ -9,10 +9,12 @@ use lib.Dec.{eqb}
 use borrow.Author.Tests.{eqb-true, eqb-false, not-true, not-false}
 use Rattle.lines.specs.Lines.{linesOf}
 use Rattle.state.specs.World.{World}
+use Rattle.roll.specs.Known.{Known}
 use Rattle.roll.specs.Play.{Played}
 use Rattle.playing.proofs.PrefixLaws.{few-lines}
 use Rattle.roll.specs.Join.{WholeLines}
 use Rattle.roll.proofs.PlayLaws.{played-none}
+use Rattle.roll.proofs.KnownLaws.{known-played}
 use Rattle.roll.proofs.JoinLaws.{joins, counts-on, played-alone}
 use Rattle.roll.specs.Input.{LinesRead, full as all, last, next, RollPlayed}
 
@@ -53,6 +55,10 @@ unfolding linesOf
 all-lines bytes h = rw h refl
 
 module _ (image : List ℕ) (w : World) (number : ℕ) (v : World) (so : SoFar image w number v) where
+  -- whether the state is sound is known after it, as it was before
+  pub known-so-far : (s : Bool) → Known s image w → Known s image v
+  known-so-far s k = known-played s image w (so .roll) (so .lines) 1 [] (so .replies) v k (so .played)
+
   -- what follows is joined to it
   joined : (rest out₀ out : List ℕ) (u : World) → Played image v rest (linesOf (length rest)) number out₀ out u
       → Played image w (so .roll ++ rest) (so .lines + linesOf (length rest)) 1 [] (so .replies ++ take (linesOf (length rest) * 19) out) u

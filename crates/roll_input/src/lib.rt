@@ -2,6 +2,7 @@
 // It promises that what it reads, one line after the other until a short one or the 65,535th, is one roll played (`RollPlayed`).
 // It stands on `playing`, on `input` for when another line is read, and on the kit's `io` and `libc`; which bytes these read nothing proves.
 ghost use Rattle.state.specs.World.{worldOf};
+ghost use Rattle.roll.specs.Known.{Known};
 ghost use Rattle.roll.specs.Input.{RollPlayed};
 use input::is_whole;
 use lines::Line;
@@ -10,7 +11,15 @@ use playing::play;
 use state::sandbox::Machine;
 
 // Plays the roll on standard input, line by line; its replies are not printed. "Lines after the 65,535th are not read."
-pub fn play_input(machine: Machine, pool: &mut [u8], table: &mut [u16], image: &[u8]) -> Machine
+// Whether the state is sound is known, and stays so.
+pub fn play_input(
+    machine: Machine,
+    sound: bool,
+    pool: &mut [u8],
+    table: &mut [u16],
+    image: &[u8],
+) -> Machine
+    requires { ⌜ Known sound (now image) (worldOf machine (now pool) (now table)) ⌝ }
     ensures { λ r. let before = worldOf machine (now (pool .entry)) (now (table .entry)) in
         ⌜ RollPlayed (now (image .entry)) before (worldOf r (now (pool .exit)) (now (table .exit))) ⌝ }
 {
@@ -22,6 +31,7 @@ pub fn play_input(machine: Machine, pool: &mut [u8], table: &mut [u16], image: &
         let got = io::read_full(libc::STDIN_FILENO, &mut line);
         let player = Player {
             machine: state,
+            sound: sound,
             line: number,
         };
         state = play(player, pool, table, image, &line[..got], &mut reply);

@@ -2,6 +2,8 @@
 // It promises: the state, pool and table of specs/Start in `state`, and its answer; where a length is wrong, nothing is cleared.
 // It stands on `state` for the fresh state and on `freeing` for the store that is cleared.
 ghost use mathlib.Core.Path.{_≡_};
+ghost use lib.Dec.{eqb};
+ghost use Rattle.interface.specs.Answers.{numberOf};
 ghost use Rattle.state.specs.World.{worldOf};
 ghost use Rattle.state.specs.Start.{startedBy, startAnswer};
 use interface::Answer;
@@ -35,5 +37,15 @@ pub fn start(pool: &mut [u8], table: &mut [u16], image: &[u8]) -> Started
     Started {
         machine: machine,
         answer: Answer::Value(0),
+    }
+}
+
+// Whether a start that answers so was accepted; then the state that it gives is sound.
+pub fn accepted(answer: Answer) -> bool
+    ensures { λ r. ⌜ r ≡ eqb (numberOf answer) 0 ⌝ }
+{
+    match answer {
+        Answer::Value(_) => true,
+        Answer::Refused(_) => false,
     }
 }

@@ -1,9 +1,9 @@
 -- Without room for every reply nothing is played; else the roll is played from a start: shown by the law of each way out.
-use Prim.Native.Nat.{_≤_, _*_}
 use mathlib.Core.Path.{_≡_}
 use native.Mathlib.Omega.{arith}
 use lib.ListN.{length}
 use Rattle.lines.specs.Lines.{linesOf}
+use Rattle.roll.proofs.KnownLaws.{known-start}
 use Rattle.room.proofs.RoomLaws.{few-lines, none-answered, all-answered}
 use borrow.Author.Needs.{needs}
 use Rattle.host_rolls.specs.FromStart.{Regions, regions, Room}
@@ -30,8 +30,11 @@ has-room c = let got = c .before .before .room-for in all-answered (got .result)
 abbrev roomy : tie.After-start → tie.Else1
 roomy c = c .before .before .before
 
-abbrev started : tie.After-play-arg3 → tie.After-start
-started c = c .before .before .before .before .before .before .before .before
+abbrev accepting : tie.After-play-arg3 → tie.After-accepted
+accepting c = c .before .before .before .before
+
+abbrev started : tie.After-accepted → tie.After-start
+started c = c .before .before .before .before .before
 
 -- ---- the needs
 
@@ -47,11 +50,23 @@ returns c =
 start-requires : tie.Need-start-requires
 start-requires c κs = search needs
 
+accepted-requires : tie.Need-accepted-requires
+accepted-requires c κs = search needs
+
 play-requires : tie.Need-play-requires
 play-requires c κs =
-    let branch = roomy (started c) in
-    let lines = few-lines (length (startOf (branch .before .before) .args .roll .now)) in
-    (has-room branch .0, omega (arith, lines))
+    let told = accepting c .accepted in
+    let start = started (accepting c) .start in
+    let branch = roomy (started (accepting c)) in
+    let a = startOf (branch .before .before) .args in
+    let lines = few-lines (length (a .roll .now)) in (
+      has-room branch .0,
+      (
+        omega (arith, lines),
+        known-start (a .pool .now) (a .table .now) (a .image .now) (start .result .answer) (told .result) _ (start .ensures .0) (told .ensures)
+            (start .ensures .1),
+      ),
+    )
 
 same-length : tie.Need-same-length
 same-length c = search needs
@@ -65,7 +80,7 @@ same-length-3 c = search needs
 returns-2 : tie.Need-returns-2
 returns-2 c =
     let playing = c .before .before .before .before .before .before in
-    let starting = started (playing .before) in
+    let starting = started (accepting (playing .before)) in
     let branch = roomy starting in
     let first = startOf (branch .before .before) in
     room-for-all (first .args .image .now) (first .args .roll .now) (lent first) _ (branch .before .before .room-for .result .lines) _ _
@@ -78,6 +93,7 @@ play-from-start-spec =
     room-for-requires
     returns
     start-requires
+    accepted-requires
     play-requires
     same-length
     same-length-2

@@ -1,4 +1,4 @@
--- The loop over the lines: after each turn, whatever conversation goes on is one from the start.
+-- The loop over the lines: after each turn, whatever conversation goes on is one from the start, and whether the state is sound is known as it was there.
 use mathlib.Core.Path.{_≡_, refl, subst, _∙_}
 use mathlib.Core.Bool.{Bool, true}
 use mathlib.Core.List.{List}
@@ -8,18 +8,21 @@ use lib.ListN.{length}
 use borrow.Author.Needs.{needs}
 use Rattle.state.specs.World.{World, worldOf}
 use Rattle.state.specs.Start.{startedBy}
+use Rattle.roll.specs.Known.{Known}
+use Rattle.roll.proofs.KnownLaws.{known-start}
 use Rattle.conversation.specs.Conversation.{Turn, turnOf, Talked}
-use Rattle.conversation.proofs.ConversationLaws.{GoesOnTo, none-so-far, one-turn-more, ended-by, ended-full}
+use Rattle.conversation.proofs.ConversationLaws.{GoesOnTo, none-so-far, known-answers, one-turn-more, ended-by, ended-full}
 use Rattle.player.proofs.perform.Statement.{statement}
 use Rattle.player.proofs.perform.Tie as tie
 
 abbrev Inv-loop : tie.InvT-loop
-Inv-loop pool₀ table₀ image machine₀ number₀ pool table machine number =
+Inv-loop pool₀ table₀ image sound machine₀ number₀ pool table machine number =
     (number ≤ 65536) × (length pool ≡ length pool₀) × (length table ≡ length table₀)
     × GoesOnTo image (worldOf machine₀ pool₀ table₀) number (worldOf machine pool table)
+    × Known sound image (worldOf machine pool table)
 
 abbrev μ-loop : tie.MeasureT-loop
-μ-loop pool₀ table₀ image machine₀ number₀ pool table machine number = 65536 - number
+μ-loop pool₀ table₀ image sound machine₀ number₀ pool table machine number = 65536 - number
 
 -- ---- what is known in the loop
 
@@ -27,7 +30,7 @@ abbrev AtLoop : Type 0
 AtLoop = tie.At-loop Inv-loop μ-loop
 
 abbrev begunOf : AtLoop → tie.After-start Inv-loop μ-loop
-begunOf c = c .before .before .before .before .before .before
+begunOf c = c .before .before .before .before .before .before .before
 
 abbrev startOf : AtLoop → tie.Start Inv-loop μ-loop
 startOf c = begunOf c .before .before .before .before .before .before
@@ -70,8 +73,22 @@ turnAt c = turnOf (c .turn .result) (c .turn .last .1 .1 .1 .1 .0) (c .turn .las
 start-requires : tie.Need-start-requires Inv-loop μ-loop
 start-requires c κs = search needs
 
+accepted-requires : tie.Need-accepted-requires Inv-loop μ-loop
+accepted-requires c κs = search needs
+
 loop-holds : tie.Need-loop-holds Inv-loop μ-loop
-loop-holds c = (omega arith, refl, refl, none-so-far _ _)
+loop-holds c =
+    let told = c .before .accepted in
+    let begun = c .before .before .before .before .before .before in
+    let start = begun .start in
+    let a = (begun .before .before .before .before .before .before) .args in (
+      omega arith,
+      refl,
+      refl,
+      none-so-far _ _,
+      known-start (a .pool .now) (a .table .now) (a .image .now) (start .result .answer) (told .result) _ (start .ensures .0) (told .ensures)
+          (start .ensures .1),
+    )
 
 slice-aggregate-turn : tie.Need-slice-aggregate-turn Inv-loop μ-loop
 slice-aggregate-turn c = search needs
@@ -80,7 +97,9 @@ slice-aggregate-turn-2 : tie.Need-slice-aggregate-turn-2 Inv-loop μ-loop
 slice-aggregate-turn-2 c = search needs
 
 turn-requires : tie.Need-turn-requires Inv-loop μ-loop
-turn-requires c κs = search needs
+turn-requires c κs =
+    let testing = c .before .before .before .before in
+    ((refl, refl), (omega (arith, testing .loop-test .taken), testing .before .loop .inv .4))
 
 same-length : tie.Need-same-length Inv-loop μ-loop
 same-length c = search needs
@@ -114,6 +133,7 @@ loop-again c =
       got .kept .1 .1 .0 ∙ at .loop .inv .2,
       one-turn-more (imageIn at) (worldBegun at) (at .loop .number) (worldAt at) (turnAt turning) v (at .loop .inv .3)
           (got .ensures .0) (got .result .more) (got .ensures .1) (c .before .if1 .left),
+      known-answers _ (imageIn at) (at .loop .number) (worldAt at) (turnAt turning) v (at .loop .inv .4) (got .ensures .0),
     )
 
 same-length-3 : tie.Need-same-length-3 Inv-loop μ-loop
@@ -136,6 +156,7 @@ perform-spec =
     Inv-loop
     μ-loop
     start-requires
+    accepted-requires
     loop-holds
     slice-aggregate-turn
     slice-aggregate-turn-2

@@ -46,7 +46,7 @@ play-requires c κs =
     let reading = c .before .before .before .before .before .before in
     let start = startOf reading in
     let few = one-line reading in
-    rw (← (reading .read-full .ensures .1)) (omega (arith, few, start .pre .0 .1), omega (arith, few, start .pre .1))
+    rw (← (reading .read-full .ensures .1)) (omega (arith, few, start .pre .0 .1), (omega (arith, few, start .pre .1 .0), start .pre .1 .1))
 
 lines-of-requires : tie.Need-lines-of-requires
 lines-of-requires c κs = search needs
@@ -95,7 +95,7 @@ returns c =
     let w = worldOf (start .args .player .machine) (start .args .pool .now) (start .args .table .now) in
     let v = worldOf (played .result) (played .last .1 .0) (played .last .1 .1 .0) in (
       turn-answers image (got .last .1 .0) (start .args .reply .now) reply (start .args .player .line) (got .result) (writing .write-all .result) w v
-          (start .pre .1) (few-bytes reading) (sym (got .ensures .1)) (played .ensures),
+          (start .pre .1 .0) (few-bytes reading) (sym (got .ensures .1)) (played .ensures),
       c .goes-on .ensures ∙ ap (λ n. writing .write-all .result && eqb n 43) (got .ensures .1),
     )
 

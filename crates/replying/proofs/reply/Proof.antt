@@ -21,7 +21,7 @@ abbrev begun : tie.After-print-answer → tie.Start
 begun c = lent (turned c) .before .before .before .before
 
 turn-requires : tie.Need-turn-requires
-turn-requires c κs = search needs
+turn-requires c κs = (c .before .before .before .before .before .before .before) .pre .2
 
 cast-print-answer : tie.Need-cast-print-answer
 cast-print-answer c = search needs
@@ -56,6 +56,7 @@ returns c =
         fits = fits-line (a .playing .first + a .playing .answered) (got .result .answer) (start .pre .1) (got .ensures .1);
         prints = shown .print-answer .ensures;
       },
+      refl,
       refl,
       refl,
     )

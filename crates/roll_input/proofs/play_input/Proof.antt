@@ -7,17 +7,17 @@ use lib.ListN.{length}
 use borrow.Author.Needs.{needs}
 use Rattle.state.specs.World.{World, worldOf}
 use Rattle.playing.proofs.PrefixLaws.{few-lines}
-use Rattle.roll_input.proofs.InputLaws.{SoFar, none-so-far, short-line, whole-line, ended, one-more, full}
+use Rattle.roll_input.proofs.InputLaws.{SoFar, none-so-far, known-so-far, short-line, whole-line, ended, one-more, full}
 use Rattle.roll_input.proofs.play_input.Statement.{statement}
 use Rattle.roll_input.proofs.play_input.Tie as tie
 
 abbrev Inv-loop : tie.InvT-loop
-Inv-loop pool₀ table₀ image state₀ number₀ pool table state number =
+Inv-loop sound pool₀ table₀ image state₀ number₀ pool table state number =
     (number ≤ 65536) × (length pool ≡ length pool₀) × (length table ≡ length table₀)
     × SoFar image (worldOf state₀ pool₀ table₀) number (worldOf state pool table)
 
 abbrev μ-loop : tie.MeasureT-loop
-μ-loop pool₀ table₀ image state₀ number₀ pool table state number = 65536 - number
+μ-loop sound pool₀ table₀ image state₀ number₀ pool table state number = 65536 - number
 
 -- ---- what is known in the loop
 
@@ -85,7 +85,9 @@ play-requires c κs =
     let reading = c .before .before .before .before .before in
     let at = loopOf reading in
     let few = few-lines (reading .read-full .result) (few-bytes reading) in
-    rw (← (reading .read-full .ensures .1)) (omega (arith, few), omega (arith, few, at .loop .inv .0))
+    let start = startOf at in
+    let known = known-so-far (imageIn at) (worldBegun at) (at .loop .number) (worldAt at) (at .loop .inv .3) (start .args .sound) (start .pre) in
+    rw (← (reading .read-full .ensures .1)) (omega (arith, few), (omega (arith, few, at .loop .inv .0), known))
 
 is-whole-requires : tie.Need-is-whole-requires Inv-loop μ-loop
 is-whole-requires c κs = search needs

@@ -42,7 +42,7 @@ use Rattle.roll.proofs.PlayLaws.{played-none}
 use Rattle.playing.proofs.play_lines as play-lines
 use Rattle.playing.proofs.play_lines.Proof.Held.{valueOf, Passed, Turn, Fits, Held, Slices, Token, Roll-token, Roll}
 use Rattle.playing.proofs.play_lines.Proof.Held.{B, reader, mach, spelled, slice, called}
-use Rattle.playing.proofs.play_lines.Proof.Held.{pool₀, table₀, image, roll, first, out₀, n, κi, κr}
+use Rattle.playing.proofs.play_lines.Proof.Held.{pool₀, table₀, image, roll, first, out₀, world₀, n, κi, κr}
 
 abbrev pub stayed : Stays (play-lines.ended .signature .params) (play-lines.ended .kept)
 stayed =
@@ -77,6 +77,7 @@ module _ (P : Passed) (ok : Fits P) (is : Is G.the-row (P .args .0) (valueOf (P 
     is = is;
     first-is = refl;
     answered-is = ok .none-yet;
+    sound-is = refl;
     below = omega arith;
     pool-length = refl;
     table-length = refl;
@@ -95,7 +96,7 @@ module _ (P : Passed) (ok : Fits P) (is : Is G.the-row (P .args .0) (valueOf (P 
         suffices ! _ (ends-at 𝓤 H A play-lines.ended stayed (play-lines.clauses 𝓤 H A mem run) W ((P .κs, P .qs, tt, P .args, vals), tt)
         (valueOf (t .state)) (t .state) (tt, (t .pool, (t .table, (tt, (tt, (t .out, tt))))))
         (tt, (t .pool-length, (t .table-length, (tt, (tt, (t .out-length, tt))))))) $
-        says ! (subst (λ (m : ℕ). Played (image P .now) (worldOf (P .args .0 .machine) (pool₀ P .now) (table₀ P .now)) (roll P .now) m (first P) (out₀ P .now)
+        says ! (subst (λ (m : ℕ). Played (image P .now) (world₀ P) (roll P .now) m (first P) (out₀ P .now)
         (t .out) (worldOf (t .state .machine) (t .pool) (t .table))) e (t .played)) $
         -- the tokens, and then what is had of each parameter, and the result
         keep ! (3 ∷ 5 ∷ 9 ∷ 1 ∷ 7 ∷ 2 ∷ 4 ∷ 8 ∷ 10 ∷ 6 ∷ []) $ nothing ! $

@@ -4,7 +4,7 @@
 --     Read, Moved, Replied     what there is after a call of `next`, `skip` and `reply`.        nexted, skipped, replied    each call, from what is held
 -- The three slices are lent again for the call of `reply`, and come back (`Again.antt`).
 -- Assumes `Given`.
-use mathlib.Core.Path.{_≡_, refl, ap}
+use mathlib.Core.Path.{_≡_, refl, sym, ap, subst}
 use Prim.Native.Nat.{ℕ, _+_, _*_, _/_, _≤_, _<_, _^_}
 use native.Mathlib.Omega.{arith}
 use mathlib.Core.List.{List, [], _∷_}
@@ -39,7 +39,7 @@ use denote.Triple.Walked.{says}
 use Rattle.lines.specs.Lines.{lineAt}
 use Rattle.lines.specs.declared.Line.{Line}
 use Rattle.lines.proofs.Line as S
-use Rattle.state.specs.World.{worldOf}
+use Rattle.state.specs.World.{World, worldOf}
 use Rattle.replying.specs.declared.Playing.{Playing}
 use Rattle.replying.proofs.Playing as G
 use Rattle.replying.proofs.Playing.Laws as G′
@@ -50,7 +50,9 @@ use Rattle.reader.proofs.next as next
 use Rattle.reader.proofs.next.Symbol.{name as #reader·next}
 use Rattle.reader.proofs.skip as skip
 use Rattle.reader.proofs.skip.Symbol.{name as #reader·skip}
+use Rattle.roll.specs.Known.{Known}
 use Rattle.roll.specs.Play.{Played}
+use Rattle.roll.proofs.KnownLaws.{known-played}
 use Rattle.playing.proofs.Again.{Owned}
 use Rattle.replying.proofs.reply as reply
 use Rattle.playing.proofs.play_lines as play-lines
@@ -123,6 +125,10 @@ module _ (P : Passed) where
   abbrev pub κr : Lft
   κr = P .κs .1 .1 .1 .0
 
+  -- the world that the first line meets
+  abbrev pub world₀ : World
+  world₀ = worldOf (P .args .0 .machine) (pool₀ .now) (table₀ .now)
+
   -- what is known of what is passed
   pub record Fits : Type 0 where
     pub pool-room : Room u8 (length (pool₀ .now))
@@ -132,9 +138,10 @@ module _ (P : Passed) where
     pub n-fits : n < 2 ^ 64
     pub room : n * 19 ≤ length (out₀ .now)
     pub numbers : first + n ≤ 1000000
+    pub known : Known (P .args .0 .sound) (image .now) world₀
 
   pub fitting : Room u8 (length (pool₀ .now)) → Room u16 (length (table₀ .now)) → Room u8 (length (out₀ .now))
-      → (first + n ≤ 1000000) × (P .args .0 .answered ≡ 0) → Fits
+      → (first + n ≤ 1000000) × (P .args .0 .answered ≡ 0) × Known (P .args .0 .sound) (image .now) world₀ → Fits
   fitting p t o asked = record {
     pool-room = p;
     table-room = t;
@@ -143,6 +150,7 @@ module _ (P : Passed) where
     n-fits = omega (arith, o .0);
     room = omega arith;
     numbers = asked .0;
+    known = asked .2;
   }
 
   pub record Turn (k : ℕ) : Type 0 where
@@ -153,12 +161,19 @@ module _ (P : Passed) where
     pub is : Is G.the-row state (valueOf state ∷ [])
     pub first-is : state .first ≡ first
     pub answered-is : state .answered ≡ k
+    pub sound-is : state .sound ≡ P .args .0 .sound
     pub below : k ≤ n
     pub pool-length : length pool ≡ length (pool₀ .now)
     pub table-length : length table ≡ length (table₀ .now)
     pub out-length : length out ≡ length (out₀ .now)
-    pub played : Played (image .now) (worldOf (P .args .0 .machine) (pool₀ .now) (table₀ .now)) (roll .now) k first (out₀ .now) out
-        (worldOf (state .machine) pool table)
+    pub played : Played (image .now) world₀ (roll .now) k first (out₀ .now) out (worldOf (state .machine) pool table)
+
+  -- whether the state is sound is known before each line, as it is before the first
+  pub known-at : Fits → {k : ℕ} (t : Turn k) → Known (t .state .sound) (image .now) (worldOf (t .state .machine) (t .pool) (t .table))
+  known-at ok {k} t =
+      let now′ = worldOf (t .state .machine) (t .pool) (t .table) in
+      subst (λ s. Known s (image .now) now′) (sym (t .sound-is))
+      (known-played (P .args .0 .sound) (image .now) world₀ (roll .now) k first (out₀ .now) (t .out) now′ (ok .known) (t .played))
 
   -- the reader before the line j, its type, and its machine value
   abbrev pub reader : ℕ → Reader

@@ -44,9 +44,9 @@ use Rattle.roll.proofs.PlayLaws.{played-on}
 use Rattle.replying.proofs.reply as reply
 use Rattle.replying.proofs.reply.Symbol.{name as #replying·reply}
 use Rattle.roll.specs.Play.{Replied as ReplySaid}
-use Rattle.playing.proofs.play_lines.Proof.Held.{valueOf, value-told, Passed, Fits, Turn, Held, Image, Token}
+use Rattle.playing.proofs.play_lines.Proof.Held.{valueOf, value-told, Passed, Fits, Turn, known-at, Held, Image, Token}
 use Rattle.playing.proofs.play_lines.Proof.Held.{Own, Roll, Roll-token, Reply, Replied, called, slice, pool₀}
-use Rattle.playing.proofs.play_lines.Proof.Held.{table₀, image, roll, first, out₀, n, κi}
+use Rattle.playing.proofs.play_lines.Proof.Held.{table₀, image, roll, first, out₀, world₀, n, κi}
 
 module _ (P : Passed) (ok : Fits P) {M₁ : Type 1} (𝓤 : URA M₁) (H : Heap 𝓤) (A : Atoms 𝓤) (W : Given 𝓤 H A) (mem : Memory → SProp 𝓤) (run : Routine
     → Fun 𝓤) (C : Calls 𝓤 H) (fm : FmC 𝓤 H (W .laws) C)
@@ -88,7 +88,11 @@ module _ (P : Passed) (ok : Fits P) {M₁ : Type 1} (𝓤 : URA M₁) (H : Heap 
 
     goes-reply : ent 𝓤 (⋆ 𝓤 H A Handed) (Reply 𝓤 H A mem run .pre to-reply)
     goes-reply =
-        qed W Handed ∵ says ! (omega (arith, ok .room, less, t .out-length, t .answered-is), omega (arith, ok .numbers, less, t .first-is, t .answered-is)) $
+        qed W Handed ∵ says ! (
+          omega (arith, ok .room, less, t .out-length, t .answered-is),
+          omega (arith, ok .numbers, less, t .first-is, t .answered-is),
+          known-at P ok t,
+        ) $
         nothing ! $ move ! (5 ∷ 0 ∷ []) $ join ! $ move ! (1 ∷ 0 ∷ []) $ join ! $ frame ! $
         nothing ! $ move ! (3 ∷ 0 ∷ []) $ fjoin ! $
         owned ! S.the-row (Is S.the-row) (EL.makes S.the-type S′.the-plain 𝓤 H A) (lineAt (roll P .now) k) _ is-line $ fjoin ! $
@@ -111,7 +115,7 @@ module _ (P : Passed) (ok : Fits P) {M₁ : Type 1} (𝓤 : URA M₁) (H : Heap 
     abbrev Said : Playing → Ends → Type 0
     Said r zs =
         Said-at (t .state .first + t .state .answered) (t .state .answered * 19) r zs
-        × (r .first ≡ t .state .first) × (r .answered ≡ t .state .answered + 1)
+        × (r .first ≡ t .state .first) × (r .answered ≡ t .state .answered + 1) × (r .sound ≡ t .state .sound)
 
     said-here : (r : Playing) (zs : Ends) → Said r zs → Said-at (first P + k) (k * 19) r zs
     said-here r zs said =
@@ -157,11 +161,12 @@ module _ (P : Passed) (ok : Fits P) {M₁ : Type 1} (𝓤 : URA M₁) (H : Heap 
           is = subst (Is G.the-row r) (value-told r (w ∷ []) is) is;
           first-is = said .1 ∙ t .first-is;
           answered-is = said .2 ∙ ap (λ (a : ℕ). a + 1) (t .answered-is);
+          sound-is = said .3 ∙ t .sound-is;
           below = omega (arith, less);
           pool-length = lp ∙ t .pool-length;
           table-length = ls ∙ t .table-length;
           out-length = lo ∙ t .out-length;
-          played = played-on (image P .now) (roll P .now) (out₀ P .now) (t .out) (out-of zs) (worldOf (P .args .0 .machine) (pool₀ P .now) (table₀ P .now))
+          played = played-on (image P .now) (roll P .now) (out₀ P .now) (t .out) (out-of zs) (world₀ P)
               (worldOf (t .state .machine) (t .pool) (t .table)) (worldOf (r .machine) (zs .1 .0) (zs .1 .1 .0)) k (first P) (t .played) (said-here r zs said);
         }
 
