@@ -14,7 +14,7 @@ use Rattle.basics.specs.Ranges.{count}
 use Rattle.basics.proofs.TestLaws.{by-cases, and-left, and-right, never}
 use Rattle.basics.proofs.RangeLaws.{inside-yes}
 use Rattle.interface.specs.declared.request.Request.{Request}
-use Rattle.interface.specs.Requests.{_is_, Open, Map, Write, Snapshot, Rewind}
+use Rattle.interface.specs.Requests.{_is_, Open, Map, Write, Rewind}
 use Rattle.run_choice.specs.Runs.{runPlaces, isSpared, takesRun}
 use Rattle.run_choice.proofs.RunLaws.{run-low, granted-le, granted-run, longest-low}
 use Rattle.frames.specs.declared.Held.{Held}
@@ -36,9 +36,10 @@ use Rattle.kept.proofs.StoreRuns.{kept-same}
 use Rattle.state.specs.declared.sandbox.Sandbox.{Sandbox}
 use Rattle.records.specs.declared.Record.{Record}
 use Rattle.state.specs.World.{World, sandboxAt, withRuns, closedSandbox, framesOf, rowsOf}
-use Rattle.rules.specs.After.{changes, packedAfter, takenAfter, snapshotAfter, recordAfter}
+use Rattle.rules.specs.After.{recordAfter}
 use Rattle.memory.specs.Memory.{givesAt, placeFor, framesFor, longestOf, runsAfter, storeAfter}
 use Rattle.step.specs.Step.{sandboxThen, takes, gives, OfLongest, Outcome, Stepped}
+use Rattle.step.proofs.StayLaws.{record-same}
 use Rattle.simulation.proofs.StepLaws.{taking, gives-takes}
 use Rattle.simulation.proofs.MapSteps.{map-free}
 use Rattle.simulation.proofs.GrantSteps.{grant-front}
@@ -68,13 +69,6 @@ some-counted p (suc n) l =
 kept-in-same : (a c : Row) (f : ℕ) → ((i : ℕ) → i < runPlaces → a i ≡ c i) → keptIn a f ≡ keptIn c f
 unfolding keptIn
 kept-in-same a c f e = sum-same (λ i. held (a i) f) (λ i. held (c i) f) runPlaces (λ i l. ap (λ (h : Held). held h f) (e i l))
-
--- a request that neither opens, packs areas, snapshots nor rewinds leaves an open sandbox
-pub record-same : (q : Request) (b : Record) → (q is Open) ≡ false → changes q ≡ false → (q is Snapshot) ≡ false → (q is Rewind) ≡ false
-    → b .opened ≡ true → recordAfter q b ≡ b
-unfolding packedAfter takenAfter snapshotAfter
-record-same q b x₁ x₂ x₃ x₄ o =
-    rw (x₂, x₁, x₃, x₄) (λ i. record { opened = sym o i; share = b .share; present = b .present; taken = b .taken; snapshot = b .snapshot })
 
 module _ (image : List ℕ) (w : World) (q : Request) (o : Outcome) (s : Stepped image w q o) (n : o .answer .number ≡ 0) where
   abbrev b : Sandbox
@@ -192,7 +186,7 @@ module _ (image : List ℕ) (w : World) (q : Request) (o : Outcome) (s : Stepped
       sandboxes-are
           ∙ ap (λ (r : Runs). set (w .sandboxes) (q .sandbox) (record { rec = recordAfter q (b .rec); runs = r })) less-run
           ∙ ap (λ (c : Record). set (w .sandboxes) (q .sandbox) (record { rec = c; runs = withRunAt l (mark (row (b .runs) l) (s .given) 0) (b .runs) }))
-          (record-same q (b .rec) (rw writes) (rw writes) (rw writes) (rw writes) (met image w q o s n .opened (rw writes))),
+          (record-same q (rw writes) (rw writes) (rw writes) (rw writes) (b .rec) (met image w q o s n .opened (rw writes))),
     )
 
     rows-then : (t : ℕ) → rowsOf (o .world) t ≡ withRun (q .sandbox) l (mark (rowsOf w (q .sandbox) l) (s .given) 0) (rowsOf w) t

@@ -6,7 +6,7 @@ use mathlib.Core.List.{List}
 use Prim.Native.Nat.{ℕ, suc, _+_, _*_, _≤_, _<_}
 use native.Mathlib.Omega.{arith}
 use lib.ListN.{length, set}
-use lib.Seq.{set-getD, getD-set-same}
+use lib.Seq.{getD-set-same}
 use borrow.Author.Tests.{eqb-true}
 use Rattle.basics.proofs.TestLaws.{by-cases, and-left, never}
 use Rattle.interface.specs.declared.request.Request.{Request}
@@ -27,18 +27,18 @@ use Rattle.runs.specs.Row.{lengthsOf}
 use Rattle.kept.specs.Spare.{keptAt}
 use Rattle.kept.proofs.SpareLaws.{run-kept}
 use Rattle.state.specs.declared.sandbox.Sandbox.{Sandbox}
-use Rattle.records.specs.declared.Record.{Record}
-use Rattle.state.specs.World.{World, sandboxAt, closedSandbox, framesOf, rowsOf}
+use Rattle.state.specs.World.{World, sandboxAt, framesOf, rowsOf}
 use Rattle.rules.specs.After.{changes, recordAfter}
 use Rattle.content.specs.Content.{pageRead}
 use Rattle.memory.specs.Memory.{placeFor, framesFor, storeAfter}
 use Rattle.step.specs.Step.{takes, gives, Outcome, Stepped}
+use Rattle.step.proofs.StayLaws.{sandboxes-same}
 use Rattle.simulation.proofs.StepLaws.{taking}
 use Rattle.simulation.proofs.StoreSteps.{write-page}
 use Rattle.simulation.proofs.AcceptedLaws.{number, left, met, sound-parts, own, free, stored}
 use Rattle.claims.specs.Touches.{firstPage, namesFront, namesBack, leavesSandboxes, Untouched, Touches}
 use Rattle.claims.proofs.TouchSteps.{no-back, back-low, front-low, none-after, pool-after, entries-after, Meets, one-byte, filled, left-after}
-use Rattle.claims.proofs.TouchRuns.{record-same, sandboxes-are, runs-same, runs-stay, grants, gave, unkept, gathered}
+use Rattle.claims.proofs.TouchRuns.{sandboxes-are, runs-same, runs-stay, grants, gave, unkept, gathered}
 
 module _ (image : List ℕ) (w : World) (q : Request) (o : Outcome) (s : Stepped image w q o) (n : o .answer .number ≡ 0) where
   abbrev b : Sandbox
@@ -92,9 +92,7 @@ module _ (image : List ℕ) (w : World) (q : Request) (o : Outcome) (s : Stepped
     unchanged x₁ x₂ x₃ x₄ x₅ =
         sandboxes-are image w q o s n
         ∙ ap (λ (r : Runs). set (w .sandboxes) (q .sandbox) (record { rec = recordAfter q (b .rec); runs = r })) (runs-same image w q o s n x₅ x₄ g)
-        ∙ ap (λ (c : Record). set (w .sandboxes) (q .sandbox) (record { rec = c; runs = b .runs }))
-        (record-same q (b .rec) x₁ x₂ x₃ x₄ (met image w q o s n .opened x₁))
-        ∙ set-getD (w .sandboxes) (q .sandbox) closedSandbox
+        ∙ sandboxes-same q x₁ x₂ x₃ x₄ w (q .sandbox) (met image w q o s n .opened x₁)
 
     state : leavesSandboxes q ≡ true → o .world .sandboxes ≡ w .sandboxes
     state h =

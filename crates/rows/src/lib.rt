@@ -103,7 +103,7 @@ pub fn not_writable(present: Areas, q: Request) -> bool
 }
 
 // The page of an address.
-fn page_of(q: Request) -> PageNo
+pub fn page_of(q: Request) -> PageNo
     requires { ⌜ q .p1 < Addresses ⌝ }
     ensures { λ r. ⌜ r .0 ≡ pageOf q ⌝ }
 {
