@@ -1,7 +1,8 @@
 // The machine: ten calls over a state by value and lent pool, page table and image.
 // It promises: whatever is handed to it, `call` ends with the number, value, state, pool and table of `step` (step/specs/Step), the frames that a write takes
 // and gives up being the only thing left open; a refused call leaves state, pool and table as they were. It asks nothing of its caller.
-// It stands on `soundness` for the test of a state, on `performing` for a call on one sandbox, and on `totals` for what the sandboxes have together.
+// It stands on `soundness` for the test of a state, on `in_place` and `performing` for a call on one sandbox, and
+// on `totals` for what the sandboxes have together.
 ghost use mathlib.Core.Path.{_≡_};
 ghost use Rattle.state.specs.World.{worldOf};
 ghost use Rattle.step.specs.Step.{Stepped};
@@ -33,6 +34,14 @@ pub fn call(machine: Machine, pool: &mut [u8], table: &mut [u16], image: &[u8], 
     let mut m = machine;
     let sandboxes = m.sandboxes;
     let b = sandboxes[k];
+    let tried = in_place::answer(b, pool, table, image, q);
+    if tried.done {
+        let answer = tried.answer;
+        return Reply {
+            machine: m,
+            answer: answer,
+        };
+    }
     let all = put_together(sandboxes, m.held, q.code == Request::WRITE);
     let acted = act(b, all, pool, table, image, q);
     let after = acted.sandbox;

@@ -1,9 +1,10 @@
 -- A call on one sandbox of a row, by each of its ways out: with the sandbox put back, it is the step of the row's world.
-use Prim.Native.Nat.{ℕ, zero, suc, _<_}
-use mathlib.Core.Path.{_≡_, refl, sym, ap, subst, _∙_}
+use Prim.Native.Nat.{ℕ, _<_}
+use mathlib.Core.Path.{_≡_, sym, ap, subst, _∙_}
 use mathlib.Core.Bool.{true}
-use mathlib.Core.List.{List, [], _∷_}
+use mathlib.Core.List.{List}
 use lib.ListN.{length, getD, set}
+use lib.Seq.{set-getD}
 use Rattle.interface.specs.declared.answer.Refusal.{Refusal}
 use Rattle.interface.specs.declared.request.Request.{Request}
 use Rattle.interface.specs.Answers.{refusalNumber}
@@ -28,27 +29,26 @@ use Rattle.rules.specs.After.{recordAfter}
 use Rattle.rules.specs.Ready.{Ready}
 use Rattle.memory.specs.Memory.{valueAt}
 use Rattle.memory.specs.Parts.{AskedOf, StoreStepped}
-use Rattle.step.specs.Step.{Stepped, numberAt}
+use Rattle.step.specs.Step.{Outcome, Stepped, numberAt}
 use Rattle.step.specs.Acted.{worldFrom, Stands, putBack}
 use Rattle.step.proofs.CallLaws.{stepped-refused, number-rest, stepped, performed, ready, asked}
 
--- what stands in a place, put there again
-pub set-own : {A : Type 0} (l : List A) (k : ℕ) (none : A) → set l k (getD l k none) ≡ l
-set-own [] k none = refl
-set-own (x ∷ l) zero none = refl
-set-own (x ∷ l) (suc k) none = ap (λ rest. x ∷ rest) (set-own l k none)
+-- Of a sound state: the sandbox as the code reads it, and what the four have together. The pool is as it was.
+module _ (image : List ℕ) (q : Request) (m : Machine) (pool same table : List ℕ) (all : Together) (held : all .held ≡ m .held) (stays : same ≡ pool) where
+  -- everything is handed over that is asked
+  pub standing : length (m .sandboxes) ≡ 4 → q .sandbox < 4 → soundb image (worldOf m pool table) ≡ true → all .shares ≡ sharesIn (m .sandboxes)
+      → (q .code ≡ Write → all .kept ≡ keptTo (λ s. rowOf (sandboxIn (m .sandboxes) s .runs)) 4 .held)
+      → Stands image q (getD (m .sandboxes) (q .sandbox) zeroSandbox) all (kept (all .held) same table) (m .sandboxes)
+  standing four low sound shares marks = record {
+    four = four;
+    sound = rw (held, stays) sound;
+    handed = record { own = read-own (m .sandboxes) (q .sandbox) four low; kept = marks };
+    shares = shares;
+  }
 
--- of a sound state everything is handed over that is asked: the sandbox as the code reads it, and what the four have together
-pub standing : (image : List ℕ) (q : Request) (m : Machine) (pool table : List ℕ) (all : Together) → length (m .sandboxes) ≡ 4 → q .sandbox < 4
-    → soundb image (worldOf m pool table) ≡ true → all .held ≡ m .held → all .shares ≡ sharesIn (m .sandboxes)
-    → (q .code ≡ Write → all .kept ≡ keptTo (λ s. rowOf (sandboxIn (m .sandboxes) s .runs)) 4 .held)
-    → Stands image q (getD (m .sandboxes) (q .sandbox) zeroSandbox) all (kept (all .held) pool table) (m .sandboxes)
-standing image q m pool table all four low sound held shares marks = record {
-  four = four;
-  sound = rw held sound;
-  handed = record { own = read-own (m .sandboxes) (q .sandbox) four low; kept = marks };
-  shares = shares;
-}
+  -- and its step is that of the state
+  pub stepped-back : (o : Outcome) → Stepped image (worldFrom (m .sandboxes) (kept (all .held) same table)) q o → Stepped image (worldOf m pool table) q o
+  stepped-back o t = rw (← held, ← stays) t
 
 module _ (image : List ℕ) (q : Request) (b : Sandbox) (all : Together) (st : Store) (row : List Sandbox) (S : Stands image q b all st row) where
   abbrev w : World
@@ -74,7 +74,7 @@ module _ (image : List ℕ) (q : Request) (b : Sandbox) (all : Together) (st : S
       → Stepped image w q (record { answer = record { number = refusalNumber why; value = 0 }; world = putBack q b row st })
   acted-refused why e =
       subst (λ (l : List Sandbox). Stepped image w q (record { answer = record { number = refusalNumber why; value = 0 }; world = worldFrom l st }))
-      (sym (ap (set row (q .sandbox)) (S .handed .own) ∙ set-own row (q .sandbox) closedSandbox)) (stepped-refused image w q why e)
+      (sym (ap (set row (q .sandbox)) (S .handed .own) ∙ set-getD row (q .sandbox) closedSandbox)) (stepped-refused image w q why e)
 
   -- an accepted one leaves its sandbox and its store
   pub acted-accepted : (value : ℕ) (rec : Record) (after : Store) (runs : Runs) → numberAt image w q ≡ 0

@@ -1,5 +1,5 @@
 -- A call: what each test shows of the number, and from it the step that each answer is.
-use mathlib.Core.Path.{_≡_, sym, _∙_}
+use mathlib.Core.Path.{_≡_, refl, sym, _∙_}
 use mathlib.Core.Bool.{true, false}
 use mathlib.Core.List.{List}
 use Prim.Native.Nat.{ℕ, _<_}
@@ -10,12 +10,15 @@ use Rattle.basics.proofs.TestLaws.{length-mapped}
 use Rattle.interface.specs.declared.answer.Refusal.the-variants.{NoSuchCall, Unsound, NotOpen}
 use Rattle.interface.specs.Requests.{Write, isCall}
 use Rattle.table.specs.Store.{kept}
+use Rattle.state.specs.declared.sandbox.Sandbox.{Sandbox}
 use Rattle.state.specs.World.{World, worldOf}
 use Rattle.state.proofs.SharesLaws.{zeroSandbox}
 use Rattle.soundness.specs.Test.{soundb}
+use Rattle.memory.proofs.MemoryLaws.{read-own}
+use Rattle.in_place.specs.InPlace.{Around}
 use Rattle.step.specs.Acted.{Stands}
 use Rattle.step.proofs.CallLaws.{stepped-refused, number-two, number-three, number-four}
-use Rattle.step.proofs.ActedLaws.{standing}
+use Rattle.step.proofs.ActedLaws.{standing, stepped-back}
 use borrow.Author.Needs.{needs}
 use Rattle.machine.proofs.call.Statement.{statement}
 use Rattle.machine.proofs.call.Tie as tie
@@ -57,19 +60,40 @@ behindRow c = behindState (c .before .before)
 in-row : (c : tie.Else3) → behindRow c .args .q .sandbox < 4
 in-row c = omega (arith, c .if3 .left)
 
--- what the sandboxes have together was found behind the tests
-abbrev tested : tie.After-put-together → tie.Else3
-tested c = c .before .before .before .before .before .before
+-- a sandbox is tried in place behind the tests; the world around it is the one handed in
+abbrev tried : tie.After-answer → tie.Else3
+tried c = c .before .before .before .before .before .before
 
-stands : (c : tie.After-put-together) → let start = behindRow (tested c) in let all = c .put-together .result in
-    Stands (imageIn start) (start .args .q) (getD (start .args .machine .sandboxes) (start .args .q .sandbox) zeroSandbox) all (kept (all .held) (start .args .pool .now) (start .args .table .now))
-    (start .args .machine .sandboxes)
+abbrev own : tie.Start → Sandbox
+own s = getD (s .args .machine .sandboxes) (s .args .q .sandbox) zeroSandbox
+
+around : (row : tie.Else3) → let s = behindRow row in
+    Around (imageIn s) (s .args .q) (own s) (s .args .pool .now) (s .args .table .now) (worldIn s)
+around row =
+    let s = behindRow row in record {
+      sound = passes (row .before .before);
+      own = sym (read-own (s .args .machine .sandboxes) (s .args .q .sandbox) (four s) (in-row row));
+      samePool = refl;
+      sameTable = refl;
+    }
+
+-- where it is not answered there the pool is as it was, and what the sandboxes have together is found
+abbrev left-of : tie.After-put-together → tie.After-answer
+left-of c = c .before .before .before .before .before .before
+
+pool-stays : (c : tie.After-put-together) → let s = behindRow (tried (left-of c)) in left-of c .answer .last .1 .0 ≡ s .args .pool .now
+pool-stays c =
+    let behind = left-of c in
+    behind .answer .ensures (worldIn (behindRow (tried behind))) (around (tried behind)) .left (c .before .before .before .if4 .left)
+
+stands : (c : tie.After-put-together) → let s = behindRow (tried (left-of c)) in let all = c .put-together .result in
+    Stands (imageIn s) (s .args .q) (own s) all (kept (all .held) (left-of c .answer .last .1 .0) (s .args .table .now)) (s .args .machine .sandboxes)
 stands c =
-    let start = behindRow (tested c) in
+    let row = tried (left-of c) in
+    let s = behindRow row in
     let found = c .put-together in
-    standing (imageIn start) (start .args .q) (start .args .machine) (start .args .pool .now) (start .args .table .now) (found .result) (four start)
-    (in-row (tested c)) (passes (tested c .before .before)) (found .ensures .0) (found .ensures .1 .0)
-    (λ e. found .ensures .1 .1 (eq-eqb (start .args .q .code) Write e))
+    standing (imageIn s) (s .args .q) (s .args .machine) (s .args .pool .now) _ (s .args .table .now) (found .result) (found .ensures .0) (pool-stays c)
+    (four s) (in-row row) (passes (row .before .before)) (found .ensures .1 .0) (λ e. found .ensures .1 .1 (eq-eqb (s .args .q .code) Write e))
 
 -- ---- the needs
 
@@ -136,25 +160,10 @@ mul-b c = let low = in-row (c .before .before) in search needs
 array-copy-out-b : tie.Need-array-copy-out-b
 array-copy-out-b c = let low = in-row (c .before .before) in search needs
 
-put-together-requires : tie.Need-put-together-requires
-put-together-requires c κs = search needs
-
-act-requires : tie.Need-act-requires
-act-requires c κs =
-    let told = c .before .before in
-    let row = tested told in
-    let start = behindRow row in
-    (a-call (row .before .before .before .before .before .before), (in-row row, (start .args .machine .sandboxes, stands told)))
-
-mul-after : tie.Need-mul-after
-mul-after c = let low = in-row (tested (c .before .before .before .before .before .before .before .before .before)) in search needs
-
-element-set-from-after : tie.Need-element-set-from-after
-element-set-from-after c =
-    let row = tested (c .before .before .before .before .before .before .before .before .before) in
-    let low = in-row row in
-    let all = four (behindRow row) in
-    search needs
+answer-requires : tie.Need-answer-requires
+answer-requires c κs =
+    let row = c .before .before .before .before .before in
+    (a-call (row .before .before .before .before .before .before), (in-row row, (worldIn (behindRow row), around row)))
 
 same-length-5 : tie.Need-same-length-5
 same-length-5 c = search needs
@@ -164,10 +173,45 @@ same-length-6 c = search needs
 
 returns-4 : tie.Need-returns-4
 returns-4 c =
+    let behind = c .before .before .before in
+    let row = tried behind in
+    behind .answer .ensures (worldIn (behindRow row)) (around row) .done (c .if4 .taken)
+
+put-together-requires : tie.Need-put-together-requires
+put-together-requires c κs = search needs
+
+act-requires : tie.Need-act-requires
+act-requires c κs =
+    let told = c .before .before in
+    let row = tried (left-of told) in
+    let s = behindRow row in (
+      a-call (row .before .before .before .before .before .before),
+      (in-row row, (s .args .machine .sandboxes, stands told)),
+    )
+
+mul-after : tie.Need-mul-after
+mul-after c = let low = in-row (tried (left-of (c .before .before .before .before .before .before .before .before .before))) in search needs
+
+element-set-from-after : tie.Need-element-set-from-after
+element-set-from-after c =
+    let row = tried (left-of (c .before .before .before .before .before .before .before .before .before)) in
+    let low = in-row row in
+    let all = four (behindRow row) in
+    search needs
+
+same-length-7 : tie.Need-same-length-7
+same-length-7 c = search needs
+
+same-length-8 : tie.Need-same-length-8
+same-length-8 c = search needs
+
+returns-5 : tie.Need-returns-5
+returns-5 c =
     let acted = c .before .before .before .before .before .before in
     let told = acted .before .before .before in
-    let start = behindRow (tested told) in
-    rw (← told .put-together .ensures .0) (acted .act .ensures (start .args .machine .sandboxes) (stands told))
+    let s = behindRow (tried (left-of told)) in
+    stepped-back (imageIn s) (s .args .q) (s .args .machine) (s .args .pool .now) _ (s .args .table .now) (told .put-together .result)
+    (told .put-together .ensures .0) (pool-stays told) _ (acted .act .ensures (s .args .machine .sandboxes) (stands told))
 
 pub call-spec : {M : Type 1} → statement M
 call-spec =
@@ -189,10 +233,14 @@ call-spec =
     cast-k
     mul-b
     array-copy-out-b
+    answer-requires
+    same-length-5
+    same-length-6
+    returns-4
     put-together-requires
     act-requires
     mul-after
     element-set-from-after
-    same-length-5
-    same-length-6
-    returns-4)
+    same-length-7
+    same-length-8
+    returns-5)
