@@ -7,18 +7,16 @@ use native.Mathlib.Decide.{decLt}
 use lib.ListN.{getD}
 use Rattle.basics.specs.Choice.{_when_else_}
 use Rattle.basics.specs.Ranges.{count}
-use Rattle.basics.proofs.RangeLaws.{inside-yes, inside-past}
 use Rattle.basics.proofs.CountLaws.{count-small}
 use Rattle.interface.specs.declared.page.Slot.the-variants.{Unmapped}
 use Rattle.areas.specs.declared.area.Area.{Area}
 use Rattle.areas.specs.declared.area.Areas.{Areas}
 use Rattle.areas.specs.Areas.{none, slotOf, slots, counts}
 use Rattle.areas.specs.Walk.{Formed, countedPages}
-use Rattle.areas.proofs.SlotLaws.{slot-hit}
-use Rattle.areas.proofs.WalkLaws.{endOf, Before, before-start, before-gap, before-last, before-next, before-none}
+use Rattle.areas.proofs.WalkLaws.{endOf, Before, before-start, before-gap, before-area, before-last, before-next, before-none}
 
 -- a run of numbers of which all pass, or none
-count-run : (p : ℕ → Bool) (a n : ℕ) (b : Bool) → ((i : ℕ) → a ≤ i → i < a + n → p i ≡ b) → count p (a + n) ≡ count p a + (n when b else 0)
+pub count-run : (p : ℕ → Bool) (a n : ℕ) (b : Bool) → ((i : ℕ) → a ≤ i → i < a + n → p i ≡ b) → count p (a + n) ≡ count p a + (n when b else 0)
 unfolding count
 count-run p a zero true h = let e : a + zero ≡ a = omega arith in rw e (omega arith)
 count-run p a zero false h = let e : a + zero ≡ a = omega arith in rw e (omega arith)
@@ -77,8 +75,7 @@ module _ (s : Areas) (F : Formed s) (c : Bool) where
           λ i l u. rw (before-gap s F k (r .page) (r .there) d i l (omega arith)) (unmapped-counts c) in
           let area : (i : ℕ) → first ≤ i → i < first + at k .pages → passes i ≡ (c || not (at k .committed)) =
           λ i l u.
-          rw (slot-hit (s .list) i k (inside-yes first (at k .pages) i l u) (λ j g. inside-past _ _ i (omega (arith, r .there .passed j g))))
-          (area-counts c (at k) i) in
+          rw (before-area s F k (r .page) (r .there) d i l u) (area-counts c (at k) i) in
           let x = count-run passes (r .page) (first - r .page) false gap in
           let y = count-run passes first (at k .pages) (c || not (at k .committed)) area in
           let e : r .page + (first - r .page) ≡ first = omega arith in

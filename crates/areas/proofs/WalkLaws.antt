@@ -15,7 +15,7 @@ use Rattle.interface.specs.declared.page.Slot.the-variants.{Unmapped}
 use Rattle.areas.specs.declared.area.Area.{Area}
 use Rattle.areas.specs.declared.area.Areas.{Areas}
 use Rattle.interface.specs.Slots.{startOf}
-use Rattle.areas.specs.Areas.{none, covers, slots, Near}
+use Rattle.areas.specs.Areas.{none, covers, slotOf, slots, Near}
 use Rattle.areas.specs.Formed.{WellFormed}
 use Rattle.areas.specs.Walk.{Formed, slotHere}
 use Rattle.areas.proofs.SlotLaws.{covers-none, slot-past, slot-hit}
@@ -102,7 +102,12 @@ module _ (s : Areas) (F : Formed s) where
         later j g m (yes e) = rw e at u
         later j g m (no e) = omega (arith, order k j (omega arith) m)
 
-    -- nor from there on, where no area comes
+    -- the area says what stands at its pages
+    pub before-area : k < s .count → (i : ℕ) → at k .first .0 ≤ i → i < endOf s k → slots s i ≡ slotOf (at k) i
+    before-area l i d u =
+        slot-hit (s .list) i k (inside-yes _ _ i d u) (λ j g. inside-past _ _ i (omega (arith, b .passed j g, b .ahead k (omega arith) l)))
+
+    -- nothing is mapped from there on, where no area comes
     pub before-last : s .count ≤ k → (i : ℕ) → page ≤ i → slots s i ≡ Unmapped
     before-last l i d = between i k (λ j g. omega (arith, b .passed j g)) (λ j g m. absurd (omega arith))
 

@@ -11,6 +11,7 @@ ghost use Rattle.interface.specs.Numbers.{Sandboxes, Addresses};
 ghost use Rattle.interface.specs.Requests.{pageOf};
 ghost use Rattle.interface.specs.Refusals.{View, applies};
 ghost use Rattle.areas.specs.Areas.{slots, Near};
+ghost use Rattle.areas.specs.Walk.{Formed};
 ghost use Rattle.records.specs.Record.{copyOf, viewFrom};
 ghost use Rattle.rules.specs.Ready.{Fit, Ready, Passed};
 use areas::area::Areas;
@@ -52,7 +53,7 @@ pub fn no_snapshot(b: Record, q: Request) -> bool
 
 // Row 9: "Refusal 9 remains for protect, read and write." An unmap passes over unmapped pages.
 pub fn not_mapped(present: Areas, q: Request) -> bool
-    requires { ⌜ Near (present .list) ⌝ }
+    requires { ⌜ Formed present ⌝ }
     requires { ⌜ Fit q ⌝ }
     ensures { λ r. ⌜ ((v : View) → v .slots ≡ slots present → r ≡ applies v q NotMapped) ⌝ }
 {
@@ -68,7 +69,7 @@ pub fn not_mapped(present: Areas, q: Request) -> bool
 
 // Row 10: "map at a named page meets a mapped page".
 pub fn already_mapped(present: Areas, q: Request) -> bool
-    requires { ⌜ Near (present .list) ⌝ }
+    requires { ⌜ Formed present ⌝ }
     requires { ⌜ Fit q ⌝ }
     ensures { λ r. ⌜ ((v : View) → v .slots ≡ slots present → r ≡ applies v q AlreadyMapped) ⌝ }
 {
@@ -80,7 +81,7 @@ pub fn already_mapped(present: Areas, q: Request) -> bool
 
 // Row 11: "map at 64 and no run of p2 unmapped pages exists".
 pub fn no_gap(present: Areas, q: Request) -> bool
-    requires { ⌜ Near (present .list) ⌝ }
+    requires { ⌜ Formed present ⌝ }
     requires { ⌜ Fit q ⌝ }
     ensures { λ r. ⌜ ((v : View) → v .slots ≡ slots present → r ≡ applies v q NoGap) ⌝ }
 {

@@ -4,7 +4,8 @@ ghost use mathlib.Core.Bool.{true};
 ghost use Prim.Native.Nat.{ℕ};
 ghost use Rattle.interface.specs.Requests.{Map, backingOf};
 ghost use Rattle.interface.specs.Outcome.{firstOf, newPage, shareAfter};
-ghost use Rattle.areas.specs.Areas.{slots, Near};
+ghost use Rattle.areas.specs.Areas.{slots};
+ghost use Rattle.areas.specs.Walk.{Formed};
 ghost use Rattle.rules.specs.After.{packedAfter, takenAfter, snapshotAfter, recordWith};
 ghost use Rattle.rules.specs.Ready.{Fit, Ready};
 use areas::area::Areas;
@@ -57,7 +58,7 @@ fn whole(areas: Areas) -> Packed
 
 // The first page of a map.
 pub fn first_of(present: Areas, q: Request) -> u8
-    requires { ⌜ Near (present .list) ⌝ }
+    requires { ⌜ Formed present ⌝ }
     requires { ⌜ q .code ≡ Map ⌝ }
     requires { ⌜ Fit q ⌝ }
     ensures { λ r. ⌜ r ≡ firstOf (slots present) q ⌝ }

@@ -9,8 +9,8 @@ use Rattle.interface.specs.declared.request.Request.{Request}
 use Rattle.interface.specs.Limits.{within}
 use Rattle.interface.specs.Refusals.{View, applies}
 use Rattle.interface.specs.Settled.{Settled}
-use Rattle.areas.specs.Areas.{Near}
-use Rattle.areas.proofs.FormedLaws.{near}
+use Rattle.areas.specs.Walk.{Formed}
+use Rattle.areas.proofs.WalkLaws.{near-formed, settled as formed}
 use Rattle.records.specs.Record.{viewFrom}
 use Rattle.records.proofs.SettledLaws.{settled-of}
 use Rattle.rules.specs.Ready.{Ready, Fit, Passed}
@@ -45,9 +45,9 @@ past4 : (s : tie.Start) → Past AlreadyOpen s
 past4 s = (s .pre .1 .0, sound-call (view s) (request s) refl (s .pre .0))
 
 -- the present areas can be looked at where the request fits
-to-look-at : (s : tie.Start) → Past SnapshotTaken s → Near (s .args .b .present .list) × Fit (request s)
+to-look-at : (s : tie.Start) → Past SnapshotTaken s → Formed (s .args .b .present) × Fit (request s)
 to-look-at s p =
-    (near (s .args .images) (s .args .b .present) (ready s .sound .present) (ready s .few), fit-of (view s) (request s) (ready s .few) p)
+    (formed (s .args .images) (s .args .b .present) (ready s .sound .present) (ready s .few), fit-of (view s) (request s) (ready s .few) p)
 
 passed : (s : tie.Start) → Past NotWritable s → Passed (view s) (request s)
 passed s p = passed-of (view s) (request s) (ready s .few) p
@@ -236,7 +236,10 @@ returns-7 c =
     (past10 (test .before)) (sym (row11 test) ∙ c .before .if7 .taken)
 
 not-writable-requires : tie.Need-not-writable-requires
-not-writable-requires c κs = to-look-at (at11 (c .before)) (past11 c .1 .1 .1 .1 .1)
+not-writable-requires c κs =
+    let s = at11 (c .before) in
+    let ready-to = to-look-at s (past11 c .1 .1 .1 .1 .1) in
+    (near-formed (s .args .b .present) (ready-to .0), ready-to .1)
 
 refuse-requires-8 : tie.Need-refuse-requires-8
 refuse-requires-8 c κs = search needs

@@ -8,7 +8,7 @@ use Rattle.run_choice.proofs.RunLaws.{granted-le, granted-run}
 use Rattle.frames.specs.declared.Held.{Held}
 use Rattle.frames.specs.Frames.{countHeld}
 use Rattle.runs.specs.Row.{row, lengthsOf, withRunAt}
-use Rattle.areas.proofs.FormedLaws.{near}
+use Rattle.areas.proofs.WalkLaws.{settled}
 use Rattle.run_choice.specs.Runs.{runFor, granted}
 use Rattle.reuse.proofs.ReuseLaws.{named-none, image-none, untaken-store, untaken-runs, frames-there, taken-store, taken-runs}
 use borrow.Author.Needs.{needs}
@@ -83,7 +83,7 @@ first-of-requires : tie.Need-first-of-requires
 first-of-requires c κs =
     let s = unnamed (tested (c .before) .before .before) in
     let ready = s .pre .1 .1 .1 .0 in
-    (near (ready .0) (s .args .b .rec .present) (ready .1 .sound .present) (ready .1 .few), (s .pre .0, s .pre .1 .1 .0))
+    (settled (ready .0) (s .args .b .rec .present) (ready .1 .sound .present) (ready .1 .few), (s .pre .0, s .pre .1 .1 .0))
 
 cast-at : tie.Need-cast-at
 cast-at c = search needs

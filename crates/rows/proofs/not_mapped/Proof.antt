@@ -4,6 +4,7 @@ use Prim.Native.Nat.{_≤_, _+_}
 use borrow.Author.Tests.{eq-eqb, ne-eqb}
 use Rattle.interface.specs.Requests.{Protect}
 use Rattle.interface.specs.Refusals.{allMapped, applies}
+use Rattle.areas.proofs.WalkLaws.{near-formed}
 use Rattle.rules.proofs.FitLaws.{named-address, page-small}
 use borrow.Author.Needs.{needs}
 use Rattle.rows.proofs.not_mapped.Statement.{statement}
@@ -35,7 +36,7 @@ slot-requires : tie.Need-slot-requires
 slot-requires c κs =
     let start = c .before .before .before in
     let address = named-address (start .args .q) (start .pre .1) (c .before .if2 .taken) in
-    (start .pre .0, rw (c .page-of .ensures) (page-small (start .args .q .p1) address))
+    (near-formed (start .args .present) (start .pre .0), rw (c .page-of .ensures) (page-small (start .args .q .p1) address))
 
 is-mapped-requires : tie.Need-is-mapped-requires
 is-mapped-requires c κs = search needs

@@ -4,20 +4,14 @@ use lib.ListN.{length}
 use Rattle.interface.specs.Numbers.{pagesIn}
 use Rattle.frames.specs.declared.Held.{Held}
 use Rattle.table.specs.Store.{Store, kept}
-use Rattle.areas.specs.Areas.{Near}
 use Rattle.areas.specs.Walk.{Formed}
-use Rattle.areas.proofs.FormedLaws.{near}
 use Rattle.areas.proofs.WalkLaws.{settled}
 use Rattle.memory.proofs.ValueLaws.{map-value, read-value, snapshot-value, report-value, compare-value, no-value}
 use borrow.Author.Needs.{needs}
 use Rattle.values.proofs.value_of.Statement.{statement}
 use Rattle.values.proofs.value_of.Tie as tie
 
--- the present areas are near, and well formed
-near-present : (s : tie.Start) → Near (s .args .b .rec .present .list)
-near-present s =
-    let ready = s .pre .1 .1 .0 in near (pagesIn (length (s .args .image .now))) (s .args .b .rec .present) (ready .sound .present) (ready .few)
-
+-- the present areas are well formed
 formed-present : (s : tie.Start) → Formed (s .args .b .rec .present)
 formed-present s =
     let ready = s .pre .1 .1 .0 in settled (pagesIn (length (s .args .image .now))) (s .args .b .rec .present) (ready .sound .present) (ready .few)
@@ -39,7 +33,7 @@ comparing c = c .before .before
 -- ---- the needs
 
 first-of-requires : tie.Need-first-of-requires
-first-of-requires c κs = let s = behind (c .before) in (near-present s, (c .match .keys1, s .pre .1 .0))
+first-of-requires c κs = let s = behind (c .before) in (formed-present s, (c .match .keys1, s .pre .1 .0))
 
 cast-result : tie.Need-cast-result
 cast-result c = search needs

@@ -1,7 +1,6 @@
 -- The areas that a request leaves, packed by the law of each call that changes them.
 use native.Mathlib.Omega.{arith}
 use Rattle.areas.specs.Walk.{Formed}
-use Rattle.areas.proofs.FormedLaws.{near}
 use Rattle.areas.proofs.WalkLaws.{settled}
 use Rattle.rules.proofs.FitLaws.{start-small}
 use Rattle.rules.proofs.PackedLaws.{packed-map, packed-unmap, packed-protect, packed-snapshot, packed-rewind, packed-none}
@@ -16,8 +15,7 @@ present-formed s = settled (s .pre .0 .0) (s .args .b .present) (s .pre .0 .1 .s
 first-of-requires : tie.Need-first-of-requires
 first-of-requires c κs =
     let start = c .before .before in
-    let r = start .pre .0 in
-    (near (r .0) (start .args .b .present) (r .1 .sound .present) (r .1 .few), (c .match .keys1, start .pre .1))
+    (present-formed start, (c .match .keys1, start .pre .1))
 
 cast-repack : tie.Need-cast-repack
 cast-repack c = omega (arith, c .before .before .before .before .pre .1 .place (c .before .before .match .keys1) .1)

@@ -1,52 +1,77 @@
--- No gap starts at a page that was passed, so the lowest one is the lowest of the rest.
+-- No gap starts before the page that the walk has come to, so the lowest one starts there, if it fits before the next area, or further on.
 use Prim.Native.Nat.{_-_, _≤_}
-use mathlib.Core.Path.{_≡_, refl, sym, _∙_}
 use native.Mathlib.Omega.{arith}
-use Rattle.basics.proofs.LoopLaws.{lowest-next, lowest-stop, lowest-end}
-use Rattle.basics.specs.Ranges.{lowest}
-use Rattle.interface.specs.Slots.{gapAt, lowestGap}
-use Rattle.areas.specs.Areas.{slots}
+use Rattle.areas.proofs.WalkLaws.{end-small}
+use Rattle.areas.proofs.GapLaws.{Sought, sought-start, gap-before, gap-behind, gap-last, gap-none}
 use Rattle.areas.proofs.area.Areas.lowest_gap.Statement.{statement}
 use Rattle.areas.proofs.area.Areas.lowest_gap.Tie as tie
 
 abbrev Inv-loop : tie.InvT-loop
-Inv-loop self n i₀ i = (i ≤ 64) × (lowestGap (slots self) n ≡ lowest (gapAt (slots self) n) i (64 - i))
+Inv-loop n self page₀ k₀ k-end page k = (k ≤ self .count) × Sought self n k page
 
 abbrev μ-loop : tie.MeasureT-loop
-μ-loop self n i₀ i = 64 - i
+μ-loop n self page₀ k₀ k-end page k = k-end - k
 
 -- the way back from where a fact is needed to where it was learned
-abbrev at-loop : tie.After-is-gap Inv-loop μ-loop → tie.At-loop Inv-loop μ-loop
-at-loop c = c .before .before
+abbrev at-area : tie.After-struct-known2 Inv-loop μ-loop → tie.In-loop Inv-loop μ-loop
+at-area c = c .before .before .before .before
 
 loop-holds : tie.Need-loop-holds Inv-loop μ-loop
-unfolding lowestGap
-loop-holds c = (omega arith, refl)
+loop-holds c = (omega arith, sought-start (c .args .t1) (c .args .n))
 
-is-gap-requires : tie.Need-is-gap-requires Inv-loop μ-loop
-is-gap-requires c κs = (c .before .before .pre, omega arith)
+cast-area : tie.Need-cast-area Inv-loop μ-loop
+cast-area c = omega arith
+
+mul-area : tie.Need-mul-area Inv-loop μ-loop
+mul-area c = omega arith
+
+element-copy-out-area : tie.Need-element-copy-out-area Inv-loop μ-loop
+element-copy-out-area c = omega (arith, c .before .before .pre .formed .few)
+
+sub-if1 : tie.Need-sub-if1 Inv-loop μ-loop
+sub-if1 c =
+    let l = c .before .before .before .loop in
+    l .inv .1 .there .ahead (l .k) (omega arith) (c .before .before .loop-test .taken)
 
 returns : tie.Need-returns Inv-loop μ-loop
 returns c =
-    sym
-    (at-loop (c .before) .loop .inv .1
-    ∙ lowest-stop _ _ _ (c .before .before .loop-test .taken) (sym (c .before .is-gap .ensures) ∙ c .if1 .taken))
+    let turn = c .before .before .before in
+    let l = turn .before .loop in
+    let s = turn .before .before in
+    gap-before (s .args .t1) (s .pre) (s .args .n) (l .k) (l .page) (l .inv .1) (turn .loop-test .taken) (c .if1 .taken)
 
-add-i : tie.Need-add-i Inv-loop μ-loop
-add-i c = omega arith
+add-page : tie.Need-add-page Inv-loop μ-loop
+add-page c =
+    let s = at-area c .before .before in
+    record { fits = omega (arith, end-small (s .args .t1) (s .pre) (at-area c .before .loop .k)) }
+
+add-k : tie.Need-add-k Inv-loop μ-loop
+add-k c = omega arith
 
 loop-less : tie.Need-loop-less Inv-loop μ-loop
 loop-less c = omega arith
 
 loop-again : tie.Need-loop-again Inv-loop μ-loop
-loop-again c = (
-  omega arith,
-  at-loop (c .before) .loop .inv .1
-      ∙ lowest-next _ _ _ (c .before .before .loop-test .taken) (sym (c .before .is-gap .ensures) ∙ c .if1 .left),
-)
+loop-again c =
+    let turn = at-area c in
+    let l = turn .before .loop in
+    let s = turn .before .before in
+    (omega arith, gap-behind (s .args .t1) (s .pre) (s .args .n) (l .k) (l .page) (l .inv .1) (turn .loop-test .taken) (c .before .if1 .left))
+
+sub-if2 : tie.Need-sub-if2 Inv-loop μ-loop
+sub-if2 c = c .before .loop .inv .1 .there .small
 
 returns-2 : tie.Need-returns-2 Inv-loop μ-loop
-returns-2 c = sym (c .before .loop .inv .1 ∙ lowest-end _ _ _ (c .loop-test .left) ∙ omega arith)
+returns-2 c =
+    let l = c .before .before .loop in
+    let s = c .before .before .before in
+    gap-last (s .args .t1) (s .pre) (s .args .n) (l .k) (l .page) (l .inv .1) (c .before .loop-test .left) (c .if2 .taken)
+
+returns-3 : tie.Need-returns-3 Inv-loop μ-loop
+returns-3 c =
+    let l = c .before .before .loop in
+    let s = c .before .before .before in
+    gap-none (s .args .t1) (s .pre) (s .args .n) (l .k) (l .page) (l .inv .1) (c .before .loop-test .left) (c .if2 .left)
 
 pub lowest-gap-spec : {M : Type 1} → statement M
 lowest-gap-spec =
@@ -55,9 +80,15 @@ lowest-gap-spec =
     Inv-loop
     μ-loop
     loop-holds
-    is-gap-requires
+    cast-area
+    mul-area
+    element-copy-out-area
+    sub-if1
     returns
-    add-i
+    add-page
+    add-k
     loop-less
     loop-again
-    returns-2)
+    sub-if2
+    returns-2
+    returns-3)
