@@ -1,6 +1,7 @@
 pub mod PushLaws
 pub mod RunLaws
 pub mod PartLaws
+pub mod BeforeLaws
 pub mod RepackLaws
 pub mod PackLaws
 pub mod KeptLaws

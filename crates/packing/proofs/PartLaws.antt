@@ -99,6 +99,10 @@ module _ (s : Areas) (F : Formed s) (turn : Turn) (b : Packed) (from to : ℕ) (
       gap : (i : ℕ) → reached ≤ i → i < to → i < at k .first .0 → f i ≡ Unmapped
       gap i d u v = rw (before-gap s F k (r .page) (r .there) l i (omega arith) v)
 
+      -- an area that starts behind the pages
+      pub parts-stop : to ≤ at k .first .0 → p ≡ packOn b f from (to - from)
+      parts-stop d = r .packed ∙ sym (skip b f from reached (omega arith) to (omega arith) (λ i u v. gap i u v (omega arith)))
+
       ahead : r .page ≤ at k .first .0
       ahead = r .there .ahead k (omega arith) l
 
@@ -117,12 +121,12 @@ module _ (s : Areas) (F : Formed s) (turn : Turn) (b : Packed) (from to : ℕ) (
               (omega (arith, ahead)) (λ i u v. gap i u (omega arith) (omega arith))
               (λ i u v. rw (area-slot (F .images) s (F .formed) i k l (omega arith) (omega arith)) (on-part turn (at k) from to i u)))
 
-      next : Parts s f b from to (k + 1) (pushArea p (piece k))
-      next = record { page = endOf s k; there = before-next s F k (r .page) (r .there) l; packed = sym pages-pushed }
+      pub parts-more : Parts s f b from to (k + 1) (pushArea p (piece k))
+      parts-more = record { page = endOf s k; there = before-next s F k (r .page) (r .there) l; packed = sym pages-pushed }
 
       -- a turn of the loop: the part is pushed, or there is none
       pub parts-next : (on : Bool) (q : Packed) → on ≡ (ltb (at k .first .0) to && ltb from (at k .first .0 + at k .pages))
           → ((on ≡ true) × (q ≡ pushArea p (piece k))) ⊎ ((on ≡ false) × (q ≡ p)) → Parts s f b from to (k + 1) q
       parts-next on q is =
-          ⊎-elim (λ w. rw (w .1) next)
-          (λ w. rw (w .1, push-nothing p (piece k) (out-of-reach (at k) from to (sym is ∙ w .0))) next)
+          ⊎-elim (λ w. rw (w .1) parts-more)
+          (λ w. rw (w .1, push-nothing p (piece k) (out-of-reach (at k) from to (sym is ∙ w .0))) parts-more)

@@ -13,7 +13,7 @@ use Rattle.packing.specs.declared.pack.Change.the-variants.{Map, Unmap, 
 use Rattle.packing.specs.declared.part.Turn.the-variants.{Keep, Rights, Commit as Committed}
 use Rattle.packing.specs.Pack.{start, pack, changeAt, changed}
 use Rattle.packing.specs.Parts.{packOn, Ready, areaFrom, pushArea, turned}
-use Rattle.packing.proofs.RunLaws.{pack-start, pack-split, pack-alike, pack-gap, ready-on, run}
+use Rattle.packing.proofs.RunLaws.{pack-start, pack-split, pack-alike, pack-gap, ready-start, ready-on, run}
 
 -- ---- what becomes of a slot
 
@@ -49,6 +49,9 @@ module _ (b : Packed) (f : Slots) (from n : ℕ) (c : Change) where
 
 -- ---- one stretch of pages behind the other
 
+pub ready-up-to : (q : Packed) (f : Slots) (to : ℕ) → q ≡ packOn start f 0 to → Ready q to
+ready-up-to q f to e = let h : 0 + to ≡ to = omega arith in rw e (rw h at (ready-on start f 0 to ready-start))
+
 pub ready-reached : (b q : Packed) (f : Slots) (from to : ℕ) → from ≤ to → Ready b from → q ≡ packOn b f from (to - from) → Ready q to
 ready-reached b q f from to l r e =
     let h : from + (to - from) ≡ to = omega arith in
@@ -66,13 +69,11 @@ module _ (f : Slots) (first n : ℕ) (c : Change) (from to : ℕ) (starts : from
       pack-start g 64 ∙ ap (packOn start g 0) e ∙ pack-split start g 0 from (to - from + (64 - to))
       ∙ rw (h, pack-split (packOn start g 0 from) g from (to - from) (64 - to), k)
 
-  pub repack-all : (b p q r : Packed) → b ≡ start → p ≡ packOn b (λ i. turned Keep (f i)) 0 (from - 0)
+  pub repack-all : (p q r : Packed) → p ≡ packOn start (λ i. turned Keep (f i)) 0 from
       → q ≡ packOn p (λ i. changeAt c (i - from) (f i)) from (to - from) → r ≡ packOn q (λ i. turned Keep (f i)) to (64 - to) → r ≡ pack g
-  repack-all b p q r none hp hq hr =
-      let e : from - 0 ≡ from = omega arith in
-      let started : p ≡ packOn start (λ i. turned Keep (f i)) 0 from = rw (none, e) at hp in
+  repack-all p q r hp hq hr =
       let before : p ≡ packOn start g 0 from =
-      started
+      hp
       ∙ pack-alike start _ g 0 from (λ i l u. turned-keep (f i) ∙ sym (over-out first n _ f i (inside-below first n i (omega arith)))) in
       let within : q ≡ packOn p g from (to - from) =
       hq

@@ -5,6 +5,7 @@ ghost use Rattle.interface.specs.Numbers.{PageCount};
 ghost use Rattle.areas.specs.Areas.{slots, attributesOf};
 ghost use Rattle.areas.specs.Walk.{Formed};
 ghost use Rattle.packing.specs.Pack.{start, last, continues, pack, changeAt, changed, changeStart};
+ghost use Rattle.packing.specs.declared.part.Turn.the-variants.{Keep};
 ghost use Rattle.packing.specs.Parts.{packOn, longerBy, extendedBy, placed, pushArea, turned, Ready};
 use crate::part::Turn;
 use crate::part::area_from;
@@ -38,19 +39,32 @@ pub fn repack(areas: Areas, first: PageNo, n: u8, change: Change) -> Packed
 {
     let from = within(first.0 as usize);
     let to = within(first.0 as usize + n as usize);
-    let before = Packed::start().with_parts(areas, 0, from, Turn::Keep);
+    let before = Packed::up_to(areas, from);
     let changed = before.with_change(areas, from, to, change);
     changed.with_parts(areas, to, Areas::PAGES, Turn::Keep)
 }
 
 impl Packed {
-    // Nothing packed yet.
-    fn start() -> Self
-        ensures { λ r. ⌜ r ≡ start ⌝ }
+    // The pages before a page packed: areas stand apart, so those before it are kept in their places, the last up to that page.
+    fn up_to(areas: Areas, to: u8) -> Self
+        requires { ⌜ Formed areas ⌝ }
+        requires { ⌜ to ≤ PageCount ⌝ }
+        ensures { λ r. ⌜ r ≡ packOn start (λ i. turned Keep (slots areas i)) 0 to ⌝ }
     {
-        let areas = Areas::empty();
+        let mut kept = Areas::empty();
+        for k in 0..areas.count {
+            let area = areas.list[k as usize];
+            if to <= area.first.0 {
+                return Packed {
+                    areas: kept,
+                    fits: true,
+                };
+            }
+            kept.list[k as usize] = part(area, 0, to);
+            kept.count = k + 1;
+        }
         Packed {
-            areas: areas,
+            areas: kept,
             fits: true,
         }
     }

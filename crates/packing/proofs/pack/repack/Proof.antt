@@ -2,8 +2,7 @@
 use native.Mathlib.Omega.{arith}
 use Rattle.areas.specs.Areas.{slots}
 use Rattle.packing.specs.Parts.{Ready}
-use Rattle.packing.proofs.RunLaws.{ready-start}
-use Rattle.packing.proofs.RepackLaws.{ready-reached, repack-all}
+use Rattle.packing.proofs.RepackLaws.{ready-up-to, ready-reached, repack-all}
 use borrow.Author.Needs.{needs}
 use Rattle.packing.proofs.pack.repack.Statement.{statement}
 use Rattle.packing.proofs.pack.repack.Tie as tie
@@ -13,9 +12,8 @@ abbrev at-start : tie.After-within2 → tie.Start
 at-start c = c .before .before .before .before
 
 -- what is packed before the changed pages ends before them
-ready-before : (c : tie.After-with-parts) → Ready (c .with-parts .result) (c .before .before .before .before .within .result)
-ready-before c =
-    ready-reached _ _ _ 0 (c .before .before .before .before .within .result) (omega arith) (rw (c .before .start .ensures) ready-start) (c .with-parts .ensures)
+ready-before : (c : tie.After-up-to) → Ready (c .up-to .result) (c .before .before .before .within .result)
+ready-before c = ready-up-to _ _ (c .before .before .before .within .result) (c .up-to .ensures)
 
 cast-within : tie.Need-cast-within
 cast-within c = search needs
@@ -32,26 +30,22 @@ add-within c = search needs
 within-requires-2 : tie.Need-within-requires-2
 within-requires-2 c κs = search needs
 
-start-requires : tie.Need-start-requires
-start-requires c κs = search needs
-
-with-parts-requires : tie.Need-with-parts-requires
-with-parts-requires c κs =
-    (at-start (c .before) .pre .0, (rw (c .start .ensures) ready-start, (omega arith, omega (arith, c .before .before .before .within .ensures))))
+up-to-requires : tie.Need-up-to-requires
+up-to-requires c κs = search needs
 
 with-change-requires : tie.Need-with-change-requires
 with-change-requires c κs =
-    let from = c .before .before .before .before .within in
-    let to = c .before .before .within2 in (
-      at-start (c .before .before) .pre .0,
+    let from = c .before .before .before .within in
+    let to = c .before .within2 in (
+      at-start (c .before) .pre .0,
       (ready-before c, (omega (arith, from .ensures, to .ensures), omega (arith, to .ensures))),
     )
 
-with-parts-requires-2 : tie.Need-with-parts-requires-2
-with-parts-requires-2 c κs =
-    let from = c .before .before .before .before .before .within in
-    let to = c .before .before .before .within2 in (
-      at-start (c .before .before .before) .pre .0,
+with-parts-requires : tie.Need-with-parts-requires
+with-parts-requires c κs =
+    let from = c .before .before .before .before .within in
+    let to = c .before .before .within2 in (
+      at-start (c .before .before) .pre .0,
       (
         ready-reached _ _ _ (from .result) (to .result) (omega (arith, from .ensures, to .ensures)) (ready-before (c .before)) (c .with-change .ensures),
         (omega (arith, to .ensures), omega arith),
@@ -60,11 +54,11 @@ with-parts-requires-2 c κs =
 
 returns : tie.Need-returns
 returns c =
-    let from = c .before .before .before .before .before .before .within in
-    let to = c .before .before .before .before .within2 in
-    let s = at-start (c .before .before .before .before) .args in
-    repack-all (slots (s .areas)) (s .first .0) (s .n) (s .change) (from .result) (to .result) (from .ensures) (to .ensures) _ _ _ _
-    (c .before .before .before .start .ensures) (c .before .before .with-parts .ensures) (c .before .with-change .ensures) (c .with-parts2 .ensures)
+    let from = c .before .before .before .before .before .within in
+    let to = c .before .before .before .within2 in
+    let s = at-start (c .before .before .before) .args in
+    repack-all (slots (s .areas)) (s .first .0) (s .n) (s .change) (from .result) (to .result) (from .ensures) (to .ensures) _ _ _
+    (c .before .before .up-to .ensures) (c .before .with-change .ensures) (c .with-parts .ensures)
 
 pub repack-spec : {M : Type 1} → statement M
 repack-spec =
@@ -75,8 +69,7 @@ repack-spec =
     cast-within-2
     add-within
     within-requires-2
-    start-requires
-    with-parts-requires
+    up-to-requires
     with-change-requires
-    with-parts-requires-2
+    with-parts-requires
     returns)
