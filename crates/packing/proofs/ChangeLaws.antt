@@ -1,32 +1,18 @@
--- Laws of changes: a turn of the loop that packs, and what each call makes of the slots.
-use Prim.Native.Nat.{ℕ, _+_, _<_}
-use mathlib.Core.Path.{_≡_, refl, sym, _∙_, fun-ext}
+-- Laws of changes: what each call makes of the slots.
+use Prim.Native.Nat.{ℕ, _<_}
+use mathlib.Core.Path.{_≡_, sym, _∙_, fun-ext}
 use mathlib.Core.Option.{Option}
 use native.Mathlib.Omega.{arith}
 use native.Mathlib.Decide.{decLt}
 use Rattle.basics.specs.Ranges.{over}
 use Rattle.basics.proofs.RangeLaws.{inside-yes, inside-past, over-in, over-out}
 use Rattle.interface.specs.declared.request.Request.{Request}
-use Rattle.interface.specs.declared.page.Slot.{Slot}
 use Rattle.interface.specs.Requests as Call
 use Rattle.interface.specs.Slots.{Slots, withCommitted}
 use Rattle.interface.specs.Outcome.{firstOf, newPage, slotsAfter}
-use Rattle.packing.specs.declared.pack.Packed.{Packed}
-use Rattle.packing.specs.declared.pack.Change.{Change}
 use Rattle.packing.specs.declared.pack.Change.the-variants.{Map, Unmap, Protect, Commit}
 use Rattle.areas.specs.Areas.{Bounded}
-use Rattle.packing.specs.Pack.{push, packTo, changeTo, changed}
-use Rattle.packing.proofs.PushLaws.{pack-step}
-
--- what a change makes of one page
-changed-at : (f : Slots) (first n : ℕ) (c : Change) (i : ℕ) → changeTo first n c i (f i) ≡ changed f first n c i
-unfolding over
-changed-at f first n c i = refl
-
--- a turn of the loop over the pages
-pub repack-step : (f : Slots) (first n : ℕ) (c : Change) (i : ℕ) (b : Packed) (old new : Slot) → b ≡ packTo (changed f first n c) i → old ≡ f i
-    → new ≡ changeTo first n c i old → push b i new ≡ packTo (changed f first n c) (i + 1)
-repack-step f first n c i b old new h k e = pack-step (changed f first n c) i b new h (e ∙ rw k (changed-at f first n c i))
+use Rattle.packing.specs.Pack.{changed}
 
 -- "Snapshot commits every mapped page"
 pub commit-slots : (f : Slots) → Bounded f → changed f 0 64 Commit ≡ (λ i. withCommitted (f i))

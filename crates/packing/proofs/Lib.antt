@@ -1,4 +1,8 @@
 pub mod PushLaws
+pub mod RunLaws
+pub mod PartLaws
+pub mod BeforeLaws
+pub mod RepackLaws
 pub mod PackLaws
 pub mod KeptLaws
 pub mod ChangeLaws

@@ -1,24 +1,23 @@
--- Laws of one page pushed: when it goes on where the last area ends, what a loop over pages keeps, and the ways out of the code.
-use Prim.Native.Nat.{ℕ, zero, suc, _+_, _-_, _≤_, _<_}
-use mathlib.Core.Path.{_≡_, refl, sym}
-use mathlib.Core.Bool.{Bool, true, false, _&&_, false≢true}
+-- Laws of one page pushed: when it goes on where the last area ends, and what holds after it.
+use Prim.Native.Nat.{ℕ, suc, _+_, _-_, _<_}
+use mathlib.Core.Path.{_≡_, refl}
+use mathlib.Core.Bool.{Bool, true, false, _&&_}
 use native.Mathlib.Omega.{arith}
-use native.Mathlib.Numerals.{add-one}
 use lib.Dec.{ltb, eqb}
-use borrow.Author.Tests.{ltb-true, lt-ltb, le-ltb, eqb-true, eq-eqb}
+use borrow.Author.Tests.{ltb-true, eqb-true, eq-eqb}
 use Rattle.basics.specs.Choice.{same}
 use Rattle.basics.proofs.TestLaws.{when-cases, and-left, and-right, same-true}
 use Rattle.interface.specs.declared.page.Attributes.{Attributes}
 use Rattle.interface.specs.declared.page.Slot.{Slot}
 use Rattle.interface.specs.declared.page.Slot.the-variants.{Unmapped, Mapped}
-use Rattle.interface.specs.Slots.{Slots, isMapped, advance, follows, joins}
+use Rattle.interface.specs.Slots.{advance, follows, joins}
 use Rattle.areas.specs.declared.area.Area.{Area}
 use Rattle.areas.specs.declared.area.Areas.{Areas}
 use Rattle.areas.specs.Areas.{slotOf}
 use Rattle.areas.specs.Formed.{goesOn}
 use Rattle.areas.proofs.SlotLaws.{advance-zero, follows-true, follows-more}
 use Rattle.packing.specs.declared.pack.Packed.{Packed}
-use Rattle.packing.specs.Pack.{single, longer, last, continues, extended, added, push, packTo}
+use Rattle.packing.specs.Pack.{single, longer, last, continues, extended, added, push}
 
 -- the page goes on where the area ends
 pub record GoesOn (a : Area) (page : ℕ) (t : Attributes) : Type 0 where
@@ -84,36 +83,3 @@ push-cases P b page Unmapped skip extend add full = skip refl
 push-cases P b page (Mapped t) skip extend add full =
     when-cases P (continues (b .areas) page t) (λ e. extend t refl e)
     (λ e. when-cases P (ltb (b .areas .count) 8) (λ h. add t refl e (ltb-true (b .areas .count) 8 h)) (λ h. full t refl e h))
-
-pub count-push : (b : Packed) (page : ℕ) (s : Slot) → b .areas .count ≤ 8 → push b page s .areas .count ≤ 8
-count-push b page s h =
-    push-cases (λ p. p .areas .count ≤ 8) b page s (λ e. h) (λ t e c. h) (λ t e c l. omega arith) (λ t e c l. h)
-
-pub count-pack : (f : Slots) (n : ℕ) → packTo f n .areas .count ≤ 8
-unfolding packTo
-count-pack f zero = omega arith
-count-pack f (suc n) = count-push (packTo f n) n (f n) (count-pack f n)
-
-pub pack-step : (f : Slots) (i : ℕ) (b : Packed) (s : Slot) → b ≡ packTo f i → s ≡ f i → push b i s ≡ packTo f (i + 1)
-unfolding packTo
-pack-step f i b s p q = rw (p, q, add-one i)
-
--- a page that is not mapped leaves what is packed
-pub push-none : (b : Packed) (page : ℕ) (slot : Slot) → isMapped slot ≡ false → push b page slot ≡ b
-unfolding push
-push-none b page Unmapped e = refl
-push-none b page (Mapped t) e = absurd (false≢true (sym e))
-
--- a mapped page pushed, by the code's ways out
-module _ (b : Packed) (page : ℕ) (t : Attributes) (slot : Slot) (mapped : slot ≡ Mapped t) (more : Bool) (is : more ≡ continues (b .areas) page t) where
-  pub push-extends : more ≡ true → (r : Areas) → r ≡ extended (b .areas) → record { areas = r; fits = b .fits } ≡ push b page slot
-  unfolding push
-  push-extends e r h = rw (h, mapped, ← is, e)
-
-  pub push-adds : more ≡ false → b .areas .count < 8 → (r : Areas) → r ≡ added (b .areas) page t → record { areas = r; fits = b .fits } ≡ push b page slot
-  unfolding push
-  push-adds e l r h = rw (h, mapped, ← is, e, lt-ltb _ _ l)
-
-  pub push-full : more ≡ false → 8 ≤ b .areas .count → record { areas = b .areas; fits = false } ≡ push b page slot
-  unfolding push
-  push-full e l = rw (mapped, ← is, e, le-ltb _ _ l)

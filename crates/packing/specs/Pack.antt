@@ -4,7 +4,7 @@ use mathlib.Core.Bool.{Bool, true, false, _&&_}
 use lib.Dec.{ltb}
 use lib.ListN.{getD, set}
 use Rattle.basics.specs.Choice.{_when_else_}
-use Rattle.basics.specs.Ranges.{inside, over}
+use Rattle.basics.specs.Ranges.{over}
 use Rattle.interface.specs.declared.page.Attributes.{Attributes}
 use Rattle.interface.specs.declared.page.Slot.{Slot}
 use Rattle.interface.specs.declared.page.Slot.the-variants.{Unmapped, Mapped}
@@ -70,10 +70,6 @@ changeAt (Map t) pages s = pageOn t pages
 changeAt Unmap pages s = Unmapped
 changeAt (Protect r) pages s = withRights r s
 changeAt Commit pages s = withCommitted s
-
--- what a change of n pages makes of a page
-abbrev pub changeTo : ℕ → ℕ → Change → ℕ → Slot → Slot
-changeTo first n c page s = changeAt c (page - first) s when inside first n page else s
 
 -- the slots after a change of n pages
 abbrev pub changed : Slots → ℕ → ℕ → Change → Slots

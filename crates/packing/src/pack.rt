@@ -1,21 +1,21 @@
-// Areas packed anew: what stands at each page is changed, and the pages are pushed from left to right.
+// Areas packed anew: the parts of the old areas before a changed range, in it and behind it are put one behind the other.
 ghost use mathlib.Core.Path.{_≡_};
-ghost use Prim.Native.Nat.{_≤_, _<_};
+ghost use Prim.Native.Nat.{_+_, _-_, _≤_, _<_};
 ghost use Rattle.interface.specs.Numbers.{PageCount};
-ghost use Rattle.areas.specs.Areas.{slots};
+ghost use Rattle.areas.specs.Areas.{slots, attributesOf};
 ghost use Rattle.areas.specs.Walk.{Formed};
-ghost use Rattle.packing.specs.Pack.{single, longer, start, last, continues, extended, added, push, pack};
-ghost use Rattle.packing.specs.Pack.{changeAt, changeTo, changed, changeStart};
+ghost use Rattle.packing.specs.Pack.{start, last, continues, pack, changeAt, changed, changeStart};
+ghost use Rattle.packing.specs.declared.part.Turn.the-variants.{Keep};
+ghost use Rattle.packing.specs.Parts.{packOn, longerBy, extendedBy, placed, pushArea, turned, Ready};
+use crate::part::Turn;
+use crate::part::area_from;
+use crate::part::part;
+use crate::part::reaches;
+use crate::part::within;
 use areas::area::Area;
 use areas::area::Areas;
-use areas::basic::is_inside;
 use interface::Attributes;
 use interface::PageNo;
-use interface::Slot;
-use slots::is_mapped;
-use slots::page_on;
-use slots::with_committed;
-use slots::with_rights;
 
 // A change of some pages: they become mapped from a first page with these attributes on, or unmapped, or get rights, or become committed.
 pub enum Change {
@@ -37,92 +37,92 @@ pub fn repack(areas: Areas, first: PageNo, n: u8, change: Change) -> Packed
     requires { ⌜ changeStart change ≤ PageCount ⌝ }
     ensures { λ r. ⌜ r ≡ pack (changed (slots areas) (first .0) n change) ⌝ }
 {
-    let mut packed = Packed::start();
-    let mut place: u8 = 0;
-    let mut area = areas.list[0];
-    for i in 0..Areas::PAGES {
-        let page = PageNo(i);
-        let slot = change.slot(first, n, page, area.slot_here(page));
-        if area.is_left(place, areas.count, PageNo(i + 1)) {
-            place += 1;
-            area = areas.list[place as usize];
-        }
-        // What is packed is copied for a mapped page only.
-        if is_mapped(slot) {
-            packed = packed.push(page, slot);
-        }
-    }
-    packed
-}
-
-// Whether a page goes on where the last area ends.
-fn continues(areas: Areas, page: PageNo, t: Attributes) -> bool
-    requires { ⌜ areas .count ≤ 8 ⌝ }
-    ensures { λ r. ⌜ r ≡ continues areas (page .0) t ⌝ }
-{
-    if areas.count == 0 {
-        return false;
-    }
-    let k = areas.count as usize - 1;
-    let last = areas.list[k];
-    last.goes_on(page, t)
-}
-
-// The last area made longer by one page.
-fn extended(mut areas: Areas) -> Areas
-    requires { ⌜ 0 < areas .count ⌝ }
-    requires { ⌜ areas .count ≤ 8 ⌝ }
-    requires { ⌜ last areas .pages < PageCount ⌝ }
-    ensures { λ r. ⌜ r ≡ extended areas ⌝ }
-{
-    let k = areas.count as usize - 1;
-    let last = areas.list[k];
-    areas.list[k] = longer(last);
-    areas
-}
-
-// An area of one page put behind the last.
-fn added(mut areas: Areas, page: PageNo, t: Attributes) -> Areas
-    requires { ⌜ areas .count < 8 ⌝ }
-    ensures { λ r. ⌜ r ≡ added areas (page .0) t ⌝ }
-{
-    let k = areas.count as usize;
-    areas.list[k] = single(page, t);
-    areas.count = areas.count + 1;
-    areas
+    let from = within(first.0 as usize);
+    let to = within(first.0 as usize + n as usize);
+    let before = Packed::up_to(areas, from);
+    let changed = before.with_change(areas, from, to, change);
+    changed.with_parts(areas, to, Areas::PAGES, Turn::Keep)
 }
 
 impl Packed {
-    // Nothing packed yet.
-    fn start() -> Self
-        ensures { λ r. ⌜ r ≡ start ⌝ }
+    // The pages before a page packed: areas stand apart, so those before it are kept in their places, the last up to that page.
+    fn up_to(areas: Areas, to: u8) -> Self
+        requires { ⌜ Formed areas ⌝ }
+        requires { ⌜ to ≤ PageCount ⌝ }
+        ensures { λ r. ⌜ r ≡ packOn start (λ i. turned Keep (slots areas i)) 0 to ⌝ }
     {
-        let areas = Areas::empty();
+        let mut kept = Areas::empty();
+        for k in 0..areas.count {
+            let area = areas.list[k as usize];
+            if to <= area.first.0 {
+                return Packed {
+                    areas: kept,
+                    fits: true,
+                };
+            }
+            kept.list[k as usize] = part(area, 0, to);
+            kept.count = k + 1;
+        }
         Packed {
-            areas: areas,
+            areas: kept,
             fits: true,
         }
     }
 
-    // One page more.
-    fn push(self, page: PageNo, slot: Slot) -> Self
-        requires { ⌜ self .areas .count ≤ 8 ⌝ }
-        requires { ⌜ page .0 < PageCount ⌝ }
-        ensures { λ r. ⌜ r ≡ push self (page .0) slot ⌝ }
+    // What a change makes of the pages from one page to another, put behind what is packed.
+    fn with_change(self, areas: Areas, from: u8, to: u8, change: Change) -> Self
+        requires { ⌜ Formed areas ⌝ }
+        requires { ⌜ Ready self from ⌝ }
+        requires { ⌜ from ≤ to ⌝ }
+        requires { ⌜ to ≤ PageCount ⌝ }
+        ensures { λ r. ⌜ r ≡ packOn self (λ i. changeAt change (i - from) (slots areas i)) from (to - from) ⌝ }
     {
-        let Slot::Mapped(t) = slot else {
+        match change {
+            Change::Map(t) => self.with_area(area_from(from, to - from, t)),
+            Change::Unmap => self,
+            Change::Protect(rights) => self.with_parts(areas, from, to, Turn::Rights(rights)),
+            Change::Commit => self.with_parts(areas, from, to, Turn::Commit),
+        }
+    }
+
+    // What becomes of the pages from one page to another, put behind what is packed: the part of each area that lies there.
+    fn with_parts(self, areas: Areas, from: u8, to: u8, turn: Turn) -> Self
+        requires { ⌜ Formed areas ⌝ }
+        requires { ⌜ Ready self from ⌝ }
+        requires { ⌜ from ≤ to ⌝ }
+        requires { ⌜ to ≤ PageCount ⌝ }
+        ensures { λ r. ⌜ r ≡ packOn self (λ i. turned turn (slots areas i)) from (to - from) ⌝ }
+    {
+        let mut packed = self;
+        for k in 0..areas.count {
+            let area = areas.list[k as usize];
+            // What is packed is copied only where there is something to add.
+            if reaches(area, from, to) {
+                packed = packed.with_area(turn.area(part(area, from, to)));
+            }
+        }
+        packed
+    }
+
+    // One area more; one of no pages changes nothing.
+    fn with_area(self, area: Area) -> Self
+        requires { ⌜ self .areas .count ≤ 8 ⌝ }
+        requires { ⌜ area .first .0 + area .pages ≤ PageCount ⌝ }
+        ensures { λ r. ⌜ r ≡ pushArea self area ⌝ }
+    {
+        if area.pages == 0 {
             return self;
-        };
+        }
         let areas = self.areas;
-        if continues(areas, page, t) {
+        if continues(areas, area) {
             return Packed {
-                areas: extended(areas),
+                areas: extended(areas, area.pages),
                 fits: self.fits,
             };
         }
         if (areas.count as usize) < Area::MOST {
             return Packed {
-                areas: added(areas, page, t),
+                areas: placed(areas, area),
                 fits: self.fits,
             };
         }
@@ -133,59 +133,54 @@ impl Packed {
     }
 }
 
-impl Change {
-    // What the change makes of a page.
-    fn slot(self, first: PageNo, n: u8, page: PageNo, old: Slot) -> Slot
-        requires { ⌜ changeStart self ≤ PageCount ⌝ }
-        requires { ⌜ page .0 < PageCount ⌝ }
-        ensures { λ r. ⌜ r ≡ changeTo (first .0) n self (page .0) old ⌝ }
-    {
-        if is_inside(first, n, page) {
-            self.at(page.0 - first.0, old)
-        } else {
-            old
-        }
-    }
-
-    // What the change makes of a page that is so many pages after its first.
-    fn at(self, pages: u8, old: Slot) -> Slot
-        requires { ⌜ changeStart self ≤ PageCount ⌝ }
-        requires { ⌜ pages < PageCount ⌝ }
-        ensures { λ r. ⌜ r ≡ changeAt self pages old ⌝ }
-    {
-        match self {
-            Change::Map(first) => page_on(first, pages),
-            Change::Unmap => Slot::Unmapped,
-            Change::Protect(rights) => with_rights(old, rights),
-            Change::Commit => with_committed(old),
-        }
-    }
-}
-
-// The area of one page.
-fn single(page: PageNo, t: Attributes) -> Area
-    ensures { λ r. ⌜ r ≡ single (page .0) t ⌝ }
+// Whether an area goes on where the last one ends.
+fn continues(areas: Areas, area: Area) -> bool
+    requires { ⌜ areas .count ≤ 8 ⌝ }
+    ensures { λ r. ⌜ r ≡ continues areas (area .first .0) (attributesOf area) ⌝ }
 {
-    let backing = t.backing;
-    Area {
-        first: page,
-        pages: 1,
-        rights: t.rights,
-        committed: t.committed,
-        backing: backing,
+    if areas.count == 0 {
+        return false;
     }
+    let k = areas.count as usize - 1;
+    let last = areas.list[k];
+    let first = area.first;
+    last.goes_on(first, area.attributes())
 }
 
-// The area with one page more at its end.
-fn longer(area: Area) -> Area
-    requires { ⌜ area .pages < PageCount ⌝ }
-    ensures { λ r. ⌜ r ≡ longer area ⌝ }
+// The last area made longer by so many pages.
+fn extended(mut areas: Areas, pages: u8) -> Areas
+    requires { ⌜ 0 < areas .count ⌝ }
+    requires { ⌜ areas .count ≤ 8 ⌝ }
+    requires { ⌜ last areas .pages + pages ≤ PageCount ⌝ }
+    ensures { λ r. ⌜ r ≡ extendedBy areas pages ⌝ }
+{
+    let k = areas.count as usize - 1;
+    let last = areas.list[k];
+    areas.list[k] = longer(last, pages);
+    areas
+}
+
+// An area put behind the last.
+fn placed(mut areas: Areas, area: Area) -> Areas
+    requires { ⌜ areas .count < 8 ⌝ }
+    ensures { λ r. ⌜ r ≡ placed areas area ⌝ }
+{
+    let k = areas.count as usize;
+    areas.list[k] = area;
+    areas.count = areas.count + 1;
+    areas
+}
+
+// The area with so many pages more at its end.
+fn longer(area: Area, pages: u8) -> Area
+    requires { ⌜ area .pages + pages ≤ PageCount ⌝ }
+    ensures { λ r. ⌜ r ≡ longerBy area pages ⌝ }
 {
     let first = area.first;
     let backing = area.backing;
     Area {
         first: first,
-        pages: area.pages + 1,
+        pages: area.pages + pages,
         rights: area.rights,
         committed: area.committed,
         backing: backing,

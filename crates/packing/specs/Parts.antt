@@ -1,0 +1,84 @@
+-- Packing by areas in place of pages: the words of the code's contracts. No claim cites them, and proofs/RunLaws says that they come to the same.
+use Prim.Native.Nat.{ℕ, zero, suc, _+_, _-_, _≤_, _<_, min, max}
+use mathlib.Core.Path.{_≡_}
+use mathlib.Core.Bool.{true, false}
+use lib.Dec.{ltb, eqb}
+use lib.ListN.{length, set}
+use Rattle.basics.specs.Choice.{_when_else_}
+use Rattle.interface.specs.declared.page.Attributes.{Attributes}
+use Rattle.interface.specs.declared.page.Slot.{Slot}
+use Rattle.interface.specs.declared.page.Slot.the-variants.{Unmapped, Mapped}
+use Rattle.interface.specs.Slots.{Slots, advance}
+use Rattle.areas.specs.declared.area.Area.{Area}
+use Rattle.areas.specs.declared.area.Areas.{Areas}
+use Rattle.areas.specs.Areas.{attributesOf}
+use Rattle.packing.specs.declared.pack.Packed.{Packed}
+use Rattle.packing.specs.declared.part.Turn.{Turn}
+use Rattle.packing.specs.declared.part.Turn.the-variants.{Keep, Rights, Commit}
+use Rattle.packing.specs.Pack.{last, continues, push}
+
+-- n pages from a page on pushed from left to right
+unfoldable pub packOn : Packed → Slots → ℕ → ℕ → Packed
+packOn b f from zero = b
+packOn b f from (suc n) = push (packOn b f from n) (from + n) (f (from + n))
+
+-- what is packed ends at this page or before
+pub record Ready (b : Packed) (page : ℕ) : Type 0 where
+  pub eight : length (b .areas .list) ≡ 8
+  pub few : b .areas .count ≤ 8
+  pub end : 0 < b .areas .count → last (b .areas) .first .0 + last (b .areas) .pages ≤ page
+
+-- ---- an area pushed
+
+-- the area of n pages from this page on, the first of them with these attributes
+abbrev pub areaFrom : ℕ → ℕ → Attributes → Area
+areaFrom page n t = record { first = record { 0 = page }; pages = n; rights = t .rights; committed = t .committed; backing = t .backing }
+
+-- the area with n pages more at its end
+abbrev pub longerBy : Area → ℕ → Area
+longerBy a n = record { first = a .first; pages = a .pages + n; rights = a .rights; committed = a .committed; backing = a .backing }
+
+-- the last area made longer
+abbrev pub extendedBy : Areas → ℕ → Areas
+extendedBy s n = record { count = s .count; list = set (s .list) (s .count - 1) (longerBy (last s) n) }
+
+-- an area put behind the last
+abbrev pub placed : Areas → Area → Areas
+placed s a = record { count = s .count + 1; list = set (s .list) (s .count) a }
+
+-- an area more: one of no pages changes nothing; it goes on where the last area ends, or is put behind it, or finds no place
+unfoldable pub pushArea : Packed → Area → Packed
+pushArea b a =
+    b when eqb (a .pages) 0 else
+    record { areas = extendedBy (b .areas) (a .pages); fits = b .fits } when continues (b .areas) (a .first .0) (attributesOf a) else
+    record { areas = placed (b .areas) a; fits = b .fits } when ltb (b .areas .count) 8 else
+    record { areas = b .areas; fits = false }
+
+-- ---- a part of an area
+
+-- the part of an area between two pages: it may have no page
+abbrev pub partOf : Area → ℕ → ℕ → Area
+partOf a from to =
+    let page = max (a .first .0) from in
+    record {
+      first = record { 0 = page };
+      pages = min (a .first .0 + a .pages) to - page;
+      rights = a .rights;
+      committed = a .committed;
+      backing = advance (a .backing) (page - a .first .0);
+    }
+
+-- what becomes of a mapped page
+abbrev pub turnedTo : Turn → Attributes → Attributes
+turnedTo Keep t = t
+turnedTo (Rights r) t = record { rights = r; committed = t .committed; backing = t .backing }
+turnedTo Commit t = record { rights = t .rights; committed = true; backing = t .backing }
+
+-- what becomes of a page
+abbrev pub turned : Turn → Slot → Slot
+turned turn Unmapped = Unmapped
+turned turn (Mapped t) = Mapped (turnedTo turn t)
+
+-- what becomes of an area
+abbrev pub turnedArea : Turn → Area → Area
+turnedArea turn a = areaFrom (a .first .0) (a .pages) (turnedTo turn (attributesOf a))
