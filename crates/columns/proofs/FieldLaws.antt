@@ -25,7 +25,7 @@ pub record Read (shown : ℕ → ℕ) (before : Field) (byte n : ℕ) : Type 0 w
 never {ℓ} : {R : Type ℓ} (n : ℕ) → Bad ≡ Number n → R
 never n e = let z : _≡_ {A = ℕ} 0 1 = cc in absurd (omega arith)
 
-number-same : (n m : ℕ) → Number n ≡ Number m → n ≡ m
+pub number-same : (n m : ℕ) → Number n ≡ Number m → n ≡ m
 number-same n m e = cc
 
 -- a line of a table that was passed by
