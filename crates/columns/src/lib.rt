@@ -38,14 +38,20 @@ pub fn read_field(part: &[u8]) -> Field
     requires { ⌜ length (now part) ≡ 6 ⌝ }
     ensures { λ r. ⌜ r ≡ fieldOf (now (part .entry)) ⌝ }
 {
-    let n = read_number(part);
+    as_field(read_number(part))
+}
+
+// What a number that was read stands for: above 65,535 for none.
+pub fn as_field(n: u32) -> Field
+    ensures { λ r. ⌜ r ≡ asField n ⌝ }
+{
     if n > Field::MOST {
         return Field::Bad;
     }
     Field::Number(n as u16)
 }
 
-// The same as a number: the columns are passed over to the first that is no blank, and from there on digits are read.
+// Reads 6 columns as a number: they are passed over to the first that is no blank, and from there on digits are read.
 pub fn read_number(part: &[u8]) -> u32
     requires { ⌜ length (now part) ≡ 6 ⌝ }
     ensures { λ r. ⌜ asField r ≡ fieldOf (now (part .entry)) ⌝ }

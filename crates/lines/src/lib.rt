@@ -9,6 +9,7 @@ ghost use Rattle.columns.specs.Sizes.{LineBytes};
 ghost use Rattle.columns.specs.Fields.{asField};
 ghost use Rattle.lines.specs.Lines.{fieldAt, parsed, linesOf, lineAt};
 use columns::Field;
+use columns::as_field;
 use columns::five_blanks;
 use columns::read_field;
 use columns::read_number;
@@ -78,7 +79,7 @@ pub fn parse(line: &[u8]) -> Line
     if sandbox > Field::MOST {
         return Line::Malformed;
     }
-    // p1 is most often an address of several digits, and so is read with no test for one digit.
+    // p1 is read as a field, so that `read_number` has two callers: then it is compiled apart from both, and not into each.
     let address = field_at(line, Line::P1);
     let Field::Number(p1) = address else {
         return Line::Malformed;
@@ -132,17 +133,20 @@ pub fn line_at(roll: &[u8], line: usize) -> Line
     parse(&roll[at..end])
 }
 
-// What a field of the line says, from 0 on.
+// What a field of the line says, from 0 on. Most often it has one digit, behind five blanks.
 fn field_at(line: &[u8], k: usize) -> Field
     requires { ⌜ (length (now line) ≡ LineBytes) × (k < 7) ⌝ }
     ensures { λ r. ⌜ r ≡ fieldAt (now (line .entry)) k ⌝ }
 {
     let at = k * Line::FIELD;
     let end = at + Line::FIELD;
+    if five_blanks(line, at) {
+        return as_field(with_digit(0, line[at + Line::LAST_COLUMN]));
+    }
     read_field(&line[at..end])
 }
 
-// The same as a number, above 65,535 where the field says none. Most often it is a digit behind five blanks.
+// The same as a number, above 65,535 where the field says none.
 fn number_at(line: &[u8], k: usize) -> u32
     requires { ⌜ (length (now line) ≡ LineBytes) × (k < 7) ⌝ }
     ensures { λ r. ⌜ asField r ≡ fieldAt (now (line .entry)) k ⌝ }
