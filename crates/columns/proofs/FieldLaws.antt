@@ -25,7 +25,7 @@ pub record Read (shown : ℕ → ℕ) (before : Field) (byte n : ℕ) : Type 0 w
 never {ℓ} : {R : Type ℓ} (n : ℕ) → Bad ≡ Number n → R
 never n e = let z : _≡_ {A = ℕ} 0 1 = cc in absurd (omega arith)
 
-number-same : (n m : ℕ) → Number n ≡ Number m → n ≡ m
+pub number-same : (n m : ℕ) → Number n ≡ Number m → n ≡ m
 number-same n m e = cc
 
 -- a line of a table that was passed by
@@ -53,7 +53,7 @@ digit-says n h =
     let e : n / 10 * 10 + (lastDigit n - 48) ≡ n = omega arith in
     rw (le-ltb (lastDigit n) 48 (omega arith), le-ltb 57 (lastDigit n) (omega arith), e, le-ltb 65535 n h)
 
-column-shown : (n : ℕ) → 0 < n → column n ≡ lastDigit n
+pub column-shown : (n : ℕ) → 0 < n → column n ≡ lastDigit n
 column-shown n h = rw (ne-eqb n 0 (λ e. omega arith))
 
 -- a digit read in a column that is not the last, and not as a leading zero

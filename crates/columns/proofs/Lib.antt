@@ -1,3 +1,4 @@
 pub mod PrintLaws
 pub mod FieldLaws
+pub mod ReadLaws
 pub mod Examples

@@ -2,8 +2,9 @@
 // It promises that a number has one accepted form: what 6 columns say is the number whose print they are, and every number's print is taken (proofs/FieldLaws).
 // It stands on `interface` for the numbers of a request, and on `basics`.
 ghost use mathlib.Core.Path.{_≡_};
-ghost use lib.ListN.{length};
-ghost use Rattle.columns.specs.Fields.{withDigit, withColumn, fieldOf, isNumber, numberIn};
+ghost use Prim.Native.Nat.{_+_, _≤_, _<_};
+ghost use lib.ListN.{length, getD};
+ghost use Rattle.columns.specs.Fields.{withDigit, columnsRead, fieldOf, asField, blanks};
 
 // What 6 columns say: a number, or none.
 pub enum Field {
@@ -19,78 +20,106 @@ impl Field {
 
     pub const RADIX: u32 = 10;
     // "a number 0 to 65,535"
-    const MOST: u32 = 65_535;
+    pub const MOST: u32 = 65_535;
+    // A number above it is read where a field says none.
+    const NONE: u32 = 65_536;
+    // The digit 0 in ASCII
+    const ZERO: u32 = 48;
+    // How many numbers a byte has, and two bytes together; four blanks as one number, the first byte the lowest
+    const BYTE: u32 = 256;
+
+    const TWO_BYTES: u32 = 65_536;
+
+    const FOUR_BLANKS: u32 = 538_976_288;
 }
 
-// Whether a field says a number.
-pub fn is_number(field: Field) -> bool
-    ensures { λ r. ⌜ r ≡ isNumber field ⌝ }
-{
-    match field {
-        Field::Number(_) => true,
-        Field::Bad => false,
-    }
-}
-
-// The number that a field says.
-pub fn number_in(field: Field) -> u16
-    ensures { λ r. ⌜ r ≡ numberIn field ⌝ }
-{
-    match field {
-        Field::Number(n) => n,
-        Field::Bad => 0,
-    }
-}
-
-// Reads 6 columns from left to right.
+// Reads 6 columns.
 pub fn read_field(part: &[u8]) -> Field
     requires { ⌜ length (now part) ≡ 6 ⌝ }
     ensures { λ r. ⌜ r ≡ fieldOf (now (part .entry)) ⌝ }
 {
-    let mut read = Field::Number(0);
-    let mut i = 0;
+    as_field(read_number(part))
+}
+
+// What a number that was read stands for: above 65,535 for none.
+pub fn as_field(n: u32) -> Field
+    ensures { λ r. ⌜ r ≡ asField n ⌝ }
+{
+    if n > Field::MOST {
+        return Field::Bad;
+    }
+    Field::Number(n as u16)
+}
+
+// Reads 6 columns as a number: they are passed over to the first that is no blank, and from there on digits are read.
+pub fn read_number(part: &[u8]) -> u32
+    requires { ⌜ length (now part) ≡ 6 ⌝ }
+    ensures { λ r. ⌜ asField r ≡ fieldOf (now (part .entry)) ⌝ }
+{
+    if part[0] != b' ' {
+        return digits_from(part, 0);
+    }
+    if part[1] != b' ' {
+        return digits_from(part, 1);
+    }
+    if part[2] != b' ' {
+        return digits_from(part, 2);
+    }
+    if part[3] != b' ' {
+        return digits_from(part, 3);
+    }
+    if part[4] != b' ' {
+        return digits_from(part, 4);
+    }
+    with_digit(0, part[Field::LAST_COLUMN])
+}
+
+// Whether the five bytes from a place on are blanks, as where a field has one digit: the first four are compared as one number.
+pub fn five_blanks(text: &[u8], at: usize) -> bool
+    requires { ⌜ at + 5 ≤ length (now text) ⌝ }
+    ensures { λ r. ⌜ r ≡ blanks (now (text .entry)) at 5 ⌝ }
+{
+    let low = wide(text[at]) + wide(text[at + 1]) * Field::BYTE;
+    let high = wide(text[at + 2]) + wide(text[at + 3]) * Field::BYTE;
+    (low + high * Field::TWO_BYTES == Field::FOUR_BLANKS) & (text[at + 4] == b' ')
+}
+
+// A byte as a number with room for four.
+fn wide(byte: u8) -> u32
+    ensures { λ r. ⌜ (r ≡ byte) × (r < 256) ⌝ }
+{
+    byte as u32
+}
+
+// The digits from the first column that is no blank. It is not the last, and so has no 0.
+fn digits_from(part: &[u8], first: usize) -> u32
+    requires { ⌜ (length (now part) ≡ 6) × (first < 5) ⌝ }
+    requires { ⌜ (columnsRead (now part) first ≡ Field.Number 0) × (getD (now part) first 0 ≡ 32 → ⊥) ⌝ }
+    ensures { λ r. ⌜ asField r ≡ fieldOf (now (part .entry)) ⌝ }
+{
+    if part[first] == b'0' {
+        return Field::NONE;
+    }
+    let mut n: u32 = 0;
+    let mut i = first;
     while i < Field::LAST_COLUMN {
-        read = with_column(read, part[i]);
+        n = with_digit(n, part[i]);
+        if n > Field::MOST {
+            return Field::NONE;
+        }
         i += 1;
     }
-    with_digit(read, part[Field::LAST_COLUMN])
+    with_digit(n, part[Field::LAST_COLUMN])
 }
 
-// What is read with one more column that is not the last: before the first digit a blank, or a digit that is not 0.
-fn with_column(read: Field, byte: u8) -> Field
-    ensures { λ r. ⌜ r ≡ withColumn read byte ⌝ }
+// A number with one more column, which has a digit. The byte is compared once: below "0" the difference wraps, and is above 9 too.
+pub fn with_digit(n: u32, byte: u8) -> u32
+    requires { ⌜ n ≤ 65535 ⌝ }
+    ensures { λ r. ⌜ asField r ≡ withDigit (Field.Number n) byte ⌝ }
 {
-    let Field::Number(n) = read else {
-        return Field::Bad;
-    };
-    if n > 0 {
-        return with_digit(read, byte);
+    let digit = std::num::wrapping_sub_u32(byte as u32, Field::ZERO);
+    if digit >= Field::RADIX {
+        return Field::NONE;
     }
-    if byte == b' ' {
-        return Field::Number(0);
-    }
-    if byte == b'0' {
-        return Field::Bad;
-    }
-    with_digit(read, byte)
-}
-
-// What is read with one more column, which has a digit: at most 65,535.
-fn with_digit(read: Field, byte: u8) -> Field
-    ensures { λ r. ⌜ r ≡ withDigit read byte ⌝ }
-{
-    let Field::Number(n) = read else {
-        return Field::Bad;
-    };
-    if byte < b'0' {
-        return Field::Bad;
-    }
-    if byte > b'9' {
-        return Field::Bad;
-    }
-    let more = n as u32 * Field::RADIX + (byte - b'0') as u32;
-    if more > Field::MOST {
-        return Field::Bad;
-    }
-    Field::Number(more as u16)
+    n * Field::RADIX + digit
 }

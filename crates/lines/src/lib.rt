@@ -6,11 +6,14 @@ ghost use mathlib.Core.Path.{_≡_};
 ghost use Prim.Native.Nat.{_+_, _*_, _≤_, _<_};
 ghost use lib.ListN.{length};
 ghost use Rattle.columns.specs.Sizes.{LineBytes};
+ghost use Rattle.columns.specs.Fields.{asField};
 ghost use Rattle.lines.specs.Lines.{fieldAt, parsed, linesOf, lineAt};
 use columns::Field;
-use columns::is_number;
-use columns::number_in;
+use columns::as_field;
+use columns::five_blanks;
 use columns::read_field;
+use columns::read_number;
+use columns::with_digit;
 use interface::Request;
 
 // What a line of the roll says: a call, or nothing.
@@ -65,27 +68,46 @@ pub fn parse(line: &[u8]) -> Line
     if line.len() != Line::BYTES {
         return Line::Malformed;
     }
-    let code = field_at(line, Line::CODE);
-    let sandbox = field_at(line, Line::SANDBOX);
-    let p1 = field_at(line, Line::P1);
-    let p2 = field_at(line, Line::P2);
-    let p3 = field_at(line, Line::P3);
-    let p4 = field_at(line, Line::P4);
-    let p5 = field_at(line, Line::P5);
-    let last = is_number(p4) & is_number(p5);
-    let middle = is_number(p1) & (is_number(p2) & (is_number(p3) & last));
-    let numbers = is_number(code) & (is_number(sandbox) & middle);
-    if !((line[Line::FEED] == b'\n') & numbers) {
+    if line[Line::FEED] != b'\n' {
+        return Line::Malformed;
+    }
+    let code = number_at(line, Line::CODE);
+    if code > Field::MOST {
+        return Line::Malformed;
+    }
+    let sandbox = number_at(line, Line::SANDBOX);
+    if sandbox > Field::MOST {
+        return Line::Malformed;
+    }
+    // p1 is read as a field, so that `read_number` has two callers: then it is compiled apart from both, and not into each.
+    let address = field_at(line, Line::P1);
+    let Field::Number(p1) = address else {
+        return Line::Malformed;
+    };
+    let p2 = number_at(line, Line::P2);
+    if p2 > Field::MOST {
+        return Line::Malformed;
+    }
+    let p3 = number_at(line, Line::P3);
+    if p3 > Field::MOST {
+        return Line::Malformed;
+    }
+    let p4 = number_at(line, Line::P4);
+    if p4 > Field::MOST {
+        return Line::Malformed;
+    }
+    let p5 = number_at(line, Line::P5);
+    if p5 > Field::MOST {
         return Line::Malformed;
     }
     Line::Call(Request {
-        code: number_in(code),
-        sandbox: number_in(sandbox),
-        p1: number_in(p1),
-        p2: number_in(p2),
-        p3: number_in(p3),
-        p4: number_in(p4),
-        p5: number_in(p5),
+        code: code as u16,
+        sandbox: sandbox as u16,
+        p1: p1,
+        p2: p2 as u16,
+        p3: p3 as u16,
+        p4: p4 as u16,
+        p5: p5 as u16,
     })
 }
 
@@ -111,12 +133,28 @@ pub fn line_at(roll: &[u8], line: usize) -> Line
     parse(&roll[at..end])
 }
 
-// What a field of the line says, from 0 on.
+// What a field of the line says, from 0 on. Most often it has one digit, behind five blanks.
 fn field_at(line: &[u8], k: usize) -> Field
     requires { ⌜ (length (now line) ≡ LineBytes) × (k < 7) ⌝ }
     ensures { λ r. ⌜ r ≡ fieldAt (now (line .entry)) k ⌝ }
 {
     let at = k * Line::FIELD;
     let end = at + Line::FIELD;
+    if five_blanks(line, at) {
+        return as_field(with_digit(0, line[at + Line::LAST_COLUMN]));
+    }
     read_field(&line[at..end])
+}
+
+// The same as a number, above 65,535 where the field says none.
+fn number_at(line: &[u8], k: usize) -> u32
+    requires { ⌜ (length (now line) ≡ LineBytes) × (k < 7) ⌝ }
+    ensures { λ r. ⌜ asField r ≡ fieldAt (now (line .entry)) k ⌝ }
+{
+    let at = k * Line::FIELD;
+    let end = at + Line::FIELD;
+    if five_blanks(line, at) {
+        return with_digit(0, line[at + Line::LAST_COLUMN]);
+    }
+    read_number(&line[at..end])
 }

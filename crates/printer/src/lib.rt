@@ -2,10 +2,10 @@
 // It promises that what is printed is the line that `lines` defines, for a reply and for a request, and so the one form of a request that the parser takes.
 // It stands on `lines` for what a line has in its columns, and on `pages` for a part of a list.
 ghost use mathlib.Core.Path.{_≡_};
-ghost use Prim.Native.Nat.{_+_, _*_, _≤_};
+ghost use Prim.Native.Nat.{_+_, _*_, _≤_, _<_};
 ghost use lib.ListN.{length};
 ghost use Rattle.pages.specs.Parts.{setPart};
-ghost use Rattle.columns.specs.Prints.{lastDigit, column, printedField, printedRequest, printedReply};
+ghost use Rattle.columns.specs.Prints.{columns, printedField, printedRequest, printedReply};
 ghost use Rattle.columns.specs.Sizes.{LineBytes, ReplyBytes};
 use interface::Request;
 use lines::Line;
@@ -54,29 +54,39 @@ fn print_field(out: &mut [u8], n: u32)
     requires { ⌜ n ≤ 999999 ⌝ }
     ensures { λ _. ⌜ now (out .exit) ≡ printedField n ⌝ }
 {
-    out[Line::LAST_COLUMN] = digit(n);
-    let mut rest = n / Line::RADIX;
-    let mut i = Line::LAST_COLUMN;
-    while i > 0 {
+    blank(out);
+    if n < Line::RADIX {
+        out[Line::LAST_COLUMN] = b'0' + n as u8;
+        return;
+    }
+    print_digits(out, n);
+}
+
+// Six blanks.
+fn blank(out: &mut [u8])
+    requires { ⌜ length (now out) ≡ 6 ⌝ }
+    ensures { λ _. ⌜ now (out .exit) ≡ columns 6 0 ⌝ }
+{
+    out[0] = b' ';
+    out[1] = b' ';
+    out[2] = b' ';
+    out[3] = b' ';
+    out[4] = b' ';
+    out[5] = b' ';
+}
+
+// Prints the digits of a number over six blanks, from the last to the first.
+fn print_digits(out: &mut [u8], n: u32)
+    requires { ⌜ now out ≡ columns 6 0 ⌝ }
+    requires { ⌜ (0 < n) × (n ≤ 999999) ⌝ }
+    ensures { λ _. ⌜ now (out .exit) ≡ printedField n ⌝ }
+{
+    let mut rest = n;
+    let mut i = Line::FIELD;
+    while rest > 0 {
+        let next = rest / Line::RADIX;
         i -= 1;
-        out[i] = column_of(rest);
-        rest /= Line::RADIX;
+        out[i] = b'0' + (rest - next * Line::RADIX) as u8;
+        rest = next;
     }
-}
-
-// The last digit of a number, in ASCII.
-fn digit(n: u32) -> u8
-    ensures { λ r. ⌜ r ≡ lastDigit n ⌝ }
-{
-    b'0' + (n % Line::RADIX) as u8
-}
-
-// What stands in a column that is not the last: a digit, or a blank where no digit is left.
-fn column_of(rest: u32) -> u8
-    ensures { λ r. ⌜ r ≡ column rest ⌝ }
-{
-    if rest == 0 {
-        return b' ';
-    }
-    digit(rest)
 }

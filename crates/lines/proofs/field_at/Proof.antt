@@ -1,8 +1,10 @@
--- A field is the part of its six columns read: the part's length is that of a field.
+-- A field: behind five blanks its one digit (`short-at`), and else the part of its six columns read.
 use Prim.Native.Nat.{_*_}
+use mathlib.Core.Path.{sym, _∙_}
 use native.Mathlib.Nat.{add-sub-cancel-left}
-use borrow.Author.Needs.{needs}
 use Rattle.lines.specs.Lines.{fieldAt}
+use Rattle.lines.proofs.LineLaws.{short-at}
+use borrow.Author.Needs.{needs}
 use Rattle.lines.proofs.field_at.Statement.{statement}
 use Rattle.lines.proofs.field_at.Tie as tie
 
@@ -11,6 +13,28 @@ mul-at c = search needs
 
 add-end : tie.Need-add-end
 add-end c = search needs
+
+five-blanks-requires : tie.Need-five-blanks-requires
+five-blanks-requires c κs = search needs
+
+add-with-digit : tie.Need-add-with-digit
+add-with-digit c = search needs
+
+shared-slice-read-with-digit : tie.Need-shared-slice-read-with-digit
+shared-slice-read-with-digit c = search needs
+
+with-digit-requires : tie.Need-with-digit-requires
+with-digit-requires c κs = search needs
+
+as-field-requires : tie.Need-as-field-requires
+as-field-requires c κs = search needs
+
+returns : tie.Need-returns
+returns c =
+    let tested = c .before .before .before .before in
+    let a = tested .before .before .args in
+    let blank = sym (tested .five-blanks .ensures) ∙ c .before .before .before .if1 .taken in
+    c .as-field .ensures ∙ c .before .with-digit .ensures ∙ short-at (a .line .now) (a .k) blank
 
 sub-read-field : tie.Need-sub-read-field
 sub-read-field c = search needs
@@ -24,9 +48,9 @@ part-read-field-end c = search needs
 read-field-requires : tie.Need-read-field-requires
 read-field-requires c κs = search needs
 
-returns : tie.Need-returns
+returns-2 : tie.Need-returns-2
 unfolding fieldAt
-returns c = rw (c .read-field .ensures, add-sub-cancel-left (c .before .before .before .args .k * 6) 6)
+returns-2 c = rw (c .read-field .ensures, add-sub-cancel-left (c .before .before .before .before .before .args .k * 6) 6)
 
 pub field-at-spec : {M : Type 1} → statement M
 field-at-spec =
@@ -34,8 +58,14 @@ field-at-spec =
     (tie.spec
     mul-at
     add-end
+    five-blanks-requires
+    add-with-digit
+    shared-slice-read-with-digit
+    with-digit-requires
+    as-field-requires
+    returns
     sub-read-field
     part-read-field-start
     part-read-field-end
     read-field-requires
-    returns)
+    returns-2)

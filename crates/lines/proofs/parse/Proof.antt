@@ -1,171 +1,171 @@
--- A line parsed: its length is tested, the seven fields are read, and the tests that they say numbers are the test of the line's form.
+-- A line parsed: its length and its line feed are tested, then each field is read, and a line without one of its numbers is malformed at once.
 use Prim.Native.Nat.{ℕ}
-use mathlib.Core.Path.{_≡_, sym, ap, _∙_}
-use mathlib.Core.Bool.{Bool, _&&_}
+use mathlib.Core.Path.{sym, _∙_}
 use mathlib.Core.List.{List}
-use lib.Dec.{eqb}
-use lib.ListN.{getD}
-use borrow.Author.Tests.{ne-eqb, not-true, not-false}
+use native.Mathlib.Omega.{arith}
+use borrow.Author.Tests.{ne-eqb}
 use borrow.Author.Needs.{needs}
-use Rattle.columns.specs.Fields.{isNumber, numberIn}
-use Rattle.lines.specs.Lines.{wellFormed, parsed}
-use Rattle.lines.proofs.LineLaws.{formed-by-fields, parsed-call}
+use Rattle.columns.specs.declared.Field.{Field}
+use Rattle.columns.proofs.ReadLaws.{some-read}
+use Rattle.lines.specs.Lines.{fieldAt, wellFormed, parsed}
+use Rattle.lines.proofs.LineLaws.{parsed-call, feed-missing, field-missing, number-missing}
 use Rattle.lines.proofs.parse.Statement.{statement}
 use Rattle.lines.proofs.parse.Tie as tie
+
+-- where the line feed has been seen, where p1 has been read, and the places behind it
+abbrev line : tie.Else2 → List ℕ
+line c = c .before .before .before .before .args .line .now
+
+abbrev begun : tie.After-field-at → tie.Else2
+begun c = c .before .before .before .before .before
+
+abbrev address-read : tie.After-known-told → tie.After-field-at
+address-read c = c .before .before .before
+
+abbrev behind-p2 : tie.Else5 → tie.Else2
+behind-p2 c = begun (address-read (c .before .before))
+
+abbrev behind-p3 : tie.Else6 → tie.Else2
+behind-p3 c = behind-p2 (c .before .before)
+
+abbrev behind-p4 : tie.Else7 → tie.Else2
+behind-p4 c = behind-p3 (c .before .before)
 
 returns : tie.Need-returns
 unfolding parsed wellFormed
 returns c = simp (ne-eqb _ _ (c .if1 .taken))
 
-field-at-requires : tie.Need-field-at-requires
-field-at-requires c κs = search needs
-
-field-at-requires-2 : tie.Need-field-at-requires-2
-field-at-requires-2 c κs = search needs
-
-field-at-requires-3 : tie.Need-field-at-requires-3
-field-at-requires-3 c κs = search needs
-
-field-at-requires-4 : tie.Need-field-at-requires-4
-field-at-requires-4 c κs = search needs
-
-field-at-requires-5 : tie.Need-field-at-requires-5
-field-at-requires-5 c κs = search needs
-
-field-at-requires-6 : tie.Need-field-at-requires-6
-field-at-requires-6 c κs = search needs
-
-field-at-requires-7 : tie.Need-field-at-requires-7
-field-at-requires-7 c κs = search needs
-
-is-number-requires : tie.Need-is-number-requires
-is-number-requires c κs = search needs
-
-is-number-requires-2 : tie.Need-is-number-requires-2
-is-number-requires-2 c κs = search needs
-
-is-number-requires-3 : tie.Need-is-number-requires-3
-is-number-requires-3 c κs = search needs
-
-is-number-requires-4 : tie.Need-is-number-requires-4
-is-number-requires-4 c κs = search needs
-
-is-number-requires-5 : tie.Need-is-number-requires-5
-is-number-requires-5 c κs = search needs
-
-is-number-requires-6 : tie.Need-is-number-requires-6
-is-number-requires-6 c κs = search needs
-
-is-number-requires-7 : tie.Need-is-number-requires-7
-is-number-requires-7 c κs = search needs
-
 shared-slice-read-if2 : tie.Need-shared-slice-read-if2
 shared-slice-read-if2 c = search needs
 
--- where each field has been read, and what the first tests have told before that
-abbrev read : tie.After-is-number7 → tie.After-field-at7
-read c = c .before .before .before .before .before .before .before
-
-abbrev whole : tie.After-field-at7 → tie.Else1
-whole c = c .before .before .before .before .before .before .before
-
-abbrev line : tie.After-field-at7 → List ℕ
-line c = whole c .before .before .args .line .now
-
--- what is tested is the line's form: the line feed, the call and the sandbox, then the parameters
-abbrev tested : tie.After-is-number7 → Bool
-tested c =
-    let third = c .before .before in
-    let fifth = third .before .before .before in
-    let rights = third .is-number5 .result && (fifth .before .is-number .result && fifth .is-number2 .result) in
-    let parameters = third .before .before .is-number3 .result && (third .before .is-number4 .result && rights) in
-    eqb (getD (line (read c)) 42 0) 10 && (c .before .is-number6 .result && (c .is-number7 .result && parameters))
-
-formed : (c : tie.After-is-number7) → tested c ≡ wellFormed (line (read c))
-formed c =
-    let third = c .before .before in
-    let fifth = third .before .before .before in
-    let p5 = read c in
-    let p2 = p5 .before .before .before in
-    formed-by-fields (line p5) (whole p5 .if1 .left) (c .before .is-number6 .result) (c .is-number7 .result) (third .before .before .is-number3 .result)
-    (third .before .is-number4 .result) (third .is-number5 .result) (fifth .before .is-number .result) (fifth .is-number2 .result)
-    (c .before .is-number6 .ensures ∙ ap isNumber (p2 .before .before .before .field-at .ensures))
-    (c .is-number7 .ensures ∙ ap isNumber (p2 .before .before .field-at2 .ensures))
-    (third .before .before .is-number3 .ensures ∙ ap isNumber (p2 .before .field-at3 .ensures))
-    (third .before .is-number4 .ensures ∙ ap isNumber (p2 .field-at4 .ensures))
-    (third .is-number5 .ensures ∙ ap isNumber (p5 .before .before .field-at5 .ensures))
-    (fifth .before .is-number .ensures ∙ ap isNumber (p5 .before .field-at6 .ensures))
-    (fifth .is-number2 .ensures ∙ ap isNumber (p5 .field-at7 .ensures))
-
 returns-2 : tie.Need-returns-2
-unfolding parsed
-returns-2 c = simp (sym (formed (c .before .before)) ∙ not-true _ (c .if2 .taken))
+returns-2 c = feed-missing (c .before .before .before .before .args .line .now) (c .before .before .if1 .left) (c .if2 .taken)
 
-number-in-requires : tie.Need-number-in-requires
-number-in-requires c κs = search needs
-
-number-in-requires-2 : tie.Need-number-in-requires-2
-number-in-requires-2 c κs = search needs
-
-number-in-requires-3 : tie.Need-number-in-requires-3
-number-in-requires-3 c κs = search needs
-
-number-in-requires-4 : tie.Need-number-in-requires-4
-number-in-requires-4 c κs = search needs
-
-number-in-requires-5 : tie.Need-number-in-requires-5
-number-in-requires-5 c κs = search needs
-
-number-in-requires-6 : tie.Need-number-in-requires-6
-number-in-requires-6 c κs = search needs
-
-number-in-requires-7 : tie.Need-number-in-requires-7
-number-in-requires-7 c κs = search needs
+number-at-requires : tie.Need-number-at-requires
+number-at-requires c κs = search needs
 
 returns-3 : tie.Need-returns-3
 returns-3 c =
-    let fourth = c .before .before .before in
-    let accepted = fourth .before .before .before .before in
-    let told = accepted .before .before in
-    let p5 = read told in
-    let p2 = p5 .before .before .before in
-    parsed-call (line p5) (sym (formed told) ∙ not-false _ (accepted .if2 .left)) _
-    (λ i. record {
-      code = (fourth .before .before .before .number-in .ensures ∙ ap numberIn (p2 .before .before .before .field-at .ensures)) i;
-      sandbox = (fourth .before .before .number-in2 .ensures ∙ ap numberIn (p2 .before .before .field-at2 .ensures)) i;
-      p1 = (fourth .before .number-in3 .ensures ∙ ap numberIn (p2 .before .field-at3 .ensures)) i;
-      p2 = (fourth .number-in4 .ensures ∙ ap numberIn (p2 .field-at4 .ensures)) i;
-      p3 = (c .before .before .number-in5 .ensures ∙ ap numberIn (p5 .before .before .field-at5 .ensures)) i;
-      p4 = (c .before .number-in6 .ensures ∙ ap numberIn (p5 .before .field-at6 .ensures)) i;
-      p5 = (c .number-in7 .ensures ∙ ap numberIn (p5 .field-at7 .ensures)) i;
-    })
+    let read = c .before .number-at in
+    number-missing (line (c .before .before)) 0 (read .result) (omega arith) (read .ensures) (c .if3 .taken)
+
+number-at-requires-2 : tie.Need-number-at-requires-2
+number-at-requires-2 c κs = search needs
+
+returns-4 : tie.Need-returns-4
+returns-4 c =
+    let read = c .before .number-at2 in
+    number-missing (line (c .before .before .before .before)) 1 (read .result) (omega arith) (read .ensures) (c .if4 .taken)
+
+field-at-requires : tie.Need-field-at-requires
+field-at-requires c κs = search needs
+
+enum-known-address : tie.Need-enum-known-address
+enum-known-address c = search needs
+
+enum-told : tie.Need-enum-told
+enum-told c = search needs
+
+returns-5 : tie.Need-returns-5
+returns-5 c = field-missing (line (begun (c .before .before))) 2 (omega arith) (sym (c .enum-told .given .1) ∙ c .before .before .field-at .ensures)
+
+number-at-requires-3 : tie.Need-number-at-requires-3
+number-at-requires-3 c κs = search needs
+
+returns-6 : tie.Need-returns-6
+returns-6 c =
+    let read = c .before .number-at3 in
+    number-missing (line (begun (address-read (c .before .before)))) 3 (read .result) (omega arith) (read .ensures) (c .if5 .taken)
+
+number-at-requires-4 : tie.Need-number-at-requires-4
+number-at-requires-4 c κs = search needs
+
+returns-7 : tie.Need-returns-7
+returns-7 c =
+    let read = c .before .number-at4 in
+    number-missing (line (behind-p2 (c .before .before))) 4 (read .result) (omega arith) (read .ensures) (c .if6 .taken)
+
+number-at-requires-5 : tie.Need-number-at-requires-5
+number-at-requires-5 c κs = search needs
+
+returns-8 : tie.Need-returns-8
+returns-8 c =
+    let read = c .before .number-at5 in
+    number-missing (line (behind-p3 (c .before .before))) 5 (read .result) (omega arith) (read .ensures) (c .if7 .taken)
+
+number-at-requires-6 : tie.Need-number-at-requires-6
+number-at-requires-6 c κs = search needs
+
+returns-9 : tie.Need-returns-9
+returns-9 c =
+    let read = c .before .number-at6 in
+    number-missing (line (behind-p4 (c .before .before))) 6 (read .result) (omega arith) (read .ensures) (c .if8 .taken)
+
+cast-t14 : tie.Need-cast-t14
+cast-t14 c = search needs
+
+cast-t15 : tie.Need-cast-t15
+cast-t15 c = search needs
+
+cast-t16 : tie.Need-cast-t16
+cast-t16 c = search needs
+
+cast-t17 : tie.Need-cast-t17
+cast-t17 c = search needs
+
+cast-t18 : tie.Need-cast-t18
+cast-t18 c = search needs
+
+cast-t19 : tie.Need-cast-t19
+cast-t19 c = search needs
+
+returns-10 : tie.Need-returns-10
+returns-10 c =
+    let p4 = c .before .before in
+    let p3 = p4 .before .before in
+    let p2 = p3 .before .before in
+    let told = p2 .before .before in
+    let address = address-read told in
+    let sandbox = address .before in
+    let code = sandbox .before .before in
+    let whole = begun address in
+    let says : ℕ → Field = fieldAt (line whole) in
+    parsed-call (line whole) (whole .before .before .if1 .left) (whole .if2 .left) _ _ _ _ _ _ _
+    (some-read (code .before .number-at .result) (says 0) (code .before .number-at .ensures) (code .if3 .left))
+    (some-read (sandbox .before .number-at2 .result) (says 1) (sandbox .before .number-at2 .ensures) (sandbox .if4 .left))
+    (sym (told .before .address .given .1) ∙ address .field-at .ensures)
+    (some-read (p2 .before .number-at3 .result) (says 3) (p2 .before .number-at3 .ensures) (p2 .if5 .left))
+    (some-read (p3 .before .number-at4 .result) (says 4) (p3 .before .number-at4 .ensures) (p3 .if6 .left))
+    (some-read (p4 .before .number-at5 .result) (says 5) (p4 .before .number-at5 .ensures) (p4 .if7 .left))
+    (some-read (c .before .number-at6 .result) (says 6) (c .before .number-at6 .ensures) (c .if8 .left))
 
 pub parse-spec : {M : Type 1} → statement M
 parse-spec =
     tie.close
     (tie.spec
     returns
-    field-at-requires
-    field-at-requires-2
-    field-at-requires-3
-    field-at-requires-4
-    field-at-requires-5
-    field-at-requires-6
-    field-at-requires-7
-    is-number-requires
-    is-number-requires-2
-    is-number-requires-3
-    is-number-requires-4
-    is-number-requires-5
-    is-number-requires-6
-    is-number-requires-7
     shared-slice-read-if2
     returns-2
-    number-in-requires
-    number-in-requires-2
-    number-in-requires-3
-    number-in-requires-4
-    number-in-requires-5
-    number-in-requires-6
-    number-in-requires-7
-    returns-3)
+    number-at-requires
+    returns-3
+    number-at-requires-2
+    returns-4
+    field-at-requires
+    enum-known-address
+    enum-told
+    returns-5
+    number-at-requires-3
+    returns-6
+    number-at-requires-4
+    returns-7
+    number-at-requires-5
+    returns-8
+    number-at-requires-6
+    returns-9
+    cast-t14
+    cast-t15
+    cast-t16
+    cast-t17
+    cast-t18
+    cast-t19
+    returns-10)
