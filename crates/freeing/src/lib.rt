@@ -4,6 +4,5 @@
 // for the number of a page.
 pub mod store;
 
-pub use store::free_front;
 pub use store::free_range;
 pub use store::start;

@@ -8,6 +8,8 @@ ghost use Rattle.table.specs.Store.{kept, frontOf, Ranged, free, freeTo, cleare
 use frames::FrameNo;
 use frames::Held;
 use interface::PageNo;
+use table::entry::GROUP;
+use table::entry::are_empty;
 use table::entry::frame_of;
 use table::entry::front_index;
 
@@ -19,25 +21,6 @@ pub fn start(pool: &mut [u8], table: &mut [u16]) -> Held
     pool::clear_pool(pool);
     clear_table(table);
     Held::none()
-}
-
-// A page's front, if it has one, is freed: its frame is cleared and no longer held.
-pub fn free_front(held: Held, pool: &mut [u8], table: &mut [u16], sandbox: u8, page: PageNo) -> Held
-    requires { ⌜ sandbox < Sandboxes ⌝ }
-    requires { ⌜ page .0 < PageCount ⌝ }
-    requires { ⌜ Ranged PageBytes (now pool) (now table) ⌝ }
-    ensures { λ r. ⌜ kept r (now (pool .exit)) (now (table .exit)) ≡ free PageBytes (frontOf sandbox (page .0))
-        (kept held (now (pool .entry)) (now (table .entry))) ⌝ }
-{
-    let at = front_index(sandbox, page);
-    let entry = table[at];
-    if entry == 0 {
-        return held;
-    }
-    let f = frame_of(entry);
-    table[at] = 0;
-    pool::clear_frame(pool, f);
-    held.without(f)
 }
 
 // The fronts of `n` pages from `first` on are freed.
@@ -55,11 +38,72 @@ pub fn free_range(
     ensures { λ r. ⌜ kept r (now (pool .exit)) (now (table .exit)) ≡ freeTo PageBytes (frontOf sandbox (first .0))
         (kept held (now (pool .entry)) (now (table .entry))) n ⌝ }
 {
+    if n == 0 {
+        return held;
+    }
+    let at = front_index(sandbox, first);
+    free_entries(held, pool, table, at, n)
+}
+
+// The pages of `n` entries from a place on are freed, eight entries looked at together.
+fn free_entries(held: Held, pool: &mut [u8], table: &mut [u16], at: usize, n: u8) -> Held
+    requires { ⌜ at + n ≤ TableEntries ⌝ }
+    requires { ⌜ Ranged PageBytes (now pool) (now table) ⌝ }
+    requires { ⌜ n ≤ PageCount ⌝ }
+    ensures { λ r. ⌜ kept r (now (pool .exit)) (now (table .exit)) ≡ freeTo PageBytes at
+        (kept held (now (pool .entry)) (now (table .entry))) n ⌝ }
+{
+    let mut h = held;
+    let mut i: u8 = 0;
+    while i + GROUP <= n {
+        h = free_group(h, pool, table, at + i as usize);
+        i += GROUP;
+    }
+    free_each(h, pool, table, at + i as usize, n - i)
+}
+
+// The pages of eight entries are freed. Where none has a page, nothing is done.
+fn free_group(held: Held, pool: &mut [u8], table: &mut [u16], at: usize) -> Held
+    requires { ⌜ at + 8 ≤ TableEntries ⌝ }
+    requires { ⌜ Ranged PageBytes (now pool) (now table) ⌝ }
+    ensures { λ r. ⌜ kept r (now (pool .exit)) (now (table .exit)) ≡ freeTo PageBytes at
+        (kept held (now (pool .entry)) (now (table .entry))) 8 ⌝ }
+{
+    if are_empty(table, at) {
+        return held;
+    }
+    free_each(held, pool, table, at, GROUP)
+}
+
+// The pages of `n` entries from a place on are freed, one by one.
+fn free_each(held: Held, pool: &mut [u8], table: &mut [u16], at: usize, n: u8) -> Held
+    requires { ⌜ at + n ≤ TableEntries ⌝ }
+    requires { ⌜ Ranged PageBytes (now pool) (now table) ⌝ }
+    ensures { λ r. ⌜ kept r (now (pool .exit)) (now (table .exit)) ≡ freeTo PageBytes at
+        (kept held (now (pool .entry)) (now (table .entry))) n ⌝ }
+{
     let mut h = held;
     for i in 0..n {
-        h = free_front(h, pool, table, sandbox, PageNo(first.0 + i));
+        h = free_entry(h, pool, table, at + i as usize);
     }
     h
+}
+
+// The page of an entry, if it has one, is freed: its frame is cleared and no longer held.
+fn free_entry(held: Held, pool: &mut [u8], table: &mut [u16], at: usize) -> Held
+    requires { ⌜ at < TableEntries ⌝ }
+    requires { ⌜ Ranged PageBytes (now pool) (now table) ⌝ }
+    ensures { λ r. ⌜ kept r (now (pool .exit)) (now (table .exit)) ≡ free PageBytes at
+        (kept held (now (pool .entry)) (now (table .entry))) ⌝ }
+{
+    let entry = table[at];
+    if entry == 0 {
+        return held;
+    }
+    let f = frame_of(entry);
+    table[at] = 0;
+    pool::clear_frame(pool, f);
+    held.without(f)
 }
 
 // All entries become 0.

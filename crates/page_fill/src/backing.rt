@@ -21,7 +21,8 @@ pub(crate) fn fill_frame(pool: &mut [u8], f: FrameNo, image: &[u8], backing: Bac
         Backing::Image(page) => {
             let start = page.0 as usize * Page::SIZE;
             let end = start + Page::SIZE;
-            pool::fill_frame(pool, f, &image[start..end])
+            let bytes = pages::load(&image[start..end]);
+            pool::fill_frame(pool, f, &bytes)
         }
     }
 }

@@ -7,17 +7,20 @@ ghost use Prim.Native.Nat.{_+_, _*_, _≤_};
 ghost use lib.ListN.{length};
 ghost use Rattle.interface.specs.Answers.{valueOf};
 ghost use Rattle.state.specs.World.{worldOf};
+ghost use Rattle.step.specs.Step.{Stepped};
 ghost use Rattle.step.specs.Reply.{outcomeOf};
 ghost use Rattle.columns.specs.Sizes.{MostNumber, MostPrinted, ReplyBytes};
 ghost use Rattle.roll.specs.Known.{Known};
 ghost use Rattle.roll.specs.Play.{Turned, Replied};
 use interface::Answer;
 use interface::Refusal;
+use interface::Request;
 use lines::Line;
-use machine::call;
+use performing::act;
 use reply_text::print_answer;
 use state::sandbox::Machine;
 use step::Reply;
+use totals::put_together;
 
 // A roll that is being played: the machine, whether its state is sound, the number of the roll's first line, and how many lines are answered.
 pub struct Playing {
@@ -64,7 +67,7 @@ pub fn reply<'a, 'b>(
     }
 }
 
-// One line: its request is called; a malformed one is refused. Whether the state is sound is known.
+// One line: its request is called; a malformed one is refused.
 fn turn(
     machine: Machine,
     sound: bool,
@@ -79,10 +82,64 @@ fn turn(
     ensures { λ r. ⌜ valueOf (r .answer) ≤ MostNumber ⌝ }
 {
     match line {
-        Line::Call(q) => call(machine, pool, table, image, q),
-        Line::Malformed => Reply {
-            machine: machine,
-            answer: Answer::Refused(Refusal::Malformed),
-        },
+        Line::Call(q) => call_known(machine, sound, pool, table, image, q),
+        Line::Malformed => refuse(machine, Refusal::Malformed),
+    }
+}
+
+// One request, where it is known whether the state is sound: no test of the state, and else what `call` does.
+fn call_known(
+    machine: Machine,
+    sound: bool,
+    pool: &mut [u8],
+    table: &mut [u16],
+    image: &[u8],
+    q: Request,
+) -> Reply
+    requires { ⌜ Known sound (now image) (worldOf machine (now pool) (now table)) ⌝ }
+    ensures { λ r. ⌜ (let before = worldOf machine (now (pool .entry)) (now (table .entry)) in
+        Stepped (now (image .entry)) before q (outcomeOf r (now (pool .exit)) (now (table .exit)))) ⌝ }
+{
+    if !codes::is_call(q) {
+        return refuse(machine, Refusal::NoSuchCall);
+    }
+    if !sound {
+        return refuse(machine, Refusal::Unsound);
+    }
+    if q.sandbox as usize >= Machine::SANDBOXES {
+        return refuse(machine, Refusal::NotOpen);
+    }
+    let k = q.sandbox as usize;
+    let mut m = machine;
+    let sandboxes = m.sandboxes;
+    let b = sandboxes[k];
+    let tried = in_place::answer(b, pool, table, image, q);
+    if tried.done {
+        let answer = tried.answer;
+        return Reply {
+            machine: m,
+            answer: answer,
+        };
+    }
+    let all = put_together(sandboxes, m.held, q.code == Request::WRITE);
+    let acted = act(b, all, pool, table, image, q);
+    let after = acted.sandbox;
+    let held = acted.held;
+    let answer = acted.answer;
+    m.sandboxes[k] = after;
+    m.held = held;
+    Reply {
+        machine: m,
+        answer: answer,
+    }
+}
+
+// A refusal leaves the state.
+fn refuse(machine: Machine, why: Refusal) -> Reply
+    ensures { λ r. ⌜ r ≡ record { machine = machine; answer = Answer.Refused why } ⌝ }
+{
+    Reply {
+        machine: machine,
+        answer: Answer::Refused(why),
     }
 }

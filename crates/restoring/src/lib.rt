@@ -1,49 +1,105 @@
-// One page restored: a rewind gives a committed page's front the snapshot's bytes, and gives up any other front.
-// It promises: what is left is the store that table/specs/Store defines of it (`rewindPage`); the laws of it stand in `table`.
-// It stands on `page_fill` for the bytes that a frame gets, on `freeing`, for a front that is given up, on `table` for entries and the store, on `frames` for
-// the held marks, and on `slots` and `interface` for what stands at a page.
+// Committed pages restored: a rewind gives their fronts the snapshot's bytes.
+// It promises: what is left is the store that table/specs/Store defines of it (`rewindTo`, all fronts kept), whatever marks there are; the laws of it stand
+// in `table`.
+// It stands on `page_fill` for the bytes that a frame gets, on `table` for entries and the store, and on `slots` and `interface` for a page's backing.
 ghost use mathlib.Core.Path.{_≡_};
-ghost use Rattle.interface.specs.Numbers.{PageBytes};
-ghost use Rattle.interface.specs.Slots.{isCommitted, backingAt};
-ghost use Rattle.table.specs.Store.{kept, Ranged, rewindPage};
-ghost use Rattle.table.specs.Backing.{backingPage};
-ghost use Rattle.table.specs.Virtual.{frontAt, backAt, Placed};
-use frames::Held;
-use freeing::store::free_front;
+ghost use mathlib.Core.Bool.{true};
+ghost use Prim.Native.Nat.{_+_, _*_, _≤_, _<_};
+ghost use lib.ListN.{length};
+ghost use Rattle.interface.specs.Numbers.{PageBytes, PageCount, TableEntries};
+ghost use Rattle.frames.specs.declared.Held.{Held as Words};
+ghost use Rattle.table.specs.Store.{kept, Ranged, rewindPage, rewindTo};
+ghost use Rattle.table.specs.Backing.{backingPage, backingEnd};
+ghost use Rattle.restoring.specs.Backed.{backingOn, Backed};
+use interface::Backing;
+use interface::PageNo;
 use page_fill::fill_frame;
-use slots::backing_at;
-use slots::is_committed;
-use table::entry::back;
+use slots::advanced;
+use table::entry::GROUP;
+use table::entry::are_empty;
 use table::entry::frame_of;
-use table::entry::front;
-use table::page::VirtualPage;
 
-// One page of a rewind: a committed page "keeps its front, whose bytes become the snapshot's", any other gives it up. Without a front there is
-// nothing to do.
-pub fn restore_page(
-    held: Held,
+// So many committed pages are restored, eight of them looked at together. The first has its front entry at a place of the table, and this backing.
+pub fn restore_pages(
     pool: &mut [u8],
-    table: &mut [u16],
+    table: &[u16],
     image: &[u8],
-    page: VirtualPage,
-) -> Held
+    at: usize,
+    pages: u8,
+    backing: Backing,
+)
+    requires { ⌜ at + pages + PageCount ≤ TableEntries ⌝ }
     requires { ⌜ Ranged PageBytes (now pool) (now table) ⌝ }
-    requires { ⌜ Placed (now image) page ⌝ }
-    ensures { λ r. ⌜ (let before = kept held (now (pool .entry)) (now (table .entry)) in
-        kept r (now (pool .exit)) (now (table .exit))
-        ≡ rewindPage PageBytes (frontAt page) (backAt page) (isCommitted (page .slot))
-        (backingPage (now (image .entry)) (backingAt (page .slot))) before) ⌝ }
+    requires { ⌜ Backed (now image) backing pages ⌝ }
+    requires { ⌜ pages ≤ PageCount ⌝ }
+    ensures { λ r. ⌜ ((h : Words) → let table = now (table .entry) in let image = now (image .entry) in
+        kept h (now (pool .exit)) table
+        ≡ rewindTo PageBytes at (λ i. true) (backingOn image backing) (kept h (now (pool .entry)) table) pages) ⌝ }
 {
-    let number = page.number;
-    let front = front(table, page.sandbox, number);
+    let mut i: u8 = 0;
+    while i + GROUP <= pages {
+        restore_group(pool, table, image, at + i as usize, advanced(backing, i));
+        i += GROUP;
+    }
+    restore_each(
+        pool,
+        table,
+        image,
+        at + i as usize,
+        pages - i,
+        advanced(backing, i),
+    );
+}
+
+// Eight committed pages are restored. Where none has a front, nothing is done.
+fn restore_group(pool: &mut [u8], table: &[u16], image: &[u8], at: usize, backing: Backing)
+    requires { ⌜ at + 8 + PageCount ≤ TableEntries ⌝ }
+    requires { ⌜ Ranged PageBytes (now pool) (now table) ⌝ }
+    requires { ⌜ Backed (now image) backing 8 ⌝ }
+    ensures { λ r. ⌜ ((h : Words) → let table = now (table .entry) in let image = now (image .entry) in
+        kept h (now (pool .exit)) table
+        ≡ rewindTo PageBytes at (λ i. true) (backingOn image backing) (kept h (now (pool .entry)) table) 8) ⌝ }
+{
+    if are_empty(table, at) {
+        return;
+    }
+    restore_each(pool, table, image, at, GROUP, backing);
+}
+
+// So many committed pages are restored, one by one.
+fn restore_each(
+    pool: &mut [u8],
+    table: &[u16],
+    image: &[u8],
+    at: usize,
+    pages: u8,
+    backing: Backing,
+)
+    requires { ⌜ at + pages + PageCount ≤ TableEntries ⌝ }
+    requires { ⌜ Ranged PageBytes (now pool) (now table) ⌝ }
+    requires { ⌜ Backed (now image) backing pages ⌝ }
+    ensures { λ r. ⌜ ((h : Words) → let table = now (table .entry) in let image = now (image .entry) in
+        kept h (now (pool .exit)) table
+        ≡ rewindTo PageBytes at (λ i. true) (backingOn image backing) (kept h (now (pool .entry)) table) pages) ⌝ }
+{
+    for i in 0..pages {
+        restore_page(pool, table, image, at + i as usize, advanced(backing, i));
+    }
+}
+
+// A committed page "keeps its front, whose bytes become the snapshot's". Without a front there is nothing to do.
+fn restore_page(pool: &mut [u8], table: &[u16], image: &[u8], at: usize, backing: Backing)
+    requires { ⌜ at + PageCount < TableEntries ⌝ }
+    requires { ⌜ Ranged PageBytes (now pool) (now table) ⌝ }
+    requires { ⌜ backingEnd backing * PageBytes ≤ length (now image) ⌝ }
+    ensures { λ r. ⌜ ((h : Words) → let table = now (table .entry) in let image = now (image .entry) in
+        kept h (now (pool .exit)) table ≡ rewindPage PageBytes at (at + PageCount) true (backingPage image backing)
+        (kept h (now (pool .entry)) table)) ⌝ }
+{
+    let front = table[at];
     if front == 0 {
-        return held;
+        return;
     }
-    let slot = page.slot;
-    if !is_committed(slot) {
-        return free_front(held, pool, table, page.sandbox, number);
-    }
-    let back = back(table, page.sandbox, number);
-    fill_frame(pool, frame_of(front), back, image, backing_at(slot));
-    held
+    let back = table[at + PageNo::COUNT];
+    fill_frame(pool, frame_of(front), back, image, backing);
 }

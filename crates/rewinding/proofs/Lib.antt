@@ -1,1 +1,1 @@
-pub mod RestoreLaws
+pub mod AreaLaws

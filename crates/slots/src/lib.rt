@@ -161,7 +161,7 @@ pub fn follows(first: Backing, pages: u8, second: Backing) -> bool
 }
 
 // The backing of the page that is so many pages on.
-fn advanced(backing: Backing, pages: u8) -> Backing
+pub fn advanced(backing: Backing, pages: u8) -> Backing
     requires { ⌜ startOf backing + pages < ByteValues ⌝ }
     ensures { λ r. ⌜ r ≡ advance backing pages ⌝ }
 {

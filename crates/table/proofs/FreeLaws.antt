@@ -1,14 +1,19 @@
 -- A run of entries gives up its pages: what the run and what every other entry holds then; and what a loop over it carries along.
 use mathlib.Core.Path.{_≡_, refl, sym, ap, _∙_}
 use mathlib.Core.Logic.{_⊎_, inl, inr, ⊎-elim}
+use mathlib.Core.Bool.{Bool, true}
 use mathlib.Core.Option.{none}
 use mathlib.Core.List.{List}
 use Prim.Native.Nat.{ℕ, zero, suc, _+_, _*_, _≤_, _<_}
 use native.Mathlib.Nat.{le-trans, le-of-eq, suc-mul, add-zero, add-suc}
 use native.Mathlib.Numerals.{add-one}
 use native.Mathlib.Omega.{arith}
+use lib.Dec.{eqb}
 use lib.ListN.{length, getD, set, length-set, List·getD-eq-default}
 use lib.Seq.{getD-set-same, getD-set-other, set-out}
+use borrow.Author.Tests.{eqb-true}
+use Rattle.basics.specs.Ranges.{every}
+use Rattle.basics.proofs.LoopLaws.{every-at}
 use Rattle.frames.proofs.FrameLaws.{lt-or-ge}
 use Rattle.pages.specs.Parts.{zeros, setFrame}
 use Rattle.pages.proofs.PartLaws.{length-zeros, length-setFrame}
@@ -86,6 +91,20 @@ free-kept size k s g =
 pub free-kept-as : (size k : ℕ) (s r : Store) → r ≡ free size k s → Ranged size (s .pool) (s .table) → Kept size s r
 free-kept-as size k s r e g = rw e (free-kept size k s g)
 
+-- what is carried along twice is carried along
+pub kept-twice : (size : ℕ) (s q r : Store) → Kept size s q → Kept size q r → Kept size s r
+kept-twice size s q r a b = record { pool = b .pool ∙ a .pool; table = b .table ∙ a .table; ranged = b .ranged }
+
+pub freeTo-kept : (size first : ℕ) (s : Store) → Ranged size (s .pool) (s .table) → (n : ℕ) → Kept size s (freeTo size first s n)
+unfolding freeTo
+freeTo-kept size first s g zero = unchanged-kept size s g
+freeTo-kept size first s g (suc n) =
+    let before = freeTo-kept size first s g n in
+    kept-twice size s (freeTo size first s n) _ before (free-kept size (first + n) (freeTo size first s n) (before .ranged))
+
+pub freeTo-kept-as : (size first : ℕ) (s r : Store) (n : ℕ) → r ≡ freeTo size first s n → Ranged size (s .pool) (s .table) → Kept size s r
+freeTo-kept-as size first s r n e g = rw e (freeTo-kept size first s g n)
+
 -- a turn of the loop
 pub free-more : (size first i : ℕ) (s r q : Store) → r ≡ freeTo size first s i → q ≡ free size (first + i) r → q ≡ freeTo size first s (i + 1)
 unfolding freeTo
@@ -100,6 +119,12 @@ freeTo-join size first s n zero = ap (freeTo size first s) (sym (add-zero n))
 freeTo-join size first s n (suc m) =
     let place : first + n + m ≡ first + (n + m) = omega arith in
     rw (add-suc n m, place) (ap (free size (first + (n + m))) (freeTo-join size first s n m))
+
+-- entries of which a test says that none names a frame
+pub empty-at : (table : List ℕ) (first n : ℕ) (r : Bool) → r ≡ every (λ i. eqb (getD table (first + i) 0) 0) 0 n → r ≡ true
+    → (i : ℕ) → i < n → getD table (first + i) 0 ≡ 0
+empty-at table first n r e t i l =
+    eqb-true (getD table (first + i) 0) 0 (every-at (λ i. eqb (getD table (first + i) 0) 0) 0 n (sym e ∙ t) i (omega arith) (omega arith))
 
 -- entries that hold none stay as they are, and so does all else
 pub freeTo-none : (size first : ℕ) (s : Store) (n : ℕ) → ((i : ℕ) → i < n → entry s (first + i) ≡ 0) → freeTo size first s n ≡ s

@@ -1,9 +1,10 @@
 -- The pages of a sandbox are rewound: what its fronts and what every other entry holds then; and what a loop over it carries along.
-use mathlib.Core.Path.{_≡_, refl, ap, ap₂, _∙_}
+use mathlib.Core.Path.{_≡_, refl, sym, ap, ap₂, _∙_}
 use mathlib.Core.Logic.{_⊎_, inl, inr, ⊎-elim}
 use mathlib.Core.Bool.{Bool, true, false}
 use mathlib.Core.List.{List}
 use Prim.Native.Nat.{ℕ, zero, suc, _+_, _-_, _≤_, _<_}
+use native.Mathlib.Nat.{add-zero, add-suc}
 use native.Mathlib.Numerals.{add-one}
 use native.Mathlib.Omega.{arith}
 use borrow.Author.Tests.{eq-eqb, ne-eqb}
@@ -11,10 +12,10 @@ use lib.ListN.{length}
 use Rattle.pages.specs.Parts.{setFrame}
 use Rattle.pages.proofs.PartLaws.{length-frame, length-setFrame}
 use Rattle.marks.proofs.NamedLaws.{same-or, by-entry}
-use Rattle.table.specs.Store.{Store, entry, contents, pageFrom, Tidy, Ranged, fill, rewindPage, rewound, rewindTo}
+use Rattle.table.specs.Store.{Store, entry, contents, pageFrom, Tidy, Ranged, free, fill, rewindPage, rewound, freeTo, rewindTo}
 use Rattle.table.proofs.StoreLaws.{contents-none, contents-some, page-whole, free-none, free-tidy, free-same, free-other}
 use Rattle.table.proofs.StoreLaws.{fill-none, fill-tidy, fill-same, fill-other}
-use Rattle.table.proofs.FreeLaws.{Kept, unchanged-kept, room-of, free-kept}
+use Rattle.table.proofs.FreeLaws.{Kept, unchanged-kept, kept-twice, room-of, free-kept}
 
 -- ---- one page
 
@@ -104,3 +105,55 @@ pub rewind-none : (size k j : ℕ) (keep : Bool) (ys : List ℕ) (s : Store) →
 unfolding rewindPage
 rewind-none size k j true ys s e = fill-none size k (pageFrom ys (contents size s j)) s e
 rewind-none size k j false ys s e = free-none size k s e
+
+-- ---- runs of pages
+
+-- what the run carries along
+pub rewindTo-kept : (size first : ℕ) (keep : ℕ → Bool) (bytes : ℕ → List ℕ) (s : Store) → Ranged size (s .pool) (s .table) → (n : ℕ)
+    → ((i : ℕ) → i < n → length (bytes i) ≡ size) → Kept size s (rewindTo size first keep bytes s n)
+unfolding rewindTo
+rewindTo-kept size first keep bytes s g zero whole = unchanged-kept size s g
+rewindTo-kept size first keep bytes s g (suc n) whole =
+    let before = rewindTo-kept size first keep bytes s g n (λ i l. whole i (omega arith)) in
+    let r : Store = rewindTo size first keep bytes s n in
+    kept-twice size s r _ before (rewind-kept size (first + n) (first + n + 64) (keep n) (bytes n) r (before .ranged) (whole n (omega arith)))
+
+pub rewindTo-kept-as : (size first : ℕ) (keep : ℕ → Bool) (bytes : ℕ → List ℕ) (s r : Store) (n : ℕ) → r ≡ rewindTo size first keep bytes s n
+    → Ranged size (s .pool) (s .table) → ((i : ℕ) → i < n → length (bytes i) ≡ size) → Kept size s r
+rewindTo-kept-as size first keep bytes s r n e g whole = rw e (rewindTo-kept size first keep bytes s g n whole)
+
+-- a run, and then the one behind it
+pub rewindTo-join : (size first : ℕ) (keep : ℕ → Bool) (bytes : ℕ → List ℕ) (s : Store) (n m : ℕ)
+    → rewindTo size (first + n) (λ i. keep (n + i)) (λ i. bytes (n + i)) (rewindTo size first keep bytes s n) m ≡ rewindTo size first keep bytes s (n + m)
+unfolding rewindTo
+rewindTo-join size first keep bytes s n zero = ap (rewindTo size first keep bytes s) (sym (add-zero n))
+rewindTo-join size first keep bytes s n (suc m) =
+    let place : first + n + m ≡ first + (n + m) = omega arith in
+    rw (add-suc n m, place)
+    (ap (rewindPage size (first + (n + m)) (first + (n + m) + 64) (keep (n + m)) (bytes (n + m))) (rewindTo-join size first keep bytes s n m))
+
+-- what a run becomes goes by what is said of its own pages
+pub rewindTo-same : (size first : ℕ) (keep keep' : ℕ → Bool) (bytes bytes' : ℕ → List ℕ) (s : Store) (n : ℕ)
+    → ((i : ℕ) → i < n → (keep i ≡ keep' i) × (bytes i ≡ bytes' i)) → rewindTo size first keep bytes s n ≡ rewindTo size first keep' bytes' s n
+unfolding rewindTo
+rewindTo-same size first keep keep' bytes bytes' s zero h = refl
+rewindTo-same size first keep keep' bytes bytes' s (suc n) h =
+    let here = h n (omega arith) in
+    rw (here .0, here .1, rewindTo-same size first keep keep' bytes bytes' s n (λ i l. h i (omega arith)))
+
+-- pages without a front stay as they are
+pub rewindTo-none : (size first : ℕ) (keep : ℕ → Bool) (bytes : ℕ → List ℕ) (s : Store) (n : ℕ) → ((i : ℕ) → i < n → entry s (first + i) ≡ 0)
+    → rewindTo size first keep bytes s n ≡ s
+unfolding rewindTo
+rewindTo-none size first keep bytes s zero h = refl
+rewindTo-none size first keep bytes s (suc n) h =
+    ap (rewindPage size (first + n) (first + n + 64) (keep n) (bytes n)) (rewindTo-none size first keep bytes s n (λ i l. h i (omega arith)))
+    ∙ rewind-none size (first + n) (first + n + 64) (keep n) (bytes n) s (h n (omega arith))
+
+-- pages that keep no front give them up
+pub rewindTo-free : (size first : ℕ) (keep : ℕ → Bool) (bytes : ℕ → List ℕ) (s : Store) (n : ℕ) → ((i : ℕ) → i < n → keep i ≡ false)
+    → rewindTo size first keep bytes s n ≡ freeTo size first s n
+unfolding rewindTo rewindPage freeTo
+rewindTo-free size first keep bytes s zero h = refl
+rewindTo-free size first keep bytes s (suc n) h =
+    rw (h n (omega arith)) (ap (free size (first + n)) (rewindTo-free size first keep bytes s n (λ i l. h i (omega arith))))

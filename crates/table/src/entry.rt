@@ -2,9 +2,11 @@
 ghost use mathlib.Core.Path.{_≡_};
 ghost use mathlib.Core.List.{List};
 ghost use Prim.Native.Nat.{ℕ, _+_, _-_, _*_, _≤_, _<_};
+ghost use lib.Dec.{eqb};
 ghost use lib.ListN.{length, getD};
 ghost use Rattle.interface.specs.Numbers.{PageCount, Sandboxes, TableEntries, MostFrames};
 ghost use Rattle.basics.specs.Choice.{_when_else_};
+ghost use Rattle.basics.specs.Ranges.{every};
 ghost use Rattle.frames.specs.declared.Held.{Held as Words};
 ghost use Rattle.table.specs.Store.{kept, frontOf, backOf, move, moveTo};
 use frames::FrameNo;
@@ -44,6 +46,21 @@ pub fn back_if(table: &[u16], sandbox: u8, page: PageNo, committed: bool) -> u16
         return back(table, sandbox, page);
     }
     0
+}
+
+// How many entries are looked at together.
+pub const GROUP: u8 = 8;
+
+// Whether none of the eight entries from a place on names a frame. All are looked at, which takes no branch.
+pub fn are_empty(table: &[u16], at: usize) -> bool
+    requires { ⌜ at + 8 ≤ length (now table) ⌝ }
+    ensures { λ r. ⌜ r ≡ every (λ i. eqb (getD (now (table .entry)) (at + i) 0) 0) 0 8 ⌝ }
+{
+    let mut none = true;
+    for i in 0..GROUP {
+        none = none & (table[at + i as usize] == 0);
+    }
+    none
 }
 
 // The fronts of all pages of a sandbox become its backs.

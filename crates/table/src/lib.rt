@@ -8,6 +8,7 @@
 pub mod entry;
 pub mod page;
 
+pub use entry::are_empty;
 pub use entry::back;
 pub use entry::back_if;
 pub use entry::frame_of;

@@ -1,81 +1,48 @@
--- The first i pages are freed; the entries still lie in the pool.
-use mathlib.Core.Path.{_≡_, refl, ap, _∙_}
-use Prim.Native.Nat.{ℕ, _≤_, _-_, _+_}
+-- The entries of the pages stand one behind the other, from the first page's on.
+use mathlib.Core.Path.{ap, _∙_}
+use Prim.Native.Nat.{ℕ}
 use native.Mathlib.Omega.{arith}
 use borrow.Author.Needs.{needs}
-use lib.ListN.{length}
-use Rattle.table.specs.Store.{kept, frontOf, Ranged, free, freeTo}
-use Rattle.table.proofs.FreeLaws.{free-more, free-kept-as}
+use Rattle.table.specs.Store.{kept, freeTo}
 use Rattle.freeing.proofs.store.free_range.Statement.{statement}
 use Rattle.freeing.proofs.store.free_range.Tie as tie
 
-abbrev Inv-loop : tie.InvT-loop
-Inv-loop pool₀ table₀ sandbox first n h₀ i₀ pool table h i = (i ≤ n) × (length pool ≡ length pool₀) ×
-    (length table ≡ length table₀) × Ranged 256 pool table × (kept h pool table ≡ freeTo 256 (frontOf sandbox (first .0)) (kept h₀ pool₀ table₀) i)
+returns : tie.Need-returns
+unfolding freeTo
+returns c = rw (c .if1 .taken)
 
-abbrev μ-loop : tie.MeasureT-loop
-μ-loop pool₀ table₀ sandbox first n h₀ i₀ pool table h i = n - i
+front-index-requires : tie.Need-front-index-requires
+front-index-requires c κs = search needs
 
--- where a front is freed in a turn
-abbrev turning : tie.After-struct-known Inv-loop μ-loop → tie.In-loop Inv-loop μ-loop
-turning c = c .before .before .before
-
-abbrev behind : tie.In-loop Inv-loop μ-loop → tie.Start Inv-loop μ-loop
+abbrev behind : tie.After-front-index → tie.Start
 behind c = c .before .before .before .before
 
-loop-holds : tie.Need-loop-holds Inv-loop μ-loop
-unfolding freeTo
-loop-holds c = (search needs, refl, refl, c .before .before .pre .1 .1, refl)
+free-entries-requires : tie.Need-free-entries-requires
+free-entries-requires c κs =
+    let at = c .before .before in
+    let s = behind at in
+    (omega (arith, at .front-index .ensures, s .pre .0, s .pre .1 .0), (s .pre .1 .1, omega (arith, s .pre .1 .0)))
 
-add-t14 : tie.Need-add-t14 Inv-loop μ-loop
-add-t14 c = search needs
-
-free-front-requires : tie.Need-free-front-requires Inv-loop μ-loop
-free-front-requires c κs = let turn = turning c in (behind turn .pre .0, (omega arith, turn .before .loop .inv .3))
-
-add-i : tie.Need-add-i Inv-loop μ-loop
-add-i c = search needs
-
-loop-less : tie.Need-loop-less Inv-loop μ-loop
-loop-less c = search needs
-
-loop-again : tie.Need-loop-again Inv-loop μ-loop
-loop-again c =
-    let freed = c .before .before .before .before in
-    let turn = turning (freed .before) in
-    let l = turn .before .loop in
-    let start = behind turn .args in
-    let f = freed .free-front in
-    let at = frontOf (start .sandbox) (start .first .0) + l .i in
-    let r = kept (l .h) (l .pool) (l .table) in
-    let q = kept (f .result) (f .last .1 .0) (f .last .1 .1 .0) in
-    let e : q ≡ free 256 at r = f .ensures ∙ ap (λ (k : ℕ). free 256 k r) (omega arith) in
-    let k = free-kept-as 256 at r q e (l .inv .3) in
-    (search needs, k .pool ∙ l .inv .1, k .table ∙ l .inv .2, k .ranged, free-more 256 _ (l .i) _ r q (l .inv .4) e)
-
-same-length : tie.Need-same-length Inv-loop μ-loop
+same-length : tie.Need-same-length
 same-length c = search needs
 
-same-length-2 : tie.Need-same-length-2 Inv-loop μ-loop
+same-length-2 : tie.Need-same-length-2
 same-length-2 c = search needs
 
-returns : tie.Need-returns Inv-loop μ-loop
-returns c =
-    let start = c .before .before .before .before .args in
-    c .before .loop .inv .4 ∙ ap (freeTo 256 (frontOf (start .sandbox) (start .first .0)) _) (omega arith)
+returns-2 : tie.Need-returns-2
+returns-2 c =
+    let freed = c .before .before .before .before in
+    let at = freed .before .before .before in
+    let a = behind at .args in
+    freed .free-entries .ensures ∙ ap (λ (k : ℕ). freeTo 256 k (kept (a .held) (a .pool .now) (a .table .now)) (a .n)) (at .front-index .ensures)
 
 pub free-range-spec : {M : Type 1} → statement M
 free-range-spec =
     tie.close
     (tie.spec
-    Inv-loop
-    μ-loop
-    loop-holds
-    add-t14
-    free-front-requires
-    add-i
-    loop-less
-    loop-again
+    returns
+    front-index-requires
+    free-entries-requires
     same-length
     same-length-2
-    returns)
+    returns-2)

@@ -11,11 +11,14 @@ use Rattle.page_fill.proofs.backing.fill_frame.Tie as tie
 abbrev cleared : tie.After-clear-frame → tie.After-enum-told
 cleared c = c .before .before
 
-abbrev paged : tie.After-fill-frame-arg → tie.After-backing
-paged c = c .before .before .before
+abbrev paged : tie.After-struct-known → tie.After-backing
+paged c = c .before .before
 
 abbrev behind : tie.After-backing → tie.Start
 behind c = c .before .before .before .before
+
+abbrev loaded : tie.After-fill-frame → tie.After-load
+loaded c = c .before .before .before
 
 enum-told : tie.Need-enum-told
 enum-told c = search needs
@@ -35,14 +38,20 @@ mul-start c = search needs
 add-end : tie.Need-add-end
 add-end c = search needs
 
-sub-fill-frame : tie.Need-sub-fill-frame
-sub-fill-frame c = search needs
+sub-load : tie.Need-sub-load
+sub-load c = search needs
 
-part-fill-frame-start : tie.Need-part-fill-frame-start
-part-fill-frame-start c = search needs
+part-load-start : tie.Need-part-load-start
+part-load-start c = search needs
 
-part-fill-frame-end : tie.Need-part-fill-frame-end
-part-fill-frame-end c = omega (arith, ap backingEnd (paged c .backing .given .1))
+part-load-end : tie.Need-part-load-end
+part-load-end c = omega (arith, ap backingEnd (paged c .backing .given .1))
+
+load-requires : tie.Need-load-requires
+load-requires c κs = search needs
+
+slice-aggregate-fill-frame : tie.Need-slice-aggregate-fill-frame
+slice-aggregate-fill-frame c = search needs
 
 fill-frame-requires : tie.Need-fill-frame-requires
 fill-frame-requires c κs = search needs
@@ -59,9 +68,10 @@ same-length-2 c = search needs
 returns-2 : tie.Need-returns-2
 returns-2 c =
     let filled = c .before .before in
-    let page = paged (filled .before .before) in
+    let load = loaded filled in
+    let page = paged (load .before .before) in
     let known = page .backing .given in
-    rw (known .1, ← part-is-frame 256 (behind page .args .image .now) (known .0 .0 .0)) (filled .fill-frame .ensures)
+    rw (known .1, ← part-is-frame 256 (behind page .args .image .now) (known .0 .0 .0), ← load .load .ensures) (filled .fill-frame .ensures)
 
 pub fill-frame-spec : {M : Type 1} → statement M
 fill-frame-spec =
@@ -73,9 +83,11 @@ fill-frame-spec =
     cast-start
     mul-start
     add-end
-    sub-fill-frame
-    part-fill-frame-start
-    part-fill-frame-end
+    sub-load
+    part-load-start
+    part-load-end
+    load-requires
+    slice-aggregate-fill-frame
     fill-frame-requires
     same-length
     returns

@@ -1,121 +1,117 @@
--- The pages before i are restored, each as the present areas say it; where a front stays, the snapshot's say the same.
-use borrow.Author.Needs.{needs}
+-- The pages below the first one that is still to be rewound are restored, each as the present areas say it; where a front stays, the snapshot's say the same.
 use mathlib.Core.Path.{_≡_, refl, ap, _∙_}
-use mathlib.Core.Bool.{Bool}
 use mathlib.Core.List.{List}
-use Prim.Native.Nat.{ℕ, _+_, _-_, _*_, _≤_}
+use Prim.Native.Nat.{ℕ, _+_, _-_, _*_, _≤_, _<_}
 use native.Mathlib.Omega.{arith}
-use lib.ListN.{length}
-use Rattle.interface.specs.Slots.{isCommitted, backingAt}
+use borrow.Author.Needs.{needs}
+use lib.ListN.{length, getD}
 use Rattle.interface.specs.Numbers.{pagesIn}
-use Rattle.table.specs.Store.{Store, kept, Ranged, rewindPage, rewindTo}
-use Rattle.table.specs.Backing.{backingPage, backingEnd}
-use Rattle.table.proofs.RewindLaws.{rewind-kept-as, rewind-more}
-use Rattle.table.proofs.TouchLaws.{backing-whole}
-use Rattle.areas.specs.declared.area.Areas.{Areas}
-use Rattle.areas.specs.Areas.{slots}
-use Rattle.areas.proofs.FormedLaws.{near}
+use Rattle.table.specs.Store.{Store, kept, frontOf, Ranged, freeTo, rewindTo}
+use Rattle.table.specs.Backing.{backingPage}
+use Rattle.areas.specs.Areas.{none}
+use Rattle.areas.specs.Formed.{WellFormed}
 use Rattle.content.specs.Content.{copyPage}
-use Rattle.content.proofs.ReadingLaws.{backing-there}
 use Rattle.memory.specs.Memory.{keepsFront}
 use Rattle.memory.proofs.MemoryLaws.{rewind-alike}
-use Rattle.rewinding.proofs.RestoreLaws.{placed, restored}
+use Rattle.rewinding.proofs.AreaLaws.{keeps, bytes, Left, left-start, left-first, backed-area, area-more, area-last, area-kept}
 use Rattle.rewinding.proofs.store.rewind.Statement.{statement}
 use Rattle.rewinding.proofs.store.rewind.Tie as tie
 
--- which pages keep their fronts, and the bytes of a page without a back, as the present areas say it
-abbrev keeps : Areas → ℕ → Bool
-keeps present i = isCommitted (slots present i)
-
-abbrev bytes : List ℕ → Areas → ℕ → List ℕ
-bytes image present i = backingPage image (backingAt (slots present i))
-
 abbrev Inv-loop : tie.InvT-loop
-Inv-loop pool₀ table₀ image s present h₀ i₀ pool table h i =
-    (i ≤ 64) × (length pool ≡ length pool₀) × (length table ≡ length table₀) × Ranged 256 pool table
-    × (kept h pool table ≡ rewindTo 256 (s * 128) (keeps present) (bytes image present) (kept h₀ pool₀ table₀) i)
+Inv-loop pool₀ table₀ image s present count done₀ k₀ pool table done k =
+    (k ≤ present .count) × (length pool ≡ length pool₀) × (length table ≡ length table₀) × Ranged 256 pool table × (done .page .0 ≤ 64)
+    × (kept (done .held) pool table
+    ≡ rewindTo 256 (s * 128) (keeps present) (bytes image present) (kept (done₀ .held) pool₀ table₀) (done .page .0))
+    × Left present k (done .page .0)
 
 abbrev μ-loop : tie.MeasureT-loop
-μ-loop pool₀ table₀ image s present h₀ i₀ pool table h i = 64 - i
+μ-loop pool₀ table₀ image s present count done₀ k₀ pool table done k = present .count - k
 
 -- ---- a turn
 
 abbrev Start : Type 0
 Start = tie.Start Inv-loop μ-loop
 
-there : (s : Start) (i : ℕ) → backingEnd (backingAt (slots (s .args .b .present) i)) * 256 ≤ length (s .args .image .now)
-there s i = backing-there (s .args .image .now) (s .args .b .present) (s .pre .1 .0 .sound .present) i
+formed : (s : Start) → WellFormed (pagesIn (length (s .args .image .now))) (s .args .b .present)
+formed s = s .pre .1 .0 .sound .present
 
-abbrev turning : tie.After-page-of Inv-loop μ-loop → tie.In-loop Inv-loop μ-loop
-turning c = c .before .before
-
-abbrev behind : tie.In-loop Inv-loop μ-loop → Start
-behind c = c .before .before .before .before .before .before
+abbrev behind : tie.At-loop Inv-loop μ-loop → Start
+behind c = c .before .before .before .before .before
 
 -- the store that the turn finds
-abbrev found : tie.In-loop Inv-loop μ-loop → Store
-found c = let l = c .before .loop in kept (l .h) (l .pool) (l .table)
+abbrev found : tie.At-loop Inv-loop μ-loop → Store
+found c = let l = c .loop in kept (l .done .held) (l .pool) (l .table)
 
 -- ---- the needs
 
+cast-count : tie.Need-cast-count Inv-loop μ-loop
+cast-count c = search needs
+
 loop-holds : tie.Need-loop-holds Inv-loop μ-loop
 unfolding rewindTo
-loop-holds c = (omega arith, refl, refl, c .before .before .before .before .pre .1 .1, refl)
+loop-holds c =
+    let s = c .before .before .before .before in
+    (omega arith, refl, refl, s .pre .1 .1, omega arith, refl, left-start (s .args .b .present))
 
-page-of-requires : tie.Need-page-of-requires Inv-loop μ-loop
-page-of-requires c κs =
-    let s = behind (c .before) in
-    let ready = s .pre .1 .0 in (
+mul-area : tie.Need-mul-area Inv-loop μ-loop
+mul-area c = search needs
+
+element-copy-out-area : tie.Need-element-copy-out-area Inv-loop μ-loop
+element-copy-out-area c = search needs
+
+with-area-requires : tie.Need-with-area-requires Inv-loop μ-loop
+with-area-requires c κs =
+    let turn = c .before .before .before in
+    let l = turn .before .loop in
+    let s = behind (turn .before) in
+    let a = s .args in
+    let ready = s .pre .1 .0 in
+    let more = turn .loop-test .taken in
+    let area = formed s .each (l .k) more in (
       s .pre .0,
       (
-        c .before .loop-test .taken,
-        (
-          c .before .before .loop .inv .3 .entries,
-          near (pagesIn (length (s .args .image .now))) (s .args .b .present) (ready .sound .present) (ready .few),
-        ),
+        left-first (a .image .now) (ready .few) (a .b .present) (formed s) (l .k) (l .done .page .0) (l .inv .6) more,
+        (area .inside, (area .some, (l .inv .3, backed-area (a .image .now) (ready .few) (a .b .present) (formed s) (l .k) more))),
       ),
     )
 
-restore-page-requires : tie.Need-restore-page-requires Inv-loop μ-loop
-restore-page-requires c κs =
-    let page = c .before .before in
-    let turn = turning page in
-    let s = behind turn in
-    let i = turn .before .loop .i in (
-      turn .before .loop .inv .3,
-      placed (s .args .image .now) (found turn) (s .args .s) _ (slots (s .args .b .present) i) (page .page-of .result) (page .page-of .ensures) (s .pre .0)
-          (turn .loop-test .taken) (there s i),
-    )
-
-add-i : tie.Need-add-i Inv-loop μ-loop
-add-i c = search needs
+add-k : tie.Need-add-k Inv-loop μ-loop
+add-k c = search needs
 
 loop-less : tie.Need-loop-less Inv-loop μ-loop
 loop-less c = search needs
 
 loop-again : tie.Need-loop-again Inv-loop μ-loop
 loop-again c =
-    let restore = c .before .before .before .before in
-    let page = restore .before .before .before in
-    let turn = turning page in
-    let s = behind turn in
+    let one = c .before .before .before .before in
+    let turn = one .before .before .before .before in
     let l = turn .before .loop in
-    let f = restore .restore-page in
-    let image = s .args .image .now in
-    let present = s .args .b .present in
-    let first = s .args .s * 128 in
-    let q = kept (f .result) (f .last .1 .0) (f .last .1 .1 .0) in
-    let e : q ≡ rewindPage 256 (first + l .i) (first + l .i + 64) (keeps present (l .i)) (bytes image present (l .i)) (found turn) =
-    f .ensures ∙ restored image (found turn) (s .args .s) _ (slots present (l .i)) (page .page-of .result) (page .page-of .ensures) in
-    let k =
-    rewind-kept-as 256 (first + l .i) (first + l .i + 64) (keeps present (l .i)) (bytes image present (l .i)) (found turn) q e (l .inv .3)
-    (backing-whole image (backingAt (slots present (l .i))) (there s (l .i))) in (
+    let s = behind (turn .before) in
+    let a = s .args in
+    let few = s .pre .1 .0 .few in
+    let more = turn .loop-test .taken in
+    let f = one .with-area in
+    let st : Store = kept (a .held) (a .pool .now) (a .table .now) in
+    let q : Store = kept (f .result .held) (f .last .1 .0) (f .last .1 .1 .0) in
+    let page : ℕ = l .done .page .0 in
+    let next =
+    area-more (a .image .now) few (a .b .present) (formed s) (a .s) st (l .k) page (l .inv .6) more (found (turn .before)) q (f .result .page .0)
+    (l .inv .5) (f .ensures .0) (f .ensures .1) in
+    let k = area-kept (a .image .now) few (a .b .present) (formed s) (a .s) (l .k) page (found (turn .before)) q more (f .ensures .0) (l .inv .3) in (
       search needs,
       k .pool ∙ l .inv .1,
       k .table ∙ l .inv .2,
       k .ranged,
-      rewind-more 256 first (l .i) (keeps present) (bytes image present) _ (found turn) q (l .inv .4) e,
+      omega (arith, next .1 .low, next .1 .there .small),
+      next .0,
+      next .1,
     )
+
+free-before-requires : tie.Need-free-before-requires Inv-loop μ-loop
+free-before-requires c κs =
+    let l = c .before .before .before .loop in
+    let s = behind (c .before .before .before) in
+    (s .pre .0, (l .inv .4, (omega arith, l .inv .3)))
 
 same-length : tie.Need-same-length Inv-loop μ-loop
 same-length c = search needs
@@ -125,12 +121,19 @@ same-length-2 c = search needs
 
 returns : tie.Need-returns Inv-loop μ-loop
 returns c =
-    let s = c .before .before .before .before .before .before in
-    let b = s .args .b in
-    let image = s .args .image .now in
-    c .before .loop .inv .4 ∙ ap (rewindTo 256 (s .args .s * 128) (keeps (b .present)) (bytes image (b .present)) _) (omega arith)
-    ∙ rewind-alike 256 (s .args .s * 128) (keepsFront b) (bytes image (b .present)) (copyPage image b) _
-    (λ i h. ap (backingPage image) (s .pre .1 .0 .sound .backing i h)) 64
+    let last = c .before .before .before .before in
+    let loop = last .before .before .before .before in
+    let l = loop .loop in
+    let s = behind loop in
+    let a = s .args in
+    let few = s .pre .1 .0 .few in
+    let st : Store = kept (a .held) (a .pool .now) (a .table .now) in
+    let page : ℕ = l .done .page .0 in
+    last .free-before .ensures ∙ ap (λ (x : Store). freeTo 256 (frontOf (a .s) page) x (64 - page)) (l .inv .5)
+    ∙ area-last (a .image .now) few (a .b .present) (formed s) (a .s) st (l .k) page (l .inv .6) (omega (arith, last .before .before .before .loop-test .left))
+    (l .inv .4)
+    ∙ rewind-alike 256 (a .s * 128) (keepsFront (a .b)) (bytes (a .image .now) (a .b .present)) (copyPage (a .image .now) (a .b)) st
+    (λ i h. ap (backingPage (a .image .now)) (s .pre .1 .0 .sound .backing i h)) 64
 
 pub rewind-spec : {M : Type 1} → statement M
 rewind-spec =
@@ -138,12 +141,15 @@ rewind-spec =
     (tie.spec
     Inv-loop
     μ-loop
+    cast-count
     loop-holds
-    page-of-requires
-    restore-page-requires
-    add-i
+    mul-area
+    element-copy-out-area
+    with-area-requires
+    add-k
     loop-less
     loop-again
+    free-before-requires
     same-length
     same-length-2
     returns)

@@ -1,0 +1,170 @@
+-- A rewind area by area is the rewind page by page: a committed area keeps its fronts, and all pages between two such areas give theirs up.
+use Prim.Native.Nat.{ℕ, zero, suc, _+_, _-_, _*_, _≤_, _<_}
+use mathlib.Core.Path.{_≡_, refl, sym, ap, _∙_}
+use mathlib.Core.Bool.{Bool, true, false}
+use mathlib.Core.List.{List}
+use native.Mathlib.Omega.{arith}
+use native.Mathlib.Decide.{decLt}
+use lib.ListN.{length, getD}
+use Rattle.basics.specs.Choice.{_when_else_}
+use Rattle.basics.proofs.TestLaws.{by-cases}
+use Rattle.interface.specs.declared.page.Backing.{Backing}
+use Rattle.interface.specs.declared.page.Backing.the-variants.{Anonymous, Image}
+use Rattle.interface.specs.Numbers.{pagesIn}
+use Rattle.interface.specs.Slots.{isCommitted, backingAt}
+use Rattle.table.specs.Store.{Store, frontOf, Ranged, freeTo, rewindTo}
+use Rattle.table.specs.Backing.{backingPage}
+use Rattle.table.proofs.FreeLaws.{Kept, unchanged-kept, kept-twice, freeTo-kept}
+use Rattle.table.proofs.RewindLaws.{rewindTo-kept, rewindTo-join, rewindTo-same, rewindTo-free}
+use Rattle.areas.specs.declared.area.Area.{Area}
+use Rattle.areas.specs.declared.area.Areas.{Areas}
+use Rattle.areas.specs.Areas.{none, slots, slotOf}
+use Rattle.areas.specs.Formed.{ImagesExist, Proper, WellFormed}
+use Rattle.areas.specs.Walk.{Formed}
+use Rattle.areas.proofs.FewAreas.{area-slot}
+use Rattle.areas.proofs.WalkLaws.{settled, endOf, Before, before-start, before-gap, before-next, before-last}
+use Rattle.restoring.specs.Backed.{backingOn, Backed}
+use Rattle.restoring.proofs.BackedLaws.{backed-whole}
+use Rattle.rewinding.specs.AreaRewound.{areaRewound}
+
+-- which pages keep their fronts, and the bytes of a page without a back, as the present areas say it
+abbrev pub keeps : Areas → ℕ → Bool
+keeps present i = isCommitted (slots present i)
+
+abbrev pub bytes : List ℕ → Areas → ℕ → List ℕ
+bytes image present i = backingPage image (backingAt (slots present i))
+
+-- of two the one that a test which holds chooses
+pub chosen : {A : Type 0} (x y : A) (c : Bool) → c ≡ true → x ≡ (x when c else y)
+chosen x y c e = rw e
+
+-- at place k, the pages from this one on up to the next area are still to be rewound, and none of them keeps its front
+pub record Left (present : Areas) (k page : ℕ) : Type 0 where
+  pub next : ℕ
+  pub there : Before present k next
+  pub low : page ≤ next
+  pub idle : (i : ℕ) → page ≤ i → i < next → keeps present i ≡ false
+
+pub left-start : (present : Areas) → Left present 0 0
+left-start present = record { next = 0; there = before-start present; low = omega arith; idle = λ i d u. absurd (omega arith) }
+
+module _ (image : List ℕ) (few : pagesIn (length image) ≤ 64) (present : Areas) (w : WellFormed (pagesIn (length image)) present) where
+  abbrev F : Formed present
+  F = settled (pagesIn (length image)) present w few
+
+  abbrev at : ℕ → Area
+  at k = getD (present .list) k none
+
+  -- the image has the pages of an area
+  pub backed-area : (k : ℕ) → k < present .count → Backed image (at k .backing) (at k .pages)
+  backed-area k l = go (at k .backing) (w .each k l .image) (w .each k l .inside)
+    where
+      go : (b : Backing) → ImagesExist (pagesIn (length image)) b (at k .pages) → at k .first .0 + at k .pages ≤ 64 → Backed image b (at k .pages)
+      go Anonymous e d = record { near = omega arith; there = λ i u. omega arith }
+      go (Image p) e d = record { near = omega arith; there = λ i u. omega arith }
+
+  -- what stands at a page of an area
+  of-area : (k : ℕ) → k < present .count → (i : ℕ) → i < at k .pages → slots present (at k .first .0 + i) ≡ slotOf (at k) (at k .first .0 + i)
+  of-area k l i u = area-slot (pagesIn (length image)) present w (at k .first .0 + i) k l (omega arith) (omega arith)
+
+  module _ (k page : ℕ) (L : Left present k page) where
+    -- the pages before the next area
+    pub left-first : k < present .count → page ≤ at k .first .0
+    left-first l = omega (arith, L .low, L .there .ahead k (omega arith) l)
+
+    left-before : k < present .count → (i : ℕ) → page ≤ i → i < at k .first .0 → keeps present i ≡ false
+    left-before l i d u = go (decLt i (L .next))
+      where
+        go : Dec (i < L .next) → keeps present i ≡ false
+        go (yes b) = L .idle i d b
+        go (no b) = rw (before-gap present F k (L .next) (L .there) l i (omega arith) u)
+
+    -- and those behind the last one
+    left-last : present .count ≤ k → (i : ℕ) → page ≤ i → keeps present i ≡ false
+    left-last l i d = go (decLt i (L .next))
+      where
+        go : Dec (i < L .next) → keeps present i ≡ false
+        go (yes b) = L .idle i d b
+        go (no b) = rw (before-last present F k (L .next) (L .there) l i (omega arith))
+
+    -- an area that is not committed comes to them
+    left-passed : k < present .count → at k .committed ≡ false → Left present (k + 1) page
+    left-passed l e = record {
+      next = endOf present k;
+      there = before-next present F k (L .next) (L .there) l;
+      low = omega (arith, left-first l);
+      idle = λ i d u. go i d u (decLt i (at k .first .0));
+    }
+      where
+        go : (i : ℕ) → page ≤ i → i < endOf present k → Dec (i < at k .first .0) → keeps present i ≡ false
+        go i d u (yes b) = left-before l i d b
+        go i d u (no b) = rw (area-slot (pagesIn (length image)) present w i k l (omega arith) u) e
+
+    -- behind one that is committed there are none
+    left-done : k < present .count → Left present (k + 1) (endOf present k)
+    left-done l = record {
+      next = endOf present k;
+      there = before-next present F k (L .next) (L .there) l;
+      low = omega arith;
+      idle = λ i d u. absurd (omega arith);
+    }
+
+  -- ---- the store
+
+  module _ (s : ℕ) (st : Store) where
+    -- the first pages are rewound
+    abbrev pub upTo : ℕ → Store
+    upTo n = rewindTo 256 (s * 128) (keeps present) (bytes image present) st n
+
+    -- pages that keep no front
+    over-gap : (page end : ℕ) → page ≤ end → ((i : ℕ) → page ≤ i → i < end → keeps present i ≡ false)
+        → freeTo 256 (frontOf s page) (upTo page) (end - page) ≡ upTo end
+    over-gap page end d h =
+        let e : page + (end - page) ≡ end = omega arith in
+        sym (rewindTo-free 256 (s * 128 + page) (λ i. keeps present (page + i)) (λ i. bytes image present (page + i)) (upTo page) (end - page)
+        (λ i l. h (page + i) (omega arith) (omega arith)))
+        ∙ rewindTo-join 256 (s * 128) (keeps present) (bytes image present) st page (end - page)
+        ∙ ap upTo e
+
+    -- those of a committed area
+    over-area : (k : ℕ) → k < present .count → at k .committed ≡ true
+        → rewindTo 256 (frontOf s (at k .first .0)) (λ i. true) (backingOn image (at k .backing)) (upTo (at k .first .0)) (at k .pages)
+        ≡ upTo (endOf present k)
+    over-area k l c =
+        let first : ℕ = at k .first .0 in
+        rewindTo-same 256 (s * 128 + first) (λ i. true) (λ i. keeps present (first + i)) (backingOn image (at k .backing))
+        (λ i. bytes image present (first + i)) (upTo first) (at k .pages)
+        (λ i u. let on : first + i - first ≡ i = omega arith in
+        (rw (of-area k l i u) (sym c), rw (of-area k l i u, on)))
+        ∙ rewindTo-join 256 (s * 128) (keeps present) (bytes image present) st first (at k .pages)
+
+    module _ (k page : ℕ) (L : Left present k page) where
+      -- an area more
+      pub area-more : k < present .count → (before q : Store) (r : ℕ) → before ≡ upTo page
+          → q ≡ (areaRewound image s (at k) page before when at k .committed else before) → r ≡ (endOf present k when at k .committed else page)
+          → (q ≡ upTo r) × Left present (k + 1) r
+      area-more l before q r b e f =
+          by-cases (at k .committed)
+          (λ c. let at-end : r ≡ endOf present k = f ∙ rw c in
+          let gap = over-gap page (at k .first .0) (left-first k page L l) (left-before k page L l) in
+          rw at-end (e ∙ rw (c, b, gap) (over-area k l c), left-done k page L l))
+          (λ c. let same : r ≡ page = f ∙ rw c in
+          rw same (e ∙ rw (c, b), left-passed k page L l c))
+
+      -- behind the last
+      pub area-last : present .count ≤ k → page ≤ 64 → freeTo 256 (frontOf s page) (upTo page) (64 - page) ≡ upTo 64
+      area-last l d = over-gap page 64 d (λ i g u. left-last k page L l i g)
+
+  -- what is carried along
+  pub area-kept : (s k page : ℕ) (before q : Store) → k < present .count
+      → q ≡ (areaRewound image s (at k) page before when at k .committed else before) → Ranged 256 (before .pool) (before .table) → Kept 256 before q
+  area-kept s k page before q l e g =
+      by-cases (at k .committed)
+      (λ c. let n : ℕ = at k .first .0 - page in
+      let freed : Store = freeTo 256 (frontOf s page) before n in
+      let free = freeTo-kept 256 (frontOf s page) before g n in
+      rw (e, c)
+      (kept-twice 256 before freed _ free
+      (rewindTo-kept 256 (frontOf s (at k .first .0)) (λ i. true) (backingOn image (at k .backing)) freed (free .ranged) (at k .pages)
+      (backed-whole image (at k .backing) (at k .pages) (backed-area k l)))))
+      (λ c. rw (e, c) (unchanged-kept 256 before g))

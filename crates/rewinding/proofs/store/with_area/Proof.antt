@@ -1,0 +1,99 @@
+-- An area that is not committed changes nothing; at any other the fronts before it are given up, then its own are restored.
+use Prim.Native.Nat.{ℕ, _-_}
+use mathlib.Core.Path.{_≡_, ap, _∙_}
+use mathlib.Core.Bool.{true, false}
+use mathlib.Core.List.{List}
+use native.Mathlib.Omega.{arith}
+use borrow.Author.Needs.{needs}
+use borrow.Author.Tests.{not-true, not-false}
+use Rattle.table.specs.Store.{Store, kept, frontOf, rewindTo}
+use Rattle.table.proofs.FreeLaws.{freeTo-kept-as}
+use Rattle.restoring.specs.Backed.{backingOn}
+use Rattle.rewinding.specs.AreaRewound.{areaRewound}
+use Rattle.rewinding.proofs.AreaLaws.{chosen}
+use Rattle.rewinding.proofs.store.with_area.Statement.{statement}
+use Rattle.rewinding.proofs.store.with_area.Tie as tie
+
+-- ---- what is known behind the test and the fronts that were given up
+
+abbrev tested : tie.Else1 → tie.Start
+tested c = c .before .before .before .before .before
+
+abbrev freed : tie.After-free-before → tie.Else1
+freed c = c .before .before .before .before
+
+abbrev placed : tie.After-front-index → tie.After-free-before
+placed c = c .before .before .before .before .before
+
+abbrev behind : tie.After-front-index → tie.Start
+behind c = tested (freed (placed c))
+
+-- the store after that
+abbrev between : tie.After-front-index → Store
+between c = let f = placed c .free-before in kept (f .result) (f .last .1 .0) (f .last .1 .1 .0)
+
+-- ---- the needs
+
+returns : tie.Need-returns
+returns c =
+    let a = c .before .before .before .before .before .args in
+    let e : a .area .committed ≡ false = not-true _ (c .if1 .taken) in
+    (rw e, rw e)
+
+free-before-requires : tie.Need-free-before-requires
+free-before-requires c κs =
+    let s = tested (c .before .before .before) in
+    (s .pre .0, (s .pre .1 .0, (omega (arith, s .pre .1 .1 .0), s .pre .1 .1 .1 .1 .0)))
+
+front-index-requires : tie.Need-front-index-requires
+front-index-requires c κs = search needs
+
+restore-pages-requires : tie.Need-restore-pages-requires
+restore-pages-requires c κs =
+    let at = c .before .before in
+    let s = behind at in
+    let a = s .args in
+    let st : Store = kept (a .done .held) (a .pool .now) (a .table .now) in
+    let n : ℕ = a .area .first .0 - a .done .page .0 in
+    let k = freeTo-kept-as 256 (frontOf (a .s) (a .done .page .0)) st (between at) n (placed at .free-before .ensures) (s .pre .1 .1 .1 .1 .0) in (
+      omega (arith, at .front-index .ensures, s .pre .0, s .pre .1 .1 .0),
+      (k .ranged, (s .pre .1 .1 .1 .1 .1, omega (arith, s .pre .1 .1 .0))),
+    )
+
+add-t21 : tie.Need-add-t21
+add-t21 c = let s = behind (c .before .before .before .before .before .before .before) in omega (arith, s .pre .1 .1 .0)
+
+same-length : tie.Need-same-length
+same-length c = search needs
+
+same-length-2 : tie.Need-same-length-2
+same-length-2 c = search needs
+
+returns-2 : tie.Need-returns-2
+returns-2 c =
+    let restored = c .before .before .before .before in
+    let at = restored .before .before .before in
+    let a = behind at .args in
+    let area = a .area in
+    let e : area .committed ≡ true = not-false _ (freed (placed at) .if1 .left) in
+    let bytes : ℕ → List ℕ = backingOn (a .image .now) (area .backing) in
+    let f = placed at .free-before in
+    let whole : kept (f .result) (restored .restore-pages .last .0) (f .last .1 .1 .0)
+    ≡ areaRewound (a .image .now) (a .s) area (a .done .page .0) (kept (a .done .held) (a .pool .now) (a .table .now)) =
+    restored .restore-pages .ensures (f .result)
+    ∙ ap (λ (k : ℕ). rewindTo 256 k (λ i. true) bytes (between at) (area .pages)) (at .front-index .ensures)
+    ∙ ap (λ (x : Store). rewindTo 256 (frontOf (a .s) (area .first .0)) (λ i. true) bytes x (area .pages)) (f .ensures) in
+    (whole ∙ chosen _ _ (area .committed) e, chosen _ _ (area .committed) e)
+
+pub with-area-spec : {M : Type 1} → statement M
+with-area-spec =
+    tie.close
+    (tie.spec
+    returns
+    free-before-requires
+    front-index-requires
+    restore-pages-requires
+    add-t21
+    same-length
+    same-length-2
+    returns-2)
