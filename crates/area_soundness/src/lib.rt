@@ -2,10 +2,12 @@
 // It promises: the test of areas/specs/Formed, place by place, whatever numbers the areas hold; areas/proofs/FormedLaws says what it shows.
 // It stands on `areas`, whose runs it tests.
 ghost use mathlib.Core.Path.{_≡_};
-ghost use Prim.Native.Nat.{_<_};
+ghost use mathlib.Core.Bool.{_&&_};
+ghost use lib.Dec.{ltb};
 ghost use lib.ListN.{length};
+ghost use Rattle.basics.specs.Choice.{implies};
 ghost use Rattle.interface.specs.Limits.{rightsOk};
-ghost use Rattle.areas.specs.Formed.{imagesExist, proper, isApart, isNone, placeOk, wellFormed};
+ghost use Rattle.areas.specs.Formed.{imagesExist, proper, isApart, isNone, wellFormed};
 use areas::area::Area;
 use areas::area::Areas;
 use interface::Attributes;
@@ -13,7 +15,7 @@ use interface::Backing;
 use interface::PageNo;
 use slots::is_anonymous;
 
-// Whether the areas are well formed, over an image of so many pages.
+// Whether the areas are well formed, over an image of so many pages: each of them, then the places behind the last.
 pub fn well_formed(areas: Areas, images: u8) -> bool
     ensures { λ r. ⌜ r ≡ wellFormed images areas ⌝ }
     ensures eight { λ r. ⌜ length (areas .list) ≡ 8 ⌝ }
@@ -21,30 +23,34 @@ pub fn well_formed(areas: Areas, images: u8) -> bool
     if areas.count as usize > Area::MOST {
         return false;
     }
-    for k in 0..Area::MOST {
-        if !place_ok(areas, images, k) {
+    let count = areas.count as usize;
+    let mut previous = areas.list[0];
+    for k in 0..count {
+        let area = areas.list[k];
+        if !area_ok(previous, area, k, images) {
+            return false;
+        }
+        previous = area;
+    }
+    for k in count..Area::MOST {
+        let area = areas.list[k];
+        if !is_none(area) {
             return false;
         }
     }
     true
 }
 
-// Whether the place holds what it should: an area apart from the one before it, or none behind the last.
-fn place_ok(areas: Areas, images: u8, k: usize) -> bool
-    requires { ⌜ k < 8 ⌝ }
-    ensures { λ r. ⌜ r ≡ placeOk images areas k ⌝ }
+// Whether the area in place k is as it should be, and apart from the one before it.
+fn area_ok(previous: Area, area: Area, k: usize, images: u8) -> bool
+    ensures { λ r. ⌜ r ≡ (proper images area && implies (ltb 0 k) (isApart previous area)) ⌝ }
 {
-    let area = areas.list[k];
-    if k >= areas.count as usize {
-        return is_none(area);
-    }
     if !is_proper(area, images) {
         return false;
     }
     if k == 0 {
         return true;
     }
-    let previous = areas.list[k - 1];
     is_apart(previous, area)
 }
 
