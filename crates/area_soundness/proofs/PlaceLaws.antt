@@ -1,17 +1,40 @@
--- The test of a place by what stands in it, and what the test of all comes to where one fails, or none does.
+-- The tests of the code beside the definitions: of no area, of two that stand apart, of a place; and what the test of all comes to where one fails, or none does.
 use Prim.Native.Nat.{ℕ, _+_, _-_, _≤_, _<_}
-use mathlib.Core.Path.{_≡_, sym, _∙_}
-use mathlib.Core.Bool.{Bool, true, false, _&&_}
-use lib.Dec.{ltb}
+use mathlib.Core.Path.{_≡_, refl, sym, _∙_}
+use mathlib.Core.Bool.{Bool, true, false, not, _&&_}
+use lib.Dec.{leb, ltb}
 use lib.ListN.{length, getD}
-use borrow.Author.Tests.{lt-ltb, le-ltb, le-leb, lt-leb, eq-eqb}
+use borrow.Author.Tests.{lt-ltb, le-ltb, le-leb, lt-leb, eq-eqb, ne-eqb}
+use native.Mathlib.Omega.{arith}
 use Rattle.basics.specs.Choice.{implies}
 use Rattle.basics.specs.Ranges.{every}
+use Rattle.basics.proofs.TestLaws.{and-true, and-false}
 use Rattle.basics.proofs.LoopLaws.{every-next, every-stop, every-end}
 use Rattle.areas.specs.declared.area.Area.{Area}
 use Rattle.areas.specs.declared.area.Areas.{Areas}
-use Rattle.areas.specs.Areas.{none}
-use Rattle.areas.specs.Formed.{proper, isApart, isNone, placeOk, wellFormed}
+use Rattle.areas.specs.Areas.{none, attributesOf}
+use Rattle.areas.specs.Formed.{goesOn, proper, isApart, isNone, placeOk, wellFormed}
+
+-- the fields of no area, in another order
+pub none-order : (a b c d e : Bool) → (((a && b) && (c && e)) && d) ≡ (a && (b && (c && (d && e))))
+none-order false b c d e = refl
+none-order true false c d e = refl
+none-order true true false d e = refl
+none-order true true true true e = and-true e
+none-order true true true false e = and-false e
+
+-- an area that does not start where another ends, and one that does
+module _ (a b : Area) where
+  abbrev end : ℕ
+  end = a .first .0 + a .pages
+
+  pub apart-gap : (end ≡ b .first .0 → ⊥) → leb end (b .first .0) ≡ isApart a b
+  unfolding isApart goesOn
+  apart-gap d = sym (rw (ne-eqb end (b .first .0) d) (and-true (leb end (b .first .0))))
+
+  pub apart-next : end ≡ b .first .0 → not (goesOn a (b .first .0) (attributesOf b)) ≡ isApart a b
+  unfolding isApart
+  apart-next e = rw (le-leb end (b .first .0) (omega arith))
 
 module _ (images : ℕ) (s : Areas) where
   abbrev at : ℕ → Area

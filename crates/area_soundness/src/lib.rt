@@ -59,8 +59,9 @@ fn is_none(area: Area) -> bool
     ensures { λ r. ⌜ r ≡ isNone area ⌝ }
 {
     let backing = area.backing;
-    let plain = (area.rights == 0) & (!area.committed & is_anonymous(backing));
-    (area.first.0 == 0) & ((area.pages == 0) & plain)
+    let bare = (area.first.0 == 0) & (area.pages == 0);
+    let plain = (area.rights == 0) & is_anonymous(backing);
+    (bare & plain) & !area.committed
 }
 
 // Whether the area has a page, lies in 0 to 63, has rights 1 or 3, and its image pages exist.
@@ -73,13 +74,17 @@ fn is_proper(area: Area, images: u8) -> bool
     (area.pages != 0) & (inside & allowed)
 }
 
-// Whether the other area stands behind this one and does not go on where it ends.
+// Whether the other area stands behind this one and does not go on where it ends. Only one that starts there can go on.
 fn is_apart(area: Area, other: Area) -> bool
     ensures { λ r. ⌜ r ≡ isApart area other ⌝ }
 {
     let first = other.first;
-    let behind = area.first.0 as usize + area.pages as usize <= first.0 as usize;
-    behind & !area.goes_on(first, other.attributes())
+    let start = first.0 as usize;
+    let end = area.first.0 as usize + area.pages as usize;
+    if end != start {
+        return end <= start;
+    }
+    !area.goes_on(first, other.attributes())
 }
 
 // Whether the rights are 1 for read or 3 for read and write.
