@@ -6,9 +6,10 @@ use native.Mathlib.Omega.{arith}
 use native.Mathlib.Decide.{decLt, ℕ-discrete}
 use lib.Dec.{leb, eqb}
 use lib.ListN.{getD}
-use borrow.Author.Tests.{eqb-true, eq-eqb, le-leb, lt-leb}
+use borrow.Author.Tests.{eqb-true, eq-eqb, le-leb, lt-leb, leb-true}
+use Rattle.basics.specs.Choice.{implies}
 use Rattle.basics.specs.Ranges.{every}
-use Rattle.basics.proofs.TestLaws.{by-cases, when-cases, never, both-ways, and-left, and-right}
+use Rattle.basics.proofs.TestLaws.{by-cases, when-cases, never, both-ways, and-left, and-right, implied}
 use Rattle.basics.proofs.LoopLaws.{every-at, every-of, every-end}
 use Rattle.basics.proofs.RangeLaws.{inside-yes, inside-below, inside-past, inside-first, inside-end}
 use Rattle.interface.specs.declared.page.ImagePageNo.{ImagePageNo}
@@ -21,6 +22,7 @@ use Rattle.areas.specs.declared.area.Area.{Area}
 use Rattle.areas.specs.declared.area.Areas.{Areas}
 use Rattle.areas.specs.Areas.{none, covers, slotOf, slots}
 use Rattle.areas.specs.Walk.{Formed}
+use Rattle.areas.proofs.SlotLaws.{covers-none}
 use Rattle.areas.proofs.WalkLaws.{endOf, between, order}
 use Rattle.page_soundness.specs.Parts.{backingOk, backedAt, reach}
 use Rattle.page_soundness.proofs.RestLaws.{every-over, every-alike}
@@ -122,6 +124,16 @@ module _ (s : Areas) (F : Formed s) (a : Area) where
       → passes i ≡ follows (advance (a .backing) (i - a .first .0)) 0 (advance (area k .backing) (i - area k .first .0))
   here k i l x y = ap (λ (x : Slot). isMapped x && follows (advance (a .backing) (i - a .first .0)) 0 (backingAt x)) (area-says s F k i l x y)
 
+  -- area k has the page and agrees: so it does up to its end
+  skip : (k page : ℕ) → k < s .count → a .first .0 ≤ page → covers (area k) page ≡ true
+      → follows (advance (a .backing) (page - a .first .0)) 0 (advance (area k .backing) (page - area k .first .0)) ≡ true
+      → every passes page (last - page) ≡ every passes (endOf s k) (last - endOf s k)
+  skip k page l g c t =
+      let x = inside-first (area k .first .0) (area k .pages) page c in
+      let y = inside-end (area k .first .0) (area k .pages) page c in
+      every-over passes last page (endOf s k) (omega arith) (λ i u v z. here k i l (omega arith) v
+      ∙ agree-on (a .backing) (area k .backing) (a .first .0) (area k .first .0) page i g x u t)
+
   module _ (k page : ℕ) (l : k < s .count) (w : Come s a k page) where
     abbrev agrees : Bool
     agrees = follows (advance (a .backing) (page - a .first .0)) 0 (advance (area k .backing) (page - area k .first .0))
@@ -129,12 +141,10 @@ module _ (s : Areas) (F : Formed s) (a : Area) where
     -- area k has the page and agrees: the walk goes on to the area's end
     goes : covers (area k) page ≡ true → agrees ≡ true → Come s a (k + 1) (endOf s k)
     goes c t =
-        let x = inside-first (area k .first .0) (area k .pages) page c in
         let y = inside-end (area k .first .0) (area k .pages) page c in
         record {
           started = omega (arith, w .started);
-          rest = w .rest ∙ every-over passes last page (endOf s k) (omega arith) (λ i u v z. here k i l (omega arith) v
-              ∙ agree-on (a .backing) (area k .backing) (a .first .0) (area k .first .0) page i (w .started) x u t);
+          rest = w .rest ∙ skip k page l (w .started) c t;
           passed = λ z h j d. behind j d (ℕ-discrete j k);
         }
       where
@@ -195,3 +205,35 @@ module _ (a : Area) (f : Slots) where
 
   pub committed-is : a .committed ≡ true → every (backedAt a f) (a .first .0) (a .pages) ≡ every asked (a .first .0) (a .pages)
   committed-is e = every-alike (backedAt a f) asked (a .first .0) (a .pages) (λ i l u. rw e)
+
+-- an area of the snapshot that has them all
+module _ (s : Areas) (F : Formed s) (a : Area) (k : ℕ) where
+  abbrev copy : Area
+  copy = getD (s .list) k none
+
+  abbrev first : ℕ
+  first = a .first .0
+
+  abbrev agreed : Bool
+  agreed = follows (advance (a .backing) (first - first)) 0 (advance (copy .backing) (first - copy .first .0))
+
+  in-use : covers copy first ≡ true → Dec (k < s .count) → k < s .count
+  in-use c (yes d) = d
+  in-use c (no d) = never (covers copy first) c (ap (λ (x : Area). covers x first) (F .formed .rest k (omega arith)) ∙ covers-none first)
+
+  all-pass : first + a .pages ≤ reach a copy first → every (backedAt a (slots s)) first (a .pages) ≡ true
+  all-pass h =
+      let n : a .pages ≡ first + a .pages - first = omega arith in
+      ap (every (backedAt a (slots s)) first) n
+      ∙ by-cases (covers copy first && agreed)
+      (λ t. let c = and-left (covers copy first) agreed t in
+      skip s F a k first (in-use c (decLt k (s .count))) (omega arith) c (and-right (covers copy first) agreed t)
+      ∙ every-end (backedAt a (slots s)) (first + a .pages) (endOf s k) (rw t at h))
+      (λ t. every-end (backedAt a (slots s)) (first + a .pages) first (rw t at h))
+
+  pub lies-passes : implies (a .committed) (leb (first + a .pages) (reach a copy first)) ≡ true
+      → every (λ i. backingOk (slotOf a i) (slots s i)) first (a .pages) ≡ true
+  lies-passes h =
+      by-cases (a .committed)
+      (λ e. sym (committed-is a (slots s) e) ∙ all-pass (leb-true (first + a .pages) (reach a copy first) (implied (a .committed) _ h e)))
+      (λ e. sym (uncommitted-passes a (slots s) e))

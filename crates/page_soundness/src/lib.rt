@@ -5,10 +5,11 @@
 ghost use mathlib.Core.Path.{_≡_};
 ghost use mathlib.Core.List.{List};
 ghost use Prim.Native.Nat.{ℕ, _+_, _-_, _≤_, _<_};
-ghost use lib.Dec.{eqb};
+ghost use lib.Dec.{leb, eqb};
 ghost use lib.ListN.{length, getD};
 ghost use Rattle.interface.specs.Numbers.{PageCount, Sandboxes, TableEntries};
 ghost use Rattle.interface.specs.Slots.{advance, follows};
+ghost use Rattle.basics.specs.Choice.{implies};
 ghost use Rattle.basics.specs.Ranges.{every};
 ghost use Rattle.frames.specs.declared.Held.{Held as Words};
 ghost use Rattle.table.specs.Store.{kept};
@@ -92,7 +93,7 @@ fn all_committed(areas: Areas) -> bool
     true
 }
 
-// Whether the committed pages are snapshot pages with the same backing.
+// Whether the committed pages are snapshot pages with the same backing. Most often the snapshot's area in the same place has them.
 fn all_backed(present: Areas, snapshot: Areas) -> bool
     requires { ⌜ Formed present ⌝ }
     requires { ⌜ Formed snapshot ⌝ }
@@ -101,14 +102,29 @@ fn all_backed(present: Areas, snapshot: Areas) -> bool
     let count = present.count as usize;
     for k in 0..count {
         let area = present.list[k];
-        if !is_backed(area, snapshot) {
-            return false;
+        let copy = snapshot.list[k];
+        if !lies_in(area, copy) {
+            if !is_backed(area, snapshot) {
+                return false;
+            }
         }
     }
     true
 }
 
-// The same of one area: a walk along the snapshot's areas must come to its end.
+// Whether one area of the snapshot has all pages of an area with the same backing; none is asked for where it is not committed.
+fn lies_in(area: Area, copy: Area) -> bool
+    ensures { λ r. ⌜ r ≡ implies (area .committed)
+        (leb (area .first .0 + area .pages) (reach area copy (area .first .0))) ⌝ }
+{
+    if !area.committed {
+        return true;
+    }
+    let first = area.first.0 as usize;
+    first + area.pages as usize <= reached(area, copy, first)
+}
+
+// Whether the committed pages of one area are: a walk along the snapshot's areas must come to its end.
 fn is_backed(area: Area, snapshot: Areas) -> bool
     requires { ⌜ Formed snapshot ⌝ }
     ensures { λ r. ⌜ r ≡ every (λ i. backingOk (slotOf area i) (slots snapshot i)) (area .first .0) (area .pages) ⌝ }
