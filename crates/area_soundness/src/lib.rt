@@ -2,10 +2,12 @@
 // It promises: the test of areas/specs/Formed, place by place, whatever numbers the areas hold; areas/proofs/FormedLaws says what it shows.
 // It stands on `areas`, whose runs it tests.
 ghost use mathlib.Core.Path.{_≡_};
-ghost use Prim.Native.Nat.{_<_};
+ghost use mathlib.Core.Bool.{_&&_};
+ghost use lib.Dec.{ltb};
 ghost use lib.ListN.{length};
+ghost use Rattle.basics.specs.Choice.{implies};
 ghost use Rattle.interface.specs.Limits.{rightsOk};
-ghost use Rattle.areas.specs.Formed.{imagesExist, proper, isApart, isNone, placeOk, wellFormed};
+ghost use Rattle.areas.specs.Formed.{imagesExist, proper, isApart, isNone, wellFormed};
 use areas::area::Area;
 use areas::area::Areas;
 use interface::Attributes;
@@ -13,7 +15,7 @@ use interface::Backing;
 use interface::PageNo;
 use slots::is_anonymous;
 
-// Whether the areas are well formed, over an image of so many pages.
+// Whether the areas are well formed, over an image of so many pages: each of them, then the places behind the last.
 pub fn well_formed(areas: Areas, images: u8) -> bool
     ensures { λ r. ⌜ r ≡ wellFormed images areas ⌝ }
     ensures eight { λ r. ⌜ length (areas .list) ≡ 8 ⌝ }
@@ -21,30 +23,34 @@ pub fn well_formed(areas: Areas, images: u8) -> bool
     if areas.count as usize > Area::MOST {
         return false;
     }
-    for k in 0..Area::MOST {
-        if !place_ok(areas, images, k) {
+    let count = areas.count as usize;
+    let mut previous = areas.list[0];
+    for k in 0..count {
+        let area = areas.list[k];
+        if !area_ok(previous, area, k, images) {
+            return false;
+        }
+        previous = area;
+    }
+    for k in count..Area::MOST {
+        let area = areas.list[k];
+        if !is_none(area) {
             return false;
         }
     }
     true
 }
 
-// Whether the place holds what it should: an area apart from the one before it, or none behind the last.
-fn place_ok(areas: Areas, images: u8, k: usize) -> bool
-    requires { ⌜ k < 8 ⌝ }
-    ensures { λ r. ⌜ r ≡ placeOk images areas k ⌝ }
+// Whether the area in place k is as it should be, and apart from the one before it.
+fn area_ok(previous: Area, area: Area, k: usize, images: u8) -> bool
+    ensures { λ r. ⌜ r ≡ (proper images area && implies (ltb 0 k) (isApart previous area)) ⌝ }
 {
-    let area = areas.list[k];
-    if k >= areas.count as usize {
-        return is_none(area);
-    }
     if !is_proper(area, images) {
         return false;
     }
     if k == 0 {
         return true;
     }
-    let previous = areas.list[k - 1];
     is_apart(previous, area)
 }
 
@@ -53,8 +59,9 @@ fn is_none(area: Area) -> bool
     ensures { λ r. ⌜ r ≡ isNone area ⌝ }
 {
     let backing = area.backing;
-    let plain = (area.rights == 0) & (!area.committed & is_anonymous(backing));
-    (area.first.0 == 0) & ((area.pages == 0) & plain)
+    let bare = (area.first.0 == 0) & (area.pages == 0);
+    let plain = (area.rights == 0) & is_anonymous(backing);
+    (bare & plain) & !area.committed
 }
 
 // Whether the area has a page, lies in 0 to 63, has rights 1 or 3, and its image pages exist.
@@ -67,13 +74,17 @@ fn is_proper(area: Area, images: u8) -> bool
     (area.pages != 0) & (inside & allowed)
 }
 
-// Whether the other area stands behind this one and does not go on where it ends.
+// Whether the other area stands behind this one and does not go on where it ends. Only one that starts there can go on.
 fn is_apart(area: Area, other: Area) -> bool
     ensures { λ r. ⌜ r ≡ isApart area other ⌝ }
 {
     let first = other.first;
-    let behind = area.first.0 as usize + area.pages as usize <= first.0 as usize;
-    behind & !area.goes_on(first, other.attributes())
+    let start = first.0 as usize;
+    let end = area.first.0 as usize + area.pages as usize;
+    if end != start {
+        return end <= start;
+    }
+    !area.goes_on(first, other.attributes())
 }
 
 // Whether the rights are 1 for read or 3 for read and write.

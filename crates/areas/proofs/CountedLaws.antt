@@ -81,9 +81,10 @@ module _ (s : Areas) (F : Formed s) (c : Bool) where
           let e : r .page + (first - r .page) ≡ first = omega arith in
           record { page = endOf s k; there = before-next s F k (r .page) (r .there) d; counted = omega (arith, r .counted, y, rw e at x) }
 
-  pub counted-all : (n : ℕ) → Counted s c 8 n → n ≡ count passes 64
-  counted-all n r =
+  -- behind the last area nothing more counts
+  pub counted-all : (k n : ℕ) → s .count ≤ k → Counted s c k n → n ≡ count passes 64
+  counted-all k n d r =
       let gap : (i : ℕ) → r .page ≤ i → i < r .page + (64 - r .page) → passes i ≡ false =
-      λ i l u. rw (before-last s F 8 (r .page) (r .there) (F .formed .few) i l) (unmapped-counts c) in
+      λ i l u. rw (before-last s F k (r .page) (r .there) d i l) (unmapped-counts c) in
       let e : r .page + (64 - r .page) ≡ 64 = omega (arith, r .there .small) in
       omega (arith, r .counted, rw e at (count-run passes (r .page) (64 - r .page) false gap))

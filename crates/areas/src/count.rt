@@ -31,8 +31,9 @@ impl Areas {
         requires { ⌜ Formed self ⌝ }
         ensures { λ r. ⌜ r ≡ count (λ i. counts committed (slots self i)) PageCount ⌝ }
     {
+        let count = self.count as usize;
         let mut n: u8 = 0;
-        for k in 0..Area::MOST {
+        for k in 0..count {
             let area = self.list[k];
             n += area.counted(committed);
         }

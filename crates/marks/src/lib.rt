@@ -5,7 +5,9 @@
 // It stands on `frames`, for the marks and the number of a frame.
 ghost use mathlib.Core.Path.{_≡_};
 ghost use Prim.Native.Nat.{_+_, _*_, _≤_, _<_};
-ghost use lib.ListN.{length};
+ghost use lib.Dec.{eqb};
+ghost use lib.ListN.{length, getD};
+ghost use Rattle.basics.specs.Ranges.{every};
 ghost use Rattle.interface.specs.Numbers.{MostFrames, SandboxEntries, TableEntries};
 ghost use Rattle.frames.specs.Frames.{countHeld};
 ghost use Rattle.marks.specs.Marks.{addEntry, marksTo, from, marksb};
@@ -24,6 +26,9 @@ impl Marks {
     pub const ENTRIES: usize = 512;
 
     pub const SANDBOX_ENTRIES: usize = 128;
+
+    // How many entries are looked at together.
+    const TOGETHER: usize = 8;
 
     // One more entry, of a table over a pool of so many frames.
     pub fn add(self, frames: u8, entry: u16) -> Marks
@@ -45,6 +50,20 @@ impl Marks {
             good: !held.contains(frame) & self.good,
             held: held.with(frame),
         }
+    }
+
+    // Eight more entries, from place i of a run of entries on.
+    fn add_eight(self, table: &[u16], first: usize, i: usize, frames: u8) -> Marks
+        requires { ⌜ first + (i + 8) ≤ length (now table) ⌝ }
+        requires { ⌜ frames ≤ MostFrames ⌝ }
+        requires { ⌜ self ≡ marksTo frames (from first (now table)) i ⌝ }
+        ensures { λ r. ⌜ r ≡ marksTo frames (from first (now (table .entry))) (i + 8) ⌝ }
+    {
+        let mut found = self;
+        for j in i..i + Marks::TOGETHER {
+            found = found.add(frames, table[first + j]);
+        }
+        found
     }
 }
 
@@ -83,10 +102,31 @@ pub fn marks_of(table: &[u16], first: usize, entries: usize, frames: u8) -> Mark
         good: true,
         held: Held::none(),
     };
-    for i in 0..entries {
+    // Most often eight entries in a row name no frame, and nothing changes.
+    let mut i: usize = 0;
+    while entries - i >= Marks::TOGETHER {
+        if !names_none(table, first + i) {
+            found = found.add_eight(table, first, i, frames);
+        }
+        i += Marks::TOGETHER;
+    }
+    while i < entries {
         found = found.add(frames, table[first + i]);
+        i += 1;
     }
     found
+}
+
+// Whether eight entries in a row name no frame. All are looked at, which takes no branch.
+fn names_none(table: &[u16], at: usize) -> bool
+    requires { ⌜ at + 8 ≤ length (now table) ⌝ }
+    ensures { λ r. ⌜ r ≡ every (λ j. eqb (getD (now (table .entry)) (at + j) 0) 0) 0 8 ⌝ }
+{
+    let mut none = true;
+    for j in 0..Marks::TOGETHER {
+        none = none & (table[at + j] == 0);
+    }
+    none
 }
 
 // How many entries of a sandbox name a frame.

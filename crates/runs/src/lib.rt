@@ -84,16 +84,15 @@ impl Runs {
         run.count()
     }
 
-    // Whether no run is kept.
+    // Whether no run is kept. All places are looked at, which takes no branch.
     pub fn is_none(self) -> bool
         ensures { λ r. ⌜ r ≡ every (λ i. sameHeld (row self i) noneHeld) 0 8 ⌝ }
     {
+        let mut none = true;
         for i in 0..Runs::END {
-            if !self.is_empty(i) {
-                return false;
-            }
+            none = none & self.is_empty(i);
         }
-        true
+        none
     }
 
     // Whether there is no run in a place.

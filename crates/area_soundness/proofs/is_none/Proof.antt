@@ -1,14 +1,27 @@
--- The test is the definition, field by field.
+-- The test is the definition, field by field, in another order.
+use mathlib.Core.Path.{_∙_}
+use mathlib.Core.Bool.{not, _&&_}
+use lib.Dec.{eqb}
+use borrow.Author.Needs.{needs}
+use Rattle.interface.specs.Slots.{isAnonymous}
 use Rattle.areas.specs.Formed.{isNone}
+use Rattle.area_soundness.proofs.PlaceLaws.{none-order}
 use Rattle.area_soundness.proofs.is_none.Statement.{statement}
 use Rattle.area_soundness.proofs.is_none.Tie as tie
 
 is-anonymous-requires : tie.Need-is-anonymous-requires
-is-anonymous-requires c κs = tt
+is-anonymous-requires c κs = search needs
+
+-- the way back from where a fact is needed to where it was learned
+abbrev at-start : tie.After-struct-known4 → tie.Start
+at-start c = c .before .before .before .before .before
 
 returns : tie.Need-returns
 unfolding isNone
-returns c = rw (c .before .before .is-anonymous .ensures)
+returns c =
+    let a = at-start c .args .area in
+    (λ i. ((eqb (a .first .0) 0 && eqb (a .pages) 0) && (eqb (a .rights) 0 && c .before .is-anonymous .ensures i)) && not (a .committed))
+    ∙ none-order (eqb (a .first .0) 0) (eqb (a .pages) 0) (eqb (a .rights) 0) (not (a .committed)) (isAnonymous (a .backing))
 
 pub is-none-spec : {M : Type 1} → statement M
 is-none-spec = tie.close (tie.spec is-anonymous-requires returns)

@@ -1,10 +1,12 @@
--- The loop has the marks of the first i entries.
-use mathlib.Core.Path.{_≡_, ap, _∙_}
-use Prim.Native.Nat.{_≤_, _-_}
+-- The first loop has the marks of the first i entries, eight more at each turn; the second the others, one by one.
+use mathlib.Core.Path.{_≡_, sym, ap, _∙_}
+use Prim.Native.Nat.{_+_, _≤_, _-_}
 use native.Mathlib.Omega.{arith}
+use mathlib.Core.Logic.{⊎-elim}
 use borrow.Author.Needs.{needs}
+use borrow.Author.Tests.{not-false}
 use Rattle.marks.specs.Marks.{marksTo, from}
-use Rattle.marks.proofs.MarkLaws.{marks-more}
+use Rattle.marks.proofs.MarkLaws.{marks-more, marks-none, eight-none}
 use Rattle.marks.proofs.marks_of.Statement.{statement}
 use Rattle.marks.proofs.marks_of.Tie as tie
 
@@ -14,51 +16,95 @@ Inv-loop table first entries frames found₀ i₀ found i = (i ≤ entries) × (
 abbrev μ-loop : tie.MeasureT-loop
 μ-loop table first entries frames found₀ i₀ found i = entries - i
 
-none-requires : tie.Need-none-requires Inv-loop μ-loop
+abbrev Inv-loop2 : tie.InvT-loop2
+Inv-loop2 table first entries frames found₀ i₀ found i = (i ≤ entries) × (found ≡ marksTo frames (from first table) i)
+
+abbrev μ-loop2 : tie.MeasureT-loop2
+μ-loop2 table first entries frames found₀ i₀ found i = entries - i
+
+none-requires : tie.Need-none-requires Inv-loop μ-loop Inv-loop2 μ-loop2
 none-requires c κs = search needs
 
-loop-holds : tie.Need-loop-holds Inv-loop μ-loop
+loop-holds : tie.Need-loop-holds Inv-loop μ-loop Inv-loop2 μ-loop2
 unfolding marksTo
-loop-holds c = (search needs, rw (c .none .ensures))
+loop-holds c = (omega arith, rw (c .none .ensures))
 
-add-add : tie.Need-add-add Inv-loop μ-loop
-add-add c = search needs
+sub-loop : tie.Need-sub-loop Inv-loop μ-loop Inv-loop2 μ-loop2
+sub-loop c = search needs
 
-mul-add : tie.Need-mul-add Inv-loop μ-loop
-mul-add c = search needs
+add-names-none : tie.Need-add-names-none Inv-loop μ-loop Inv-loop2 μ-loop2
+add-names-none c = search needs
 
-shared-slice-read-add : tie.Need-shared-slice-read-add Inv-loop μ-loop
-shared-slice-read-add c = search needs
+names-none-requires : tie.Need-names-none-requires Inv-loop μ-loop Inv-loop2 μ-loop2
+names-none-requires c κs = search needs
 
-add-requires : tie.Need-add-requires Inv-loop μ-loop
-add-requires c κs = search needs
+add-eight-requires : tie.Need-add-eight-requires Inv-loop μ-loop Inv-loop2 μ-loop2
+add-eight-requires c κs = search needs
 
-add-i : tie.Need-add-i Inv-loop μ-loop
+add-i : tie.Need-add-i Inv-loop μ-loop Inv-loop2 μ-loop2
 add-i c = search needs
 
-loop-less : tie.Need-loop-less Inv-loop μ-loop
+loop-less : tie.Need-loop-less Inv-loop μ-loop Inv-loop2 μ-loop2
 loop-less c = search needs
 
 -- the way back from where a fact is needed to where it was learned
-abbrev at-loop : tie.After-add Inv-loop μ-loop → tie.At-loop Inv-loop μ-loop
+abbrev at-loop : tie.Joined1 Inv-loop μ-loop Inv-loop2 μ-loop2 → tie.At-loop Inv-loop μ-loop Inv-loop2 μ-loop2
 at-loop c = c .before .before .before
 
-abbrev start-of-turn : tie.In-loop Inv-loop μ-loop → tie.Start Inv-loop μ-loop
-start-of-turn c = c .before .before .before .before
+abbrev start-of-loop : tie.At-loop Inv-loop μ-loop Inv-loop2 μ-loop2 → tie.Start Inv-loop μ-loop Inv-loop2 μ-loop2
+start-of-loop c = c .before .before .before
 
-loop-again : tie.Need-loop-again Inv-loop μ-loop
-loop-again c =
-    let start = start-of-turn (c .before .before) in
+-- the marks behind the eight entries, whether one of them names a frame or none
+behind : (c : tie.Joined1 Inv-loop μ-loop Inv-loop2 μ-loop2) →
+    let a = start-of-loop (at-loop c) .args in
+    c .if1 .found ≡ marksTo (a .frames) (from (a .first) (a .table .now)) (at-loop c .loop .i + 8)
+behind c =
+    let a = start-of-loop (at-loop c) .args in
     let l = at-loop c .loop in
-    (search needs, c .add .ensures ∙ marks-more (start .args .frames) (from (start .args .first) (start .args .table .now)) (l .i) (l .found) (l .inv .1))
+    ⊎-elim
+    (λ w. w .2 ∙ w .1 .ensures)
+    (λ w. w .1 ∙ l .inv .1 ∙ sym (marks-none (a .frames) (from (a .first) (a .table .now)) (l .i) 8
+    (λ j d. eight-none (a .table .now) (a .first) (l .i) (sym (c .before .names-none .ensures) ∙ not-false _ (w .0 .left)) j d)))
+    (c .if1 .came)
 
-abbrev start-of-loop-end : tie.After-loop Inv-loop μ-loop → tie.Start Inv-loop μ-loop
-start-of-loop-end c = c .before .before .before .before
+loop-again : tie.Need-loop-again Inv-loop μ-loop Inv-loop2 μ-loop2
+loop-again c = (omega arith, behind c)
 
-returns : tie.Need-returns Inv-loop μ-loop
+loop2-holds : tie.Need-loop2-holds Inv-loop μ-loop Inv-loop2 μ-loop2
+loop2-holds c = (c .before .loop .inv .0, c .before .loop .inv .1)
+
+add-add : tie.Need-add-add Inv-loop μ-loop Inv-loop2 μ-loop2
+add-add c = search needs
+
+mul-add : tie.Need-mul-add Inv-loop μ-loop Inv-loop2 μ-loop2
+mul-add c = search needs
+
+shared-slice-read-add : tie.Need-shared-slice-read-add Inv-loop μ-loop Inv-loop2 μ-loop2
+shared-slice-read-add c = search needs
+
+add-requires : tie.Need-add-requires Inv-loop μ-loop Inv-loop2 μ-loop2
+add-requires c κs = search needs
+
+add-i-2 : tie.Need-add-i-2 Inv-loop μ-loop Inv-loop2 μ-loop2
+add-i-2 c = search needs
+
+loop2-less : tie.Need-loop2-less Inv-loop μ-loop Inv-loop2 μ-loop2
+loop2-less c = search needs
+
+abbrev at-loop2 : tie.After-add Inv-loop μ-loop Inv-loop2 μ-loop2 → tie.At-loop2 Inv-loop μ-loop Inv-loop2 μ-loop2
+at-loop2 c = c .before .before .before
+
+loop2-again : tie.Need-loop2-again Inv-loop μ-loop Inv-loop2 μ-loop2
+loop2-again c =
+    let l = c .before .before .before .loop2 in
+    let a = start-of-loop (at-loop2 c .before .before) .args in
+    (search needs, c .add .ensures ∙ marks-more (a .frames) (from (a .first) (a .table .now)) (l .i) (l .found) (l .inv .1))
+
+returns : tie.Need-returns Inv-loop μ-loop Inv-loop2 μ-loop2
 returns c =
-    let start = start-of-loop-end c in
-    c .before .loop .inv .1 ∙ ap (marksTo (start .args .frames) (from (start .args .first) (start .args .table .now))) (omega arith)
+    let a = start-of-loop (c .before .before .before) .args in
+    let l = c .before .loop2 in
+    l .inv .1 ∙ ap (marksTo (a .frames) (from (a .first) (a .table .now))) (omega (arith, l .inv .0, c .loop2-test .left))
 
 pub marks-of-spec : {M : Type 1} → statement M
 marks-of-spec =
@@ -66,13 +112,23 @@ marks-of-spec =
     (tie.spec
     Inv-loop
     μ-loop
+    Inv-loop2
+    μ-loop2
     none-requires
     loop-holds
+    sub-loop
+    add-names-none
+    names-none-requires
+    add-eight-requires
+    add-i
+    loop-less
+    loop-again
+    loop2-holds
     add-add
     mul-add
     shared-slice-read-add
     add-requires
-    add-i
-    loop-less
-    loop-again
+    add-i-2
+    loop2-less
+    loop2-again
     returns)

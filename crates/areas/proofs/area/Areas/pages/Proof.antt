@@ -1,16 +1,16 @@
 -- The pages of the areas that were passed are counted: areas stand apart, so each page is counted once.
 use Prim.Native.Nat.{ℕ, _+_, _-_, _≤_}
-use mathlib.Core.Path.{_≡_, subst⁻¹}
+use mathlib.Core.Path.{subst⁻¹}
 use native.Mathlib.Omega.{arith}
 use Rattle.areas.proofs.CountedLaws.{Counted, counted-start, counted-next, counted-small, counted-all}
 use Rattle.areas.proofs.area.Areas.pages.Statement.{statement}
 use Rattle.areas.proofs.area.Areas.pages.Tie as tie
 
 abbrev Inv-loop : tie.InvT-loop
-Inv-loop committed self n₀ k₀ n k = (k ≤ 8) × Counted self committed k n
+Inv-loop committed self count n₀ k₀ n k = (k ≤ count) × Counted self committed k n
 
 abbrev μ-loop : tie.MeasureT-loop
-μ-loop committed self n₀ k₀ n k = 8 - k
+μ-loop committed self count n₀ k₀ n k = count - k
 
 -- the way back from where a fact is needed to where it was learned
 abbrev at-loop : tie.After-counted Inv-loop μ-loop → tie.At-loop Inv-loop μ-loop
@@ -29,6 +29,9 @@ next c =
     let l = at-loop c .loop in
     subst⁻¹ (λ (x : ℕ). Counted (s .args .t1) (s .args .committed) (l .k + 1) (l .n + x)) (c .counted .ensures)
     (counted-next (s .args .t1) (s .pre) (s .args .committed) (l .k) (l .n) (l .inv .1))
+
+cast-count : tie.Need-cast-count Inv-loop μ-loop
+cast-count c = omega arith
 
 loop-holds : tie.Need-loop-holds Inv-loop μ-loop
 loop-holds c = (omega arith, counted-start (c .args .t1) (c .args .committed))
@@ -57,8 +60,8 @@ loop-again c = (omega arith, next c)
 returns : tie.Need-returns Inv-loop μ-loop
 returns c =
     let s = c .before .before in
-    let e : c .before .loop .k ≡ 8 = omega (arith, c .loop-test .left, c .before .loop .inv .0) in
-    counted-all (s .args .t1) (s .pre) (s .args .committed) (c .before .loop .n) (rw e at (c .before .loop .inv .1))
+    let l = c .before .loop in
+    counted-all (s .args .t1) (s .pre) (s .args .committed) (l .k) (l .n) (c .loop-test .left) (l .inv .1)
 
 pub pages-spec : {M : Type 1} → statement M
 pages-spec =
@@ -66,6 +69,7 @@ pages-spec =
     (tie.spec
     Inv-loop
     μ-loop
+    cast-count
     loop-holds
     mul-area
     element-copy-out-area

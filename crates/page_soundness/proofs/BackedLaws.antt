@@ -1,0 +1,239 @@
+-- A committed area in the snapshot: a walk along the snapshot's areas, from the area's first page to the one at which they end or disagree.
+use Prim.Native.Nat.{ℕ, _+_, _-_, _≤_, _<_}
+use mathlib.Core.Path.{_≡_, refl, sym, ap, _∙_}
+use mathlib.Core.Bool.{Bool, true, false, _&&_}
+use native.Mathlib.Omega.{arith}
+use native.Mathlib.Decide.{decLt, ℕ-discrete}
+use lib.Dec.{leb, eqb}
+use lib.ListN.{getD}
+use borrow.Author.Tests.{eqb-true, eq-eqb, le-leb, lt-leb, leb-true}
+use Rattle.basics.specs.Choice.{implies}
+use Rattle.basics.specs.Ranges.{every}
+use Rattle.basics.proofs.TestLaws.{by-cases, when-cases, never, both-ways, and-left, and-right, implied}
+use Rattle.basics.proofs.LoopLaws.{every-at, every-of, every-end}
+use Rattle.basics.proofs.RangeLaws.{inside-yes, inside-below, inside-past, inside-first, inside-end}
+use Rattle.interface.specs.declared.page.ImagePageNo.{ImagePageNo}
+use Rattle.interface.specs.declared.page.Backing.{Backing}
+use Rattle.interface.specs.declared.page.Backing.the-variants.{Anonymous, Image}
+use Rattle.interface.specs.declared.page.Slot.{Slot}
+use Rattle.interface.specs.declared.page.Slot.the-variants.{Unmapped}
+use Rattle.interface.specs.Slots.{Slots, isMapped, backingAt, isAnonymous, advance, follows}
+use Rattle.areas.specs.declared.area.Area.{Area}
+use Rattle.areas.specs.declared.area.Areas.{Areas}
+use Rattle.areas.specs.Areas.{none, covers, slotOf, slots}
+use Rattle.areas.specs.Walk.{Formed}
+use Rattle.areas.proofs.SlotLaws.{covers-none}
+use Rattle.areas.proofs.WalkLaws.{endOf, between, order}
+use Rattle.page_soundness.specs.Parts.{backingOk, backedAt, reach}
+use Rattle.page_soundness.proofs.RestLaws.{every-over, every-alike}
+use Rattle.page_soundness.proofs.AreaLaws.{area-says}
+
+-- whether two backings agree is the same at every page that lies in both
+agree-image : (p f q g page : ℕ) → f ≤ page → g ≤ page → eqb (p + g) (q + f) ≡ eqb (p + (page - f) + 0) (q + (page - g))
+agree-image p f q g page x y =
+    both-ways (eqb (p + g) (q + f)) (eqb (p + (page - f) + 0) (q + (page - g)))
+    (λ h. eq-eqb (p + (page - f) + 0) (q + (page - g)) (omega (arith, eqb-true (p + g) (q + f) h)))
+    (λ h. eq-eqb (p + g) (q + f) (omega (arith, eqb-true (p + (page - f) + 0) (q + (page - g)) h)))
+
+-- as the code tells it, by the kind of each backing
+none-is : (c : Backing) (n : ℕ) → isAnonymous c ≡ follows Anonymous 0 (advance c n)
+unfolding follows
+none-is Anonymous n = refl
+none-is (Image q) n = refl
+
+pub agree-none : (b c : Backing) (m n : ℕ) → b ≡ Anonymous → isAnonymous c ≡ follows (advance b m) 0 (advance c n)
+agree-none b c m n e = rw e (none-is c n)
+
+pub agree-not : (b c : Backing) (p : ImagePageNo) (m n : ℕ) → b ≡ Image p → c ≡ Anonymous → false ≡ follows (advance b m) 0 (advance c n)
+unfolding follows
+agree-not b c p m n e d = rw (e, d)
+
+pub agree-both : (b c : Backing) (p q : ImagePageNo) (f g page : ℕ) → b ≡ Image p → c ≡ Image q → f ≤ page → g ≤ page
+    → eqb (p .0 + g) (q .0 + f) ≡ follows (advance b (page - f)) 0 (advance c (page - g))
+unfolding follows
+agree-both b c p q f g page e d x y = rw (e, d) (agree-image (p .0) f (q .0) g page x y)
+
+-- where they agree at a page they agree at each later one
+agree-on : (b c : Backing) (f g page i : ℕ) → f ≤ page → g ≤ page → page ≤ i
+    → follows (advance b (page - f)) 0 (advance c (page - g)) ≡ true → follows (advance b (i - f)) 0 (advance c (i - g)) ≡ true
+unfolding follows
+agree-on Anonymous Anonymous f g page i x y z h = refl
+agree-on Anonymous (Image q) f g page i x y z h = h
+agree-on (Image p) Anonymous f g page i x y z h = h
+agree-on (Image p) (Image q) f g page i x y z h =
+    sym (agree-image (p .0) f (q .0) g i (omega arith) (omega arith)) ∙ agree-image (p .0) f (q .0) g page x y ∙ h
+
+-- how far one area of the snapshot reaches
+module _ (a copy : Area) (page : ℕ) where
+  abbrev same : Bool
+  same = follows (advance (a .backing) (page - a .first .0)) 0 (advance (copy .backing) (page - copy .first .0))
+
+  pub reach-below : page < copy .first .0 → page ≡ reach a copy page
+  reach-below h = rw (inside-below (copy .first .0) (copy .pages) page h)
+
+  pub reach-past : copy .first .0 + copy .pages ≤ page → page ≡ reach a copy page
+  reach-past h = rw (inside-past (copy .first .0) (copy .pages) page h)
+
+  module _ (x : copy .first .0 ≤ page) (y : page < copy .first .0 + copy .pages) where
+    pub reach-not : same ≡ false → page ≡ reach a copy page
+    reach-not e = rw (inside-yes (copy .first .0) (copy .pages) page x y, e)
+
+    pub reach-end : same ≡ true → copy .first .0 + copy .pages ≡ reach a copy page
+    reach-end e = rw (inside-yes (copy .first .0) (copy .pages) page x y, e)
+
+module _ (s : Areas) (a : Area) where
+  abbrev at : ℕ → Area
+  at k = getD (s .list) k none
+
+  abbrev end : ℕ
+  end = a .first .0 + a .pages
+
+  -- page i of the area is in the snapshot, with the same backing
+  abbrev test : ℕ → Bool
+  test = backedAt a (slots s)
+
+  -- the walk has come to a page: those of the area before it pass, and where the others do too, the areas before place k have ended
+  pub record Come (k page : ℕ) : Type 0 where
+    pub started : a .first .0 ≤ page
+    pub rest : every test (a .first .0) (a .pages) ≡ every test page (end - page)
+    pub passed : page < end → every test page (end - page) ≡ true → (j : ℕ) → j < k → endOf s j ≤ page
+
+  pub come-start : Come 0 (a .first .0)
+  come-start = record {
+    started = omega arith;
+    rest = ap (every test (a .first .0)) (omega arith);
+    passed = λ l t j d. absurd (omega arith);
+  }
+
+module _ (s : Areas) (F : Formed s) (a : Area) where
+  abbrev area : ℕ → Area
+  area k = getD (s .list) k none
+
+  abbrev last : ℕ
+  last = a .first .0 + a .pages
+
+  abbrev passes : ℕ → Bool
+  passes = backedAt a (slots s)
+
+  -- an unmapped page does not pass
+  bare : (i : ℕ) → slots s i ≡ Unmapped → passes i ≡ false
+  bare i e = ap (λ (x : Slot). isMapped x && follows (advance (a .backing) (i - a .first .0)) 0 (backingAt x)) e
+
+  -- at a page of area k
+  here : (k i : ℕ) → k < s .count → area k .first .0 ≤ i → i < endOf s k
+      → passes i ≡ follows (advance (a .backing) (i - a .first .0)) 0 (advance (area k .backing) (i - area k .first .0))
+  here k i l x y = ap (λ (x : Slot). isMapped x && follows (advance (a .backing) (i - a .first .0)) 0 (backingAt x)) (area-says s F k i l x y)
+
+  -- area k has the page and agrees: so it does up to its end
+  skip : (k page : ℕ) → k < s .count → a .first .0 ≤ page → covers (area k) page ≡ true
+      → follows (advance (a .backing) (page - a .first .0)) 0 (advance (area k .backing) (page - area k .first .0)) ≡ true
+      → every passes page (last - page) ≡ every passes (endOf s k) (last - endOf s k)
+  skip k page l g c t =
+      let x = inside-first (area k .first .0) (area k .pages) page c in
+      let y = inside-end (area k .first .0) (area k .pages) page c in
+      every-over passes last page (endOf s k) (omega arith) (λ i u v z. here k i l (omega arith) v
+      ∙ agree-on (a .backing) (area k .backing) (a .first .0) (area k .first .0) page i g x u t)
+
+  module _ (k page : ℕ) (l : k < s .count) (w : Come s a k page) where
+    abbrev agrees : Bool
+    agrees = follows (advance (a .backing) (page - a .first .0)) 0 (advance (area k .backing) (page - area k .first .0))
+
+    -- area k has the page and agrees: the walk goes on to the area's end
+    goes : covers (area k) page ≡ true → agrees ≡ true → Come s a (k + 1) (endOf s k)
+    goes c t =
+        let y = inside-end (area k .first .0) (area k .pages) page c in
+        record {
+          started = omega (arith, w .started);
+          rest = w .rest ∙ skip k page l (w .started) c t;
+          passed = λ z h j d. behind j d (ℕ-discrete j k);
+        }
+      where
+        behind : (j : ℕ) → j < k + 1 → Dec (j ≡ k) → endOf s j ≤ endOf s k
+        behind j d (yes e) = rw e (omega arith)
+        behind j d (no e) = omega (arith, order s F j k (omega arith) l)
+
+    -- else it stays: where the rest passes, area k has ended
+    stays : (covers (area k) page && agrees) ≡ false → Come s a (k + 1) page
+    stays n = record {
+      started = w .started;
+      rest = w .rest;
+      passed = λ z h j d. behind z h j d (ℕ-discrete j k);
+    }
+      where
+        ended : page < last → every passes page (last - page) ≡ true → Dec (page < endOf s k) → Dec (page < area k .first .0) → endOf s k ≤ page
+        ended z h (no x) y = omega arith
+        ended z h (yes x) (yes y) =
+            never (passes page) (every-at passes page (last - page) h page (omega arith) (omega arith))
+            (bare page (between s F page k (w .passed z h) (λ j d m. later j d m (ℕ-discrete k j))))
+          where
+            later : (j : ℕ) → k ≤ j → j < s .count → Dec (k ≡ j) → page < area j .first .0
+            later j d m (yes e) = rw e at y
+            later j d m (no e) = omega (arith, order s F k j (omega arith) m)
+        ended z h (yes x) (no y) =
+            let c : covers (area k) page ≡ true = inside-yes (area k .first .0) (area k .pages) page (omega arith) x in
+            never (passes page) (every-at passes page (last - page) h page (omega arith) (omega arith))
+            (here k page l (omega arith) x ∙ (rw c at n))
+
+        behind : page < last → every passes page (last - page) ≡ true → (j : ℕ) → j < k + 1 → Dec (j ≡ k) → endOf s j ≤ page
+        behind z h j d (yes e) = rw e (ended z h (decLt page (endOf s k)) (decLt page (area k .first .0)))
+        behind z h j d (no e) = w .passed z h j (omega arith)
+
+    -- one area more
+    pub come-next : Come s a (k + 1) (reach a (area k) page)
+    come-next =
+        when-cases (Come s a (k + 1)) (covers (area k) page && agrees)
+        (λ t. goes (and-left (covers (area k) page) agrees t) (and-right (covers (area k) page) agrees t)) stays
+
+  -- all of them: the walk has come to the area's end, or not
+  pub come-all : (page : ℕ) → Come s a (s .count) page → leb last page ≡ every passes (a .first .0) (a .pages)
+  come-all page w = go (decLt page last)
+    where
+      go : Dec (page < last) → leb last page ≡ every passes (a .first .0) (a .pages)
+      go (no d) = le-leb last page (omega arith) ∙ sym (w .rest ∙ every-end passes last page (omega arith))
+      go (yes d) = lt-leb last page d ∙ sym (w .rest ∙ by-cases (every passes page (last - page))
+          (λ t. never (passes page) (every-at passes page (last - page) t page (omega arith) (omega arith))
+          (bare page (between s F page (s .count) (w .passed d t) (λ j x m. absurd (omega arith)))))
+          (λ f. f))
+
+-- the test of the area's pages: it asks nothing of one that is not committed
+module _ (a : Area) (f : Slots) where
+  abbrev asked : ℕ → Bool
+  asked i = backingOk (slotOf a i) (f i)
+
+  pub uncommitted-passes : a .committed ≡ false → true ≡ every asked (a .first .0) (a .pages)
+  uncommitted-passes e = sym (every-of asked (a .first .0) (a .pages) (λ i l u. rw e))
+
+  pub committed-is : a .committed ≡ true → every (backedAt a f) (a .first .0) (a .pages) ≡ every asked (a .first .0) (a .pages)
+  committed-is e = every-alike (backedAt a f) asked (a .first .0) (a .pages) (λ i l u. rw e)
+
+-- an area of the snapshot that has them all
+module _ (s : Areas) (F : Formed s) (a : Area) (k : ℕ) where
+  abbrev copy : Area
+  copy = getD (s .list) k none
+
+  abbrev first : ℕ
+  first = a .first .0
+
+  abbrev agreed : Bool
+  agreed = follows (advance (a .backing) (first - first)) 0 (advance (copy .backing) (first - copy .first .0))
+
+  in-use : covers copy first ≡ true → Dec (k < s .count) → k < s .count
+  in-use c (yes d) = d
+  in-use c (no d) = never (covers copy first) c (ap (λ (x : Area). covers x first) (F .formed .rest k (omega arith)) ∙ covers-none first)
+
+  all-pass : first + a .pages ≤ reach a copy first → every (backedAt a (slots s)) first (a .pages) ≡ true
+  all-pass h =
+      let n : a .pages ≡ first + a .pages - first = omega arith in
+      ap (every (backedAt a (slots s)) first) n
+      ∙ by-cases (covers copy first && agreed)
+      (λ t. let c = and-left (covers copy first) agreed t in
+      skip s F a k first (in-use c (decLt k (s .count))) (omega arith) c (and-right (covers copy first) agreed t)
+      ∙ every-end (backedAt a (slots s)) (first + a .pages) (endOf s k) (rw t at h))
+      (λ t. every-end (backedAt a (slots s)) (first + a .pages) first (rw t at h))
+
+  pub lies-passes : implies (a .committed) (leb (first + a .pages) (reach a copy first)) ≡ true
+      → every (λ i. backingOk (slotOf a i) (slots s i)) first (a .pages) ≡ true
+  lies-passes h =
+      by-cases (a .committed)
+      (λ e. sym (committed-is a (slots s) e) ∙ all-pass (leb-true (first + a .pages) (reach a copy first) (implied (a .committed) _ h e)))
+      (λ e. sym (uncommitted-passes a (slots s) e))
