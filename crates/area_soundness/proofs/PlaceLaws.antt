@@ -1,4 +1,4 @@
--- The tests of the code beside the definitions: of no area, of two that stand apart, of a place; and what the test of all comes to where one fails, or none does.
+-- The tests of the code beside the definitions: of no area, of two that stand apart, of a place; and what that of all comes to where one fails, or none does.
 use Prim.Native.Nat.{ℕ, _+_, _-_, _≤_, _<_}
 use mathlib.Core.Path.{_≡_, refl, sym, _∙_}
 use mathlib.Core.Bool.{Bool, true, false, not, _&&_}

@@ -1,26 +1,22 @@
--- The test of a sandbox's pages is true exactly where each page is as a sound state asks; and what it comes to where nothing is mapped.
+-- The test of a sandbox's pages is true exactly where each page is as a sound state asks.
 use mathlib.Core.Path.{_≡_, refl, sym, ap, _∙_}
-use mathlib.Core.Bool.{Bool, true, false, not, _&&_, false≢true}
+use mathlib.Core.Bool.{Bool, true, false, not}
 use Prim.Native.Nat.{ℕ, _+_, _<_}
 use native.Mathlib.Omega.{arith}
 use lib.Dec.{eqb}
 use borrow.Author.Tests.{eq-eqb, eqb-true, not-true}
 use Rattle.basics.specs.Choice.{implies}
-use Rattle.basics.specs.Ranges.{every}
 use Rattle.basics.proofs.TestLaws.{and-both, and-of, implied, implies-of}
 use Rattle.basics.proofs.LoopLaws.{every-at, every-of}
 use Rattle.interface.specs.declared.page.Backing.{Backing}
 use Rattle.interface.specs.declared.page.Backing.the-variants.{Anonymous, Image}
 use Rattle.interface.specs.declared.page.Slot.{Slot}
-use Rattle.interface.specs.declared.page.Slot.the-variants.{Unmapped, Mapped}
 use Rattle.interface.specs.Slots.{isMapped, isCommitted, backingAt, follows}
 use Rattle.table.specs.Store.{Store, entry, frontOf, backOf}
 use Rattle.areas.specs.declared.area.Areas.{Areas}
 use Rattle.areas.specs.Areas.{slots}
-use Rattle.areas.specs.Walk.{Formed}
 use Rattle.areas.proofs.SlotLaws.{advance-zero, follows-true}
-use Rattle.areas.proofs.WalkLaws.{between}
-use Rattle.page_test.specs.Pages.{pageOk, namesNone, pagesOk}
+use Rattle.page_test.specs.Pages.{pageOk, pagesOk}
 
 -- ---- a page
 
@@ -81,24 +77,3 @@ module _ (st : Store) (s : ℕ) (present snapshot : Areas) where
   pub pages-of : ((i : ℕ) → i < 64 → AtPage i) → pagesOk st s present snapshot ≡ true
   unfolding pagesOk
   pages-of P = every-of testAt 0 64 (λ i l d. page-of _ _ _ _ (P i (omega arith)))
-
--- ---- where nothing is mapped
-
--- without areas nothing is mapped
-nothing-mapped : (a : Areas) → Formed a → a .count ≡ 0 → (i : ℕ) → slots a i ≡ Unmapped
-nothing-mapped a F e i = between a F i 0 (λ j d. absurd (omega arith)) (λ j d l. absurd (omega arith))
-
-pub no-areas : (st : Store) (s : ℕ) (present snapshot : Areas) → Formed present → Formed snapshot → present .count ≡ 0 → snapshot .count ≡ 0
-    → every (namesNone st s) 0 64 ≡ pagesOk st s present snapshot
-unfolding pagesOk pageOk
-no-areas st s present snapshot F G e g =
-    let same : (i : ℕ) → namesNone st s i ≡ pageOk (slots present i) (slots snapshot i) (entry st (frontOf s i)) (entry st (backOf s i)) =
-    λ i. rw (nothing-mapped present F e i, nothing-mapped snapshot G g i) in
-    ap (λ p. every p 0 64) (λ j i. same i j)
-
--- a page in neither has no entry that names a frame
-pub page-none : (p s : Slot) (front back : ℕ) → isMapped p ≡ false → isMapped s ≡ false → (eqb front 0 && eqb back 0) ≡ pageOk p s front back
-unfolding pageOk
-page-none Unmapped Unmapped front back e g = refl
-page-none Unmapped (Mapped t) front back e g = absurd (false≢true (sym g))
-page-none (Mapped t) s front back e g = absurd (false≢true (sym e))

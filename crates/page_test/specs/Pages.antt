@@ -18,10 +18,6 @@ pageOk present snapshot front back =
     && (implies (isCommitted present) (follows (backingAt present) 0 (backingAt snapshot))
     && (implies (not (isMapped present)) (eqb front 0) && implies (not (isMapped snapshot)) (eqb back 0))))
 
--- page i has neither front nor back: "fronts stand on mapped pages only, backs on snapshot pages only", of a page in neither
-abbrev pub namesNone : Store → ℕ → ℕ → Bool
-namesNone st s i = eqb (entry st (frontOf s i)) 0 && eqb (entry st (backOf s i)) 0
-
 -- of all pages of sandbox s
 unfoldable pub pagesOk : Store → ℕ → Areas → Areas → Bool
 pagesOk st s present snapshot = every (λ i. pageOk (slots present i) (slots snapshot i) (entry st (frontOf s i)) (entry st (backOf s i))) 0 64
