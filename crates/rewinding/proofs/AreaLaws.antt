@@ -1,6 +1,6 @@
 -- A rewind area by area is the rewind page by page: a committed area keeps its fronts, and all pages between two such areas give theirs up.
-use Prim.Native.Nat.{ℕ, zero, suc, _+_, _-_, _*_, _≤_, _<_}
-use mathlib.Core.Path.{_≡_, refl, sym, ap, _∙_}
+use Prim.Native.Nat.{ℕ, _+_, _-_, _*_, _≤_, _<_}
+use mathlib.Core.Path.{_≡_, sym, ap, _∙_}
 use mathlib.Core.Bool.{Bool, true, false}
 use mathlib.Core.List.{List}
 use native.Mathlib.Omega.{arith}
@@ -19,7 +19,7 @@ use Rattle.table.proofs.RewindLaws.{rewindTo-kept, rewindTo-join, rewindTo-same
 use Rattle.areas.specs.declared.area.Area.{Area}
 use Rattle.areas.specs.declared.area.Areas.{Areas}
 use Rattle.areas.specs.Areas.{none, slots, slotOf}
-use Rattle.areas.specs.Formed.{ImagesExist, Proper, WellFormed}
+use Rattle.areas.specs.Formed.{ImagesExist, WellFormed}
 use Rattle.areas.specs.Walk.{Formed}
 use Rattle.areas.proofs.FewAreas.{area-slot}
 use Rattle.areas.proofs.WalkLaws.{settled, endOf, Before, before-start, before-gap, before-next, before-last}

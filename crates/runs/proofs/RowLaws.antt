@@ -2,7 +2,7 @@
 use Prim.Native.Nat.{ℕ, zero, suc, _+_, _-_, _≤_, _<_}
 use native.Mathlib.Numerals.{add-one}
 use mathlib.Core.Path.{_≡_, refl, sym, ap, _∙_}
-use mathlib.Core.Bool.{Bool, true, false}
+use mathlib.Core.Bool.{Bool, true}
 use mathlib.Core.List.{List, [], _∷_}
 use native.Mathlib.Omega.{arith}
 use lib.Dec.{eqb, ltb, leb}
@@ -15,11 +15,12 @@ use Rattle.basics.proofs.RowLaws.{best-low}
 use Rattle.basics.proofs.TestLaws.{by-cases, when-cases}
 use Rattle.frames.specs.declared.Held.{Held}
 use Rattle.basics.specs.Ranges.{sum}
-use Rattle.frames.specs.Frames.{held, noneHeld, countHeld}
+use Rattle.frames.specs.Frames.{held, noneHeld, sameHeld, countHeld}
 use Rattle.words.proofs.SumLaws.{sum-le}
-use Rattle.frames.proofs.FrameLaws.{held-lt, held-zero, none-count}
+use Rattle.frames.proofs.FrameLaws.{held-lt, held-zero, none-count, same-held-true}
+use Rattle.runs.specs.declared.Choice.{Choice}
 use Rattle.runs.specs.declared.Runs.{Runs}
-use Rattle.runs.specs.Row.{row, lengthsOf, noRuns, withRunAt, rowTo, tabled, betterOf, shiftTo, movedRuns, pushed}
+use Rattle.runs.specs.Row.{row, lengthsOf, noRuns, withRunAt, rowTo, tabled, orBetter, shiftTo, movedRuns, pushed}
 
 to-length : (n : ℕ) (f : ℕ → Held) → length (rowTo n f) ≡ n
 unfolding rowTo
@@ -59,19 +60,25 @@ no-runs r e h = let z = all-none (r .list) 8 e h in λ i. record { list = z i }
 
 -- ---- the best run, by the code's loops
 
+-- of the first i places, the best with its length is found
+pub record BestOf (better : ℕ → ℕ → Bool) (l : ℕ → ℕ) (i : ℕ) (found : Choice) : Type 0 where
+  pub low : found .place < 8
+  pub place : found .place ≡ best better l i
+  pub length : found .length ≡ l (found .place)
+
 module _ (better : ℕ → ℕ → Bool) (l : ℕ → ℕ) where
-  pub better-new : (new old x y : ℕ) → x ≡ l new → y ≡ l old → better x y ≡ true → new ≡ betterOf better l new old
-  better-new new old x y a b h = rw (← a, ← b, h)
-
-  pub better-old : (new old x y : ℕ) → x ≡ l new → y ≡ l old → better x y ≡ false → old ≡ betterOf better l new old
-  better-old new old x y a b h = rw (← a, ← b, h)
-
-  pub best-more : (i b c : ℕ) → b ≡ best better l i → c ≡ betterOf better l i b → c ≡ best better l (i + 1)
+  pub best-first : (n : ℕ) → n ≡ l 0 → BestOf better l 0 (record { place = 0; length = n })
   unfolding best
-  best-more i b c e d = d ∙ rw (add-one i) (rw e)
+  best-first n e = record { low = omega arith; place = refl; length = e }
 
-  pub better-low : (new old c : ℕ) → new < 8 → old < 8 → c ≡ betterOf better l new old → c < 8
-  better-low new old c a b e = rw e (when-cases (λ (x : ℕ). x < 8) (better (l new) (l old)) (λ _. a) (λ _. b))
+  pub best-more : (i n : ℕ) (found next : Choice) → i < 8 → n ≡ l i → BestOf better l i found → next ≡ orBetter better i n found
+      → BestOf better l (i + 1) next
+  unfolding best
+  best-more i n found next low e b d =
+      let same : better (l i) (l (best better l i)) ≡ better n (found .length) = rw (e, b .length, b .place) in
+      by-cases (better n (found .length))
+      (λ t. rw (d, t) (record { low = low; place = rw (add-one i, same, t); length = e }))
+      (λ t. rw (d, t) (record { low = b .low; place = rw (add-one i, same, t) (b .place); length = b .length }))
 
 -- ---- the other loops
 
@@ -102,6 +109,14 @@ pub push-moves : (r : Runs) (run : Held) (c n m : ℕ) (q : Runs) → c ≡ best
     → q ≡ movedRuns c run r → q ≡ pushed r run
 unfolding pushed
 push-moves r run c n m q place size old h d = rw (← place, ← size, ← old, lt-leb n m h) d
+
+-- a last place without a frame is the shortest, and the newest of those
+pub push-last : (r : Runs) (run : Held) (n : ℕ) (e : Bool) (q : Runs) → n ≡ countHeld run → (n ≡ 0 → ⊥) → e ≡ sameHeld (row r 7) noneHeld → e ≡ true
+    → q ≡ withRunAt 7 run r → q ≡ pushed r run
+unfolding pushed best movedRuns shiftTo
+push-last r run n e q size some same t d =
+    let none : lengthsOf r 7 ≡ 0 = rw (same-held-true (row r 7) noneHeld (sym same ∙ t)) (none-count noneHeld (λ f l. held-zero f)) in
+    d ∙ rw (none, le-leb 0 (lengthsOf r (best noLonger (lengthsOf r) 7)) (omega arith), none, ← size, lt-leb n 0 (omega (arith, some)))
 
 -- a run of none changes nothing
 pub pushed-empty : (r : Runs) (run : Held) → countHeld run ≡ 0 → pushed r run ≡ r

@@ -11,6 +11,7 @@ use Rattle.run_choice.specs.Runs.{longestRun}
 use Rattle.frames.specs.declared.Held.{Held}
 use Rattle.frames.specs.Frames.{held, noneHeld, countHeld}
 use Rattle.runs.specs.declared.Runs.{Runs}
+use Rattle.runs.specs.declared.Choice.{Choice}
 use Rattle.runs.specs.declared.Rule.{Rule}
 use Rattle.runs.specs.declared.Rule.the-variants.{Longest, Shortest, Fitting}
 
@@ -43,9 +44,9 @@ betterBy Longest new old = longer new old
 betterBy Shortest new old = noLonger new old
 betterBy (Fitting pages) new old = fitter pages new old
 
--- of two places the one with the better length, else the second
-abbrev pub betterOf : (ℕ → ℕ → Bool) → (ℕ → ℕ) → ℕ → ℕ → ℕ
-betterOf better l new old = new when better (l new) (l old) else old
+-- another place with its length where that is better, else the one that was found
+abbrev pub orBetter : (ℕ → ℕ → Bool) → ℕ → ℕ → Choice → Choice
+orBetter better place length found = record { place = place; length = length } when better length (found .length) else found
 
 -- the first j runs after place c have moved up by one
 unfoldable pub shiftTo : ℕ → Runs → ℕ → Runs

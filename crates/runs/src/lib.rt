@@ -9,7 +9,7 @@ ghost use Rattle.basics.specs.Rows.{best, longer, noLonger, fitter};
 ghost use Rattle.frames.specs.Frames.{noneHeld, sameHeld};
 ghost use Rattle.run_choice.specs.Runs.{longestRun, runFor};
 ghost use Rattle.interface.specs.Numbers.{MostFrames};
-ghost use Rattle.runs.specs.Row.{row, lengthsOf, noRuns, withRunAt, betterBy, betterOf, movedRuns, pushed};
+ghost use Rattle.runs.specs.Row.{row, lengthsOf, noRuns, withRunAt, betterBy, orBetter, movedRuns, pushed};
 use frames::Held;
 
 // "At most 8 runs are kept": the oldest first. A place without a frame is no run, and may stand anywhere.
@@ -106,13 +106,16 @@ impl Runs {
     }
 
     // A new run, the newest: it takes the place of the shortest, of equals the newest, unless it is no longer than that.
-    // A run of no frame changes nothing, and no place is looked for.
+    // A run of no frame changes nothing, and no place is looked for; nor is one where the last is empty, for none is shorter and newer.
     pub fn push(self, run: Held) -> Runs
         ensures { λ r. ⌜ r ≡ pushed self run ⌝ }
     {
         let frames = run.count();
         if frames == 0 {
             return self;
+        }
+        if self.is_empty(Runs::LAST) {
+            return self.with(Runs::LAST, run);
         }
         let c = self.shortest();
         if frames <= self.length(c) {
@@ -162,24 +165,37 @@ impl Runs {
         ensures { λ r. ⌜ r ≡ best (betterBy rule) (lengthsOf self) 8 ⌝ }
         ensures low { λ r. ⌜ r < 8 ⌝ }
     {
-        let mut best: u8 = 0;
+        let first = self.list[0];
+        let mut found = Choice {
+            place: 0,
+            length: first.count(),
+        };
         for i in 0..Runs::END {
-            best = self.better_of(rule, i, best);
+            let run = self.list[i as usize];
+            found = found.or_better(rule, i, run.count());
         }
-        best
+        found.place
     }
+}
 
-    // Of two places the one with the better run, else the second.
-    fn better_of(self, rule: Rule, new: u8, old: u8) -> u8
-        requires { ⌜ new < 8 ⌝ }
-        requires { ⌜ old < 8 ⌝ }
-        ensures { λ r. ⌜ r ≡ betterOf (betterBy rule) (lengthsOf self) new old ⌝ }
+// A place, and the length of the run in it.
+struct Choice {
+    place: u8,
+    length: u8,
+}
+
+impl Choice {
+    // Another place where its run is better, else this one.
+    fn or_better(self, rule: Rule, place: u8, length: u8) -> Choice
+        ensures { λ r. ⌜ r ≡ orBetter (betterBy rule) place length self ⌝ }
     {
-        if is_better(rule, self.length(new), self.length(old)) {
-            new
-        } else {
-            old
+        if is_better(rule, length, self.length) {
+            return Choice {
+                place: place,
+                length: length,
+            };
         }
+        self
     }
 }
 

@@ -1,14 +1,12 @@
 -- The pages below the first one that is still to be rewound are restored, each as the present areas say it; where a front stays, the snapshot's say the same.
 use mathlib.Core.Path.{_≡_, refl, ap, _∙_}
-use mathlib.Core.List.{List}
-use Prim.Native.Nat.{ℕ, _+_, _-_, _*_, _≤_, _<_}
+use Prim.Native.Nat.{ℕ, _-_, _*_, _≤_}
 use native.Mathlib.Omega.{arith}
 use borrow.Author.Needs.{needs}
-use lib.ListN.{length, getD}
+use lib.ListN.{length}
 use Rattle.interface.specs.Numbers.{pagesIn}
 use Rattle.table.specs.Store.{Store, kept, frontOf, Ranged, freeTo, rewindTo}
 use Rattle.table.specs.Backing.{backingPage}
-use Rattle.areas.specs.Areas.{none}
 use Rattle.areas.specs.Formed.{WellFormed}
 use Rattle.content.specs.Content.{copyPage}
 use Rattle.memory.specs.Memory.{keepsFront}
