@@ -12,7 +12,8 @@ use Rattle.basics.proofs.TestLaws.{by-cases, both-ways, and-both, and-of}
 use Rattle.columns.specs.declared.Field.{Field}
 use Rattle.columns.specs.declared.Field.the-variants.{Number, Bad}
 use Rattle.columns.specs.Prints.{columns, printedField}
-use Rattle.columns.specs.Fields.{withDigit, withColumn, columnsRead, fieldOf, asField, blanks}
+use Rattle.columns.specs.Fields.{withDigit, withColumn, columnsRead, fieldOf}
+use Rattle.columns.specs.Reading.{asField, blanks}
 use Rattle.columns.proofs.FieldLaws.{number-same, digit-said, field-said, field-small}
 
 -- a byte as a digit, of which 48 was taken off

@@ -4,7 +4,8 @@
 ghost use mathlib.Core.Path.{_≡_};
 ghost use Prim.Native.Nat.{_+_, _%_, _^_, _≤_, _<_};
 ghost use lib.ListN.{length, getD};
-ghost use Rattle.columns.specs.Fields.{withDigit, columnsRead, fieldOf, asField, blanks};
+ghost use Rattle.columns.specs.Fields.{withDigit, columnsRead, fieldOf};
+ghost use Rattle.columns.specs.Reading.{asField, blanks};
 
 // What 6 columns say: a number, or none.
 pub enum Field {
