@@ -1,18 +1,20 @@
 -- Laws of a field read as a number: blanks are passed over, then each column has a digit; what is no digit, or too much, stays so to the end.
 use Prim.Native.Nat.{ℕ, zero, suc, _+_, _-_, _*_, _/_, _%_, _^_, _≤_, _<_}
-use mathlib.Core.Path.{_≡_, refl, sym, _∙_}
+use mathlib.Core.Path.{_≡_, refl, sym, ap, _∙_}
 use mathlib.Core.Bool.{true, _&&_}
 use mathlib.Core.List.{List}
 use native.Mathlib.Omega.{arith}
-use lib.ListN.{getD}
+use lib.ListN.{length, getD}
 use lib.Dec.{eqb, ltb}
 use borrow.Author.Tests.{eqb-true, eq-eqb, ltb-false, lt-ltb, le-ltb, ne-eqb}
 use Rattle.basics.specs.Ranges.{every}
 use Rattle.basics.proofs.TestLaws.{by-cases, both-ways, and-both, and-of}
 use Rattle.columns.specs.declared.Field.{Field}
 use Rattle.columns.specs.declared.Field.the-variants.{Number, Bad}
-use Rattle.columns.specs.Fields.{withDigit, withColumn, columnsRead, fieldOf, asField, blanks}
-use Rattle.columns.proofs.FieldLaws.{number-same, digit-said}
+use Rattle.columns.specs.Prints.{columns, printedField}
+use Rattle.columns.specs.Fields.{withDigit, withColumn, columnsRead, fieldOf}
+use Rattle.columns.specs.Reading.{asField, blanks}
+use Rattle.columns.proofs.FieldLaws.{number-same, digit-said, field-said, field-small}
 
 -- a byte as a digit, of which 48 was taken off
 module _ (n byte digit : ℕ) (wraps : (digit + 48) % 2 ^ 32 ≡ byte) (fits : digit < 2 ^ 32) where
@@ -70,6 +72,40 @@ bad-field part k h e =
 pub zero-field : (part : List ℕ) (k : ℕ) → k < 5 → columnsRead part k ≡ Number 0 → getD part k 0 ≡ 48 → Bad ≡ fieldOf part
 unfolding columnsRead withColumn
 zero-field part k h e b = bad-field part (suc k) (omega arith) (rw (e, b))
+
+-- six digits are above 65,535, so that a field that says a number begins with a blank
+first-blank : (n : ℕ) → n ≤ 65535 → getD (printedField n) 0 0 ≡ 32
+unfolding printedField columns
+first-blank n h = let none : n / 10 / 10 / 10 / 10 / 10 ≡ 0 = omega arith in rw none
+
+pub six-field : (part : List ℕ) → length part ≡ 6 → (getD part 0 0 ≡ 32 → ⊥) → Bad ≡ fieldOf part
+six-field part h other = go (fieldOf part) refl
+  where
+    go : (f : Field) → fieldOf part ≡ f → Bad ≡ fieldOf part
+    go Bad e = sym e
+    go (Number n) e = absurd (other (ap (λ l. getD l 0 0) (field-said part n h e) ∙ first-blank n (field-small part n e)))
+
+-- i columns of which the first is a blank have at most i - 1 digits
+pub digits-none : (k : ℕ) → 0 < 10 ^ k
+digits-none zero = omega arith
+digits-none (suc k) = let l = digits-none k in omega arith
+
+pub digits-more : (i n digit : ℕ) → 0 < i → n < 10 ^ (i - 1) → digit < 10 → n * 10 + digit < 10 ^ (i + 1 - 1)
+digits-more zero n digit h l d = absurd (omega arith)
+digits-more (suc i) n digit h l d =
+    let here : suc i - 1 ≡ i = omega arith in
+    let next : suc i + 1 - 1 ≡ suc i = omega arith in
+    let few : n < 10 ^ i = rw here at l in
+    rw next (omega arith)
+
+pub digits-few : (i n : ℕ) → i ≤ 5 → n < 10 ^ (i - 1) → n ≤ 9999
+digits-few zero n h l = omega arith
+digits-few (suc zero) n h l = omega arith
+digits-few (suc (suc zero)) n h l = omega arith
+digits-few (suc (suc (suc zero))) n h l = omega arith
+digits-few (suc (suc (suc (suc zero)))) n h l = omega arith
+digits-few (suc (suc (suc (suc (suc zero))))) n h l = omega arith
+digits-few (suc (suc (suc (suc (suc (suc i)))))) n h l = absurd (omega arith)
 
 -- a column behind the first digit, or with it, is read as a digit
 column-digit : (n byte : ℕ) → (n ≡ 0 → byte ≡ 32 → ⊥) → (n ≡ 0 → byte ≡ 48 → ⊥) → withColumn (Number n) byte ≡ withDigit (Number n) byte

@@ -5,7 +5,6 @@ use mathlib.Core.List.{List}
 use lib.ListN.{getD}
 use lib.Dec.{ltb, eqb}
 use Rattle.basics.specs.Choice.{_when_else_}
-use Rattle.basics.specs.Ranges.{every}
 use Rattle.columns.specs.declared.Field.{Field}
 use Rattle.columns.specs.declared.Field.the-variants.{Number, Bad}
 
@@ -45,11 +44,3 @@ isNumber Bad = false
 abbrev pub numberIn : Field → ℕ
 numberIn (Number n) = n
 numberIn Bad = 0
-
--- what is said where a number was read, or one above 65,535 in place of none
-abbrev pub asField : ℕ → Field
-asField n = Bad when ltb 65535 n else Number n
-
--- whether the n bytes from a place on are blanks
-abbrev pub blanks : List ℕ → ℕ → ℕ → Bool
-blanks text at n = every (λ i. eqb (getD text i 0) 32) at n

@@ -2,3 +2,4 @@
 pub mod Sizes
 pub mod Prints
 pub mod Fields
+pub mod Reading

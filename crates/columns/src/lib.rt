@@ -2,9 +2,10 @@
 // It promises that a number has one accepted form: what 6 columns say is the number whose print they are, and every number's print is taken (proofs/FieldLaws).
 // It stands on `interface` for the numbers of a request, and on `basics`.
 ghost use mathlib.Core.Path.{_≡_};
-ghost use Prim.Native.Nat.{_+_, _≤_, _<_};
+ghost use Prim.Native.Nat.{_+_, _%_, _^_, _≤_, _<_};
 ghost use lib.ListN.{length, getD};
-ghost use Rattle.columns.specs.Fields.{withDigit, columnsRead, fieldOf, asField, blanks};
+ghost use Rattle.columns.specs.Fields.{withDigit, columnsRead, fieldOf};
+ghost use Rattle.columns.specs.Reading.{asField, blanks};
 
 // What 6 columns say: a number, or none.
 pub enum Field {
@@ -57,7 +58,7 @@ pub fn read_number(part: &[u8]) -> u32
     ensures { λ r. ⌜ asField r ≡ fieldOf (now (part .entry)) ⌝ }
 {
     if part[0] != b' ' {
-        return digits_from(part, 0);
+        return Field::NONE;
     }
     if part[1] != b' ' {
         return digits_from(part, 1);
@@ -91,9 +92,9 @@ fn wide(byte: u8) -> u32
     byte as u32
 }
 
-// The digits from the first column that is no blank. It is not the last, and so has no 0.
+// The digits from the first column that is no blank. It is not the last, and so has no 0; nor the first, and so 4 digits stand before the last column.
 fn digits_from(part: &[u8], first: usize) -> u32
-    requires { ⌜ (length (now part) ≡ 6) × (first < 5) ⌝ }
+    requires { ⌜ (length (now part) ≡ 6) × (0 < first) × (first < 5) ⌝ }
     requires { ⌜ (columnsRead (now part) first ≡ Field.Number 0) × (getD (now part) first 0 ≡ 32 → ⊥) ⌝ }
     ensures { λ r. ⌜ asField r ≡ fieldOf (now (part .entry)) ⌝ }
 {
@@ -103,23 +104,31 @@ fn digits_from(part: &[u8], first: usize) -> u32
     let mut n: u32 = 0;
     let mut i = first;
     while i < Field::LAST_COLUMN {
-        n = with_digit(n, part[i]);
-        if n > Field::MOST {
+        let digit = digit_of(part[i]);
+        if digit >= Field::RADIX {
             return Field::NONE;
         }
+        n = n * Field::RADIX + digit;
         i += 1;
     }
     with_digit(n, part[Field::LAST_COLUMN])
 }
 
-// A number with one more column, which has a digit. The byte is compared once: below "0" the difference wraps, and is above 9 too.
+// A number with one more column, which has a digit.
 pub fn with_digit(n: u32, byte: u8) -> u32
     requires { ⌜ n ≤ 65535 ⌝ }
     ensures { λ r. ⌜ asField r ≡ withDigit (Field.Number n) byte ⌝ }
 {
-    let digit = std::num::wrapping_sub_u32(byte as u32, Field::ZERO);
+    let digit = digit_of(byte);
     if digit >= Field::RADIX {
         return Field::NONE;
     }
     n * Field::RADIX + digit
+}
+
+// A byte less the digit 0. Below "0" the difference wraps, so that one comparison tells whether the byte is a digit.
+fn digit_of(byte: u8) -> u32
+    ensures { λ r. ⌜ (r + 48) % 2 ^ 32 ≡ byte ⌝ }
+{
+    std::num::wrapping_sub_u32(byte as u32, Field::ZERO)
 }

@@ -16,7 +16,8 @@ use Rattle.columns.specs.declared.Field.{Field}
 use Rattle.columns.specs.declared.Field.the-variants.{Number, Bad}
 use Rattle.lines.specs.declared.Line.the-variants.{Call, Malformed}
 use Rattle.columns.specs.Prints.{printedField, printedLine, UpTo, numbersOf, printedRequest}
-use Rattle.columns.specs.Fields.{withDigit, isNumber, numberIn, asField, blanks}
+use Rattle.columns.specs.Fields.{withDigit, isNumber, numberIn}
+use Rattle.columns.specs.Reading.{asField, blanks}
 use Rattle.lines.specs.Lines.{fieldAt, hasNumber, numeralAt, wellFormed, requestIn, parsed, bytesAt, lineAt, linesOf}
 use Rattle.columns.proofs.PrintLaws.{length-field, length-request}
 use Rattle.columns.proofs.FieldLaws.{field-said, field-small, field-says}

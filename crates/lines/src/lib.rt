@@ -6,7 +6,7 @@ ghost use mathlib.Core.Path.{_≡_};
 ghost use Prim.Native.Nat.{_+_, _*_, _≤_, _<_};
 ghost use lib.ListN.{length};
 ghost use Rattle.columns.specs.Sizes.{LineBytes};
-ghost use Rattle.columns.specs.Fields.{asField};
+ghost use Rattle.columns.specs.Reading.{asField};
 ghost use Rattle.lines.specs.Lines.{fieldAt, parsed, linesOf, lineAt};
 use columns::Field;
 use columns::as_field;

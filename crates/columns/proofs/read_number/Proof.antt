@@ -1,11 +1,11 @@
--- A field as a number: behind each test one column more is known to be a blank (`passed-1` and on), so the digits begin at the next, or there is one.
+-- A field as a number: it begins with a blank (`six-field`), and behind each test one column more is known to be one (`passed-1` and on).
 use mathlib.Core.Path.{_≡_}
 use mathlib.Core.List.{List}
 use Prim.Native.Nat.{ℕ}
 use borrow.Author.Needs.{needs}
 use Rattle.columns.specs.declared.Field.the-variants.{Number}
 use Rattle.columns.specs.Fields.{columnsRead, fieldOf}
-use Rattle.columns.proofs.ReadLaws.{start-read, blank-read}
+use Rattle.columns.proofs.ReadLaws.{start-read, blank-read, six-field}
 use Rattle.columns.proofs.read_number.Statement.{statement}
 use Rattle.columns.proofs.read_number.Tie as tie
 
@@ -31,17 +31,14 @@ passed-5 c = blank-read (text (c .before .before .before .before .before .before
 shared-slice-read-if1 : tie.Need-shared-slice-read-if1
 shared-slice-read-if1 c = search needs
 
-digits-from-requires : tie.Need-digits-from-requires
-digits-from-requires c κs = ((search needs, search needs), (start-read (c .before .before .before .args .part .now), c .if1 .taken))
-
 returns : tie.Need-returns
-returns c = search needs
+returns c = let start = c .before .before .before in six-field (start .args .part .now) (start .pre) (c .if1 .taken)
 
 shared-slice-read-if2 : tie.Need-shared-slice-read-if2
 shared-slice-read-if2 c = search needs
 
-digits-from-requires-2 : tie.Need-digits-from-requires-2
-digits-from-requires-2 c κs = ((search needs, search needs), (passed-1 (c .before .before), c .if2 .taken))
+digits-from-requires : tie.Need-digits-from-requires
+digits-from-requires c κs = ((search needs, search needs, search needs), (passed-1 (c .before .before), c .if2 .taken))
 
 returns-2 : tie.Need-returns-2
 returns-2 c = search needs
@@ -49,8 +46,8 @@ returns-2 c = search needs
 shared-slice-read-if3 : tie.Need-shared-slice-read-if3
 shared-slice-read-if3 c = search needs
 
-digits-from-requires-3 : tie.Need-digits-from-requires-3
-digits-from-requires-3 c κs = ((search needs, search needs), (passed-2 (c .before .before), c .if3 .taken))
+digits-from-requires-2 : tie.Need-digits-from-requires-2
+digits-from-requires-2 c κs = ((search needs, search needs, search needs), (passed-2 (c .before .before), c .if3 .taken))
 
 returns-3 : tie.Need-returns-3
 returns-3 c = search needs
@@ -58,8 +55,8 @@ returns-3 c = search needs
 shared-slice-read-if4 : tie.Need-shared-slice-read-if4
 shared-slice-read-if4 c = search needs
 
-digits-from-requires-4 : tie.Need-digits-from-requires-4
-digits-from-requires-4 c κs = ((search needs, search needs), (passed-3 (c .before .before), c .if4 .taken))
+digits-from-requires-3 : tie.Need-digits-from-requires-3
+digits-from-requires-3 c κs = ((search needs, search needs, search needs), (passed-3 (c .before .before), c .if4 .taken))
 
 returns-4 : tie.Need-returns-4
 returns-4 c = search needs
@@ -67,8 +64,8 @@ returns-4 c = search needs
 shared-slice-read-if5 : tie.Need-shared-slice-read-if5
 shared-slice-read-if5 c = search needs
 
-digits-from-requires-5 : tie.Need-digits-from-requires-5
-digits-from-requires-5 c κs = ((search needs, search needs), (passed-4 (c .before .before), c .if5 .taken))
+digits-from-requires-4 : tie.Need-digits-from-requires-4
+digits-from-requires-4 c κs = ((search needs, search needs, search needs), (passed-4 (c .before .before), c .if5 .taken))
 
 returns-5 : tie.Need-returns-5
 returns-5 c = search needs
@@ -88,19 +85,18 @@ read-number-spec =
     tie.close
     (tie.spec
     shared-slice-read-if1
-    digits-from-requires
     returns
     shared-slice-read-if2
-    digits-from-requires-2
+    digits-from-requires
     returns-2
     shared-slice-read-if3
-    digits-from-requires-3
+    digits-from-requires-2
     returns-3
     shared-slice-read-if4
-    digits-from-requires-4
+    digits-from-requires-3
     returns-4
     shared-slice-read-if5
-    digits-from-requires-5
+    digits-from-requires-4
     returns-5
     shared-slice-read-with-digit
     with-digit-requires

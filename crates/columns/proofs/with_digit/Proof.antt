@@ -4,13 +4,13 @@ use Rattle.columns.proofs.ReadLaws.{digit-read, digit-missing}
 use Rattle.columns.proofs.with_digit.Statement.{statement}
 use Rattle.columns.proofs.with_digit.Tie as tie
 
-wrapping-sub-u32-requires : tie.Need-wrapping-sub-u32-requires
-wrapping-sub-u32-requires c κs = search needs
+digit-of-requires : tie.Need-digit-of-requires
+digit-of-requires c κs = search needs
 
 returns : tie.Need-returns
 returns c =
     let start = c .before .before in
-    let taken = c .before .wrapping-sub-u32 in
+    let taken = c .before .digit-of in
     digit-missing (start .args .n) (start .args .byte) (taken .result) (taken .ensures) (search needs) (c .if1 .taken)
 
 mul-result : tie.Need-mul-result
@@ -22,9 +22,9 @@ add-result c = search needs
 returns-2 : tie.Need-returns-2
 returns-2 c =
     let start = c .before .before in
-    let taken = c .before .wrapping-sub-u32 in
+    let taken = c .before .digit-of in
     digit-read (start .args .n) (start .args .byte) (taken .result) (taken .ensures) (search needs) (c .if1 .left)
 
 pub with-digit-spec : {M : Type 1} → statement M
 with-digit-spec =
-    tie.close (tie.spec wrapping-sub-u32-requires returns mul-result add-result returns-2)
+    tie.close (tie.spec digit-of-requires returns mul-result add-result returns-2)
