@@ -25,25 +25,88 @@ pub struct Table {
     pub rounds: usize,
 }
 
+/// What stands where no time was taken.
+pub const NOT_TIMED: &str = "–";
+
+/// What something costs: instructions, and nanoseconds where it was timed.
+#[derive(Clone, Copy)]
+pub struct Cost {
+    pub count: i64,
+    pub time: Option<f64>,
+}
+
 impl Costs {
+    /// What a work costs.
+    pub fn of(&self, work: usize) -> Cost {
+        let time = self.times.as_ref().map(|times| times.get(work));
+        Cost { count: self.counts.get(work), time }
+    }
+
+    /// What a call costs that one work has and another has not, so often where it is timed.
+    pub fn of_call(&self, with: usize, without: usize, repeats: usize) -> Cost {
+        let times = self.times.as_ref();
+        let time = times.map(|times| times.difference(with, without) / repeats as f64);
+        Cost { count: self.counts.difference(with, without), time }
+    }
+
     /// Nanoseconds of a call that was repeated so often, or a dash.
     pub fn time_of_call(&self, with: usize, without: usize, repeats: usize) -> String {
-        match &self.times {
-            Some(times) => nanoseconds(times.difference(with, without) / repeats as f64),
-            None => "–".to_string(),
-        }
+        self.of_call(with, without, repeats).nanoseconds()
     }
 
     pub fn time(&self, work: usize) -> String {
-        match &self.times {
-            Some(times) => nanoseconds(times.get(work)),
-            None => "–".to_string(),
+        self.of(work).nanoseconds()
+    }
+}
+
+impl Cost {
+    pub fn instructions(&self) -> String {
+        thousands(self.count)
+    }
+
+    pub fn nanoseconds(&self) -> String {
+        self.time.map_or(NOT_TIMED.to_string(), |time| thousands(time.round() as i64))
+    }
+
+    pub fn less(&self, other: &Cost) -> Cost {
+        let time = self.time.zip(other.time);
+        Cost { count: self.count - other.count, time: time.map(|(one, other)| one - other) }
+    }
+
+    pub fn beside(&self, other: &Cost) -> Ratio {
+        let time = self.time.zip(other.time);
+        Ratio {
+            count: self.count as f64 / other.count as f64,
+            time: time.map(|(one, other)| one / other),
         }
     }
 }
 
-fn nanoseconds(time: f64) -> String {
-    thousands(time.round() as i64)
+/// How often one cost is another, in instructions and in time.
+#[derive(Clone, Copy)]
+pub struct Ratio {
+    pub count: f64,
+    pub time: Option<f64>,
+}
+
+/// By what something is judged.
+pub const COUNTED: usize = 0;
+pub const TIMED: usize = 1;
+
+impl Ratio {
+    /// The ratio of instructions, or that of times.
+    pub fn by(&self, measure: usize) -> Option<f64> {
+        [Some(self.count), self.time][measure]
+    }
+
+    /// Both as text, in bold where it is above the most that is aimed at.
+    pub fn judged(&self, most: &Ratio) -> [String; 2] {
+        [COUNTED, TIMED].map(|by| match (self.by(by), most.by(by)) {
+            (Some(ratio), Some(most)) if ratio > most => format!("**{ratio:.2}**"),
+            (Some(ratio), _) => format!("{ratio:.2}"),
+            (None, _) => NOT_TIMED.to_string(),
+        })
+    }
 }
 
 /// A number with commas.
