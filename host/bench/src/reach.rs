@@ -1,7 +1,7 @@
 //! What is reached and what is not, judged by what was measured.
 
 use crate::calls::{self, Lines};
-use crate::table::{markdown, Cost, Costs, Ratio, COUNTED, NOT_TIMED, TIMED};
+use crate::table::{markdown, Cost, Costs, Measure, Ratio, NOT_MEASURED};
 use crate::{mixed, rewind, soundness};
 
 /// The most that a line of a roll is to cost beside the trusting machine's.
@@ -72,16 +72,16 @@ pub fn written(measured: &Measured) -> String {
 fn row(name: &str, [counted, timed]: Judged) -> Vec<String> {
     let mut row = vec![name.to_string()];
     for judged in [counted, timed] {
-        let (text, reached) = judged.unwrap_or((NOT_TIMED.to_string(), None));
-        let word = reached.map_or(NOT_TIMED, |reached| if reached { "yes" } else { "**no**" });
+        let (text, reached) = judged.unwrap_or((NOT_MEASURED.to_string(), None));
+        let word = reached.map_or(NOT_MEASURED, |reached| if reached { "yes" } else { "**no**" });
         row.extend([text, word.to_string()]);
     }
     row
 }
 
 /// Judges what was counted and what was timed.
-fn both(judge: impl Fn(usize) -> Option<Judgement>) -> Judged {
-    [judge(COUNTED), judge(TIMED)]
+fn both(judge: impl Fn(Measure) -> Option<Judgement>) -> Judged {
+    Measure::BOTH.map(judge)
 }
 
 fn within(ratio: &Ratio, most: &Ratio) -> Judged {
@@ -120,9 +120,8 @@ fn test_within(cost: &Cost) -> Judged {
 
 fn less((line, copy): (Cost, Cost)) -> Judged {
     let ratio = line.beside(&copy);
-    let texts = [
-        format!("{} of {}", line.instructions(), copy.instructions()),
-        format!("{} of {}", line.nanoseconds(), copy.nanoseconds()),
-    ];
-    both(|by| Some((texts[by].clone(), Some(ratio.by(by)? < 1.0))))
+    both(|by| {
+        let text = format!("{} beside {}", line.by(by), copy.by(by));
+        Some((text, Some(ratio.by(by)? < 1.0)))
+    })
 }

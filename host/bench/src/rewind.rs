@@ -3,7 +3,7 @@
 use crate::reach;
 use crate::roll::{map, open, rewind, snapshot, text, write, WRITE};
 use crate::svg::{plot, Curve, Panel};
-use crate::table::{markdown, thousands, Cost, Costs, Purpose, Ratio, Table, NOT_TIMED};
+use crate::table::{markdown, thousands, Cost, Costs, Purpose, Ratio, Table, NOT_MEASURED};
 use crate::work::{Player, Work};
 use model::{Call, PAGE_BYTES};
 
@@ -145,7 +145,7 @@ fn row(costs: &Costs, index: usize, backs: bool) -> Vec<String> {
         [0, 1, 2].map(|player| rewind_of(costs, index, backs, player));
     let bare = bare_copy(costs, index);
     let [counted, timed] = match dirty {
-        0 => [NOT_TIMED.to_string(), NOT_TIMED.to_string()],
+        0 => [NOT_MEASURED.to_string(), NOT_MEASURED.to_string()],
         _ => proved.own_work.beside(&bare).judged(&aim_at(dirty)),
     };
     vec![

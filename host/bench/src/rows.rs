@@ -5,7 +5,7 @@ use crate::roll::{
     READ, WRITE,
 };
 use crate::states::{full_pages, State};
-use crate::table::{Cost, Costs, Purpose, NOT_TIMED};
+use crate::table::{Cost, Costs, Purpose, NOT_MEASURED};
 use model::Call;
 
 /// How often a timed call, with what returns to its state, stands in its roll.
@@ -58,7 +58,7 @@ impl Row {
         match self.back {
             Back::AtOnce => "the call",
             Back::After(names, _) => names,
-            Back::Never => NOT_TIMED,
+            Back::Never => NOT_MEASURED,
         }
     }
 

@@ -25,8 +25,8 @@ pub struct Table {
     pub rounds: usize,
 }
 
-/// What stands where no time was taken.
-pub const NOT_TIMED: &str = "–";
+/// What stands where nothing was measured.
+pub const NOT_MEASURED: &str = "–";
 
 /// What something costs: instructions, and nanoseconds where it was timed.
 #[derive(Clone, Copy)]
@@ -65,7 +65,15 @@ impl Cost {
     }
 
     pub fn nanoseconds(&self) -> String {
-        self.time.map_or(NOT_TIMED.to_string(), |time| thousands(time.round() as i64))
+        self.time.map_or(NOT_MEASURED.to_string(), |time| thousands(time.round() as i64))
+    }
+
+    /// In one measure, as text.
+    pub fn by(&self, measure: Measure) -> String {
+        match measure {
+            Measure::Count => self.instructions(),
+            Measure::Time => self.nanoseconds(),
+        }
     }
 
     pub fn less(&self, other: &Cost) -> Cost {
@@ -90,21 +98,31 @@ pub struct Ratio {
 }
 
 /// By what something is judged.
-pub const COUNTED: usize = 0;
-pub const TIMED: usize = 1;
+#[derive(Clone, Copy, PartialEq, Eq, Debug)]
+pub enum Measure {
+    Count,
+    Time,
+}
+
+impl Measure {
+    pub const BOTH: [Measure; 2] = [Measure::Count, Measure::Time];
+}
 
 impl Ratio {
     /// The ratio of instructions, or that of times.
-    pub fn by(&self, measure: usize) -> Option<f64> {
-        [Some(self.count), self.time][measure]
+    pub fn by(&self, measure: Measure) -> Option<f64> {
+        match measure {
+            Measure::Count => Some(self.count),
+            Measure::Time => self.time,
+        }
     }
 
     /// Both as text, in bold where it is above the most that is aimed at.
     pub fn judged(&self, most: &Ratio) -> [String; 2] {
-        [COUNTED, TIMED].map(|by| match (self.by(by), most.by(by)) {
+        Measure::BOTH.map(|by| match (self.by(by), most.by(by)) {
             (Some(ratio), Some(most)) if ratio > most => format!("**{ratio:.2}**"),
             (Some(ratio), _) => format!("{ratio:.2}"),
-            (None, _) => NOT_TIMED.to_string(),
+            (None, _) => NOT_MEASURED.to_string(),
         })
     }
 }

@@ -3,7 +3,7 @@
 use crate::mixed;
 use crate::rewind;
 use crate::roll::{self, text, write};
-use crate::table::{markdown, thousands, Costs, Purpose, Table, NOT_TIMED};
+use crate::table::{markdown, thousands, Costs, Purpose, Table, NOT_MEASURED};
 use crate::work::{Player, Work};
 use model::{Call, LINES};
 
@@ -64,12 +64,14 @@ fn written(costs: &Costs) -> String {
         };
         let rates = [0, 1, 2].map(rate);
         let a_second = |rate: Option<f64>| {
-            rate.map_or(NOT_TIMED.to_string(), |rate| thousands(rate.round() as i64))
+            rate.map_or(NOT_MEASURED.to_string(), |rate| thousands(rate.round() as i64))
         };
         let ratio = rates[0].zip(rates[1]);
         let mut row = vec![load.title.clone()];
         row.extend(rates.map(a_second));
-        row.push(ratio.map_or(NOT_TIMED.to_string(), |(one, other)| format!("{:.2}", one / other)));
+        row.push(
+            ratio.map_or(NOT_MEASURED.to_string(), |(one, other)| format!("{:.2}", one / other)),
+        );
         row
     };
     let rows: Vec<Vec<String>> = loads().iter().enumerate().map(row).collect();
