@@ -1,7 +1,7 @@
 //! What is reached and what is not, judged by what was measured.
 
 use crate::calls::{self, Lines};
-use crate::table::{markdown, Cost, Costs, Measure, Ratio, NOT_MEASURED};
+use crate::table::{markdown, reaches, Cost, Costs, Measure, Ratio, NOT_MEASURED};
 use crate::{mixed, rewind, soundness};
 
 /// The most that a line of a roll is to cost beside the trusting machine's.
@@ -54,12 +54,12 @@ pub fn written(measured: &Measured) -> String {
             test_within(&soundness::of_busy(test)),
         ),
         row(
-            "beside (b): a rewind's whole line at 7 dirty pages, less than a full copy",
-            less(rewind::line_and_full_copy(rewind, few)),
+            "beside (b): a rewind's whole line at 7 dirty pages, at most a full copy",
+            at_most(rewind::line_and_full_copy(rewind, few)),
         ),
         row(
             "beside (b): the same at 64 dirty pages",
-            less(rewind::line_and_full_copy(rewind, all)),
+            at_most(rewind::line_and_full_copy(rewind, all)),
         ),
         row(
             "beside (b): each further dirty page, at most 2.0 × the bare copy's",
@@ -87,7 +87,7 @@ fn both(judge: impl Fn(Measure) -> Option<Judgement>) -> Judged {
 fn within(ratio: &Ratio, most: &Ratio) -> Judged {
     both(|by| {
         let (ratio, most) = (ratio.by(by)?, most.by(by)?);
-        Some((format!("{ratio:.2} ×"), Some(ratio <= most)))
+        Some((format!("{ratio:.2} ×"), Some(reaches(ratio, most))))
     })
 }
 
@@ -97,8 +97,8 @@ fn dearest(rows: &[(String, Ratio)]) -> Judged {
         let most = CALL.by(by)?;
         let measured = || rows.iter().filter_map(|(name, ratio)| Some((ratio.by(by)?, name)));
         let (ratio, name) = measured().max_by(|a, b| a.0.total_cmp(&b.0))?;
-        let missed = measured().filter(|row| row.0 > most).count();
-        let text = format!("{ratio:.2} × ({name}); {missed} of {} above", measured().count());
+        let missed = measured().filter(|row| !reaches(row.0, most)).count();
+        let text = format!("{ratio:.2} × ({name}); {missed} of {} miss", measured().count());
         Some((text, Some(missed == 0)))
     })
 }
@@ -108,7 +108,7 @@ fn own_work([with, without]: &[Ratio; 2]) -> Judged {
     both(|by| {
         let (with, without, most) = (with.by(by)?, without.by(by)?, REWIND.by(by)?);
         let text = format!("{with:.2} × with backs, {without:.2} × without");
-        Some((text, Some(with.max(without) <= most)))
+        Some((text, Some(reaches(with, most) && reaches(without, most))))
     })
 }
 
@@ -118,10 +118,10 @@ fn test_within(cost: &Cost) -> Judged {
     [Some((cost.instructions(), Some(cost.count <= MOST_OF_TEST))), timed]
 }
 
-fn less((line, copy): (Cost, Cost)) -> Judged {
+fn at_most((line, copy): (Cost, Cost)) -> Judged {
     let ratio = line.beside(&copy);
     both(|by| {
         let text = format!("{} beside {}", line.by(by), copy.by(by));
-        Some((text, Some(ratio.by(by)? < 1.0)))
+        Some((text, Some(reaches(ratio.by(by)?, 1.0))))
     })
 }

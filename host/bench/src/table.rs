@@ -117,14 +117,20 @@ impl Ratio {
         }
     }
 
-    /// Both as text, in bold where it is above the most that is aimed at.
+    /// Both as text, in bold where it misses the most that is aimed at.
     pub fn judged(&self, most: &Ratio) -> [String; 2] {
         Measure::BOTH.map(|by| match (self.by(by), most.by(by)) {
-            (Some(ratio), Some(most)) if ratio > most => format!("**{ratio:.2}**"),
+            (Some(ratio), Some(most)) if !reaches(ratio, most) => format!("**{ratio:.2}**"),
             (Some(ratio), _) => format!("{ratio:.2}"),
             (None, _) => NOT_MEASURED.to_string(),
         })
     }
+}
+
+/// Whether a ratio is at most so much. One below zero, of a difference that was lost in the
+/// disturbances of a time, reaches nothing.
+pub fn reaches(ratio: f64, most: f64) -> bool {
+    (0.0..=most).contains(&ratio)
 }
 
 /// A number with commas.

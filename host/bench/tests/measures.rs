@@ -85,4 +85,5 @@ fn what_misses_its_aim_stands_in_bold() {
     assert_eq!(ratio(1.0, Some(1.1)).judged(&aim), ["1.00", "1.10"]);
     assert_eq!(ratio(1.01, Some(1.2)).judged(&aim), ["**1.01**", "**1.20**"]);
     assert_eq!(ratio(0.5, None).judged(&aim), ["0.50", "–"]);
+    assert_eq!(ratio(0.5, Some(-0.1)).judged(&aim), ["0.50", "**-0.10**"]);
 }
