@@ -73,7 +73,7 @@ fn every_byte() -> Vec<Call> {
     let image = image();
     let mut calls = Vec::new();
     // The image pages under pages 0 to 63; there are 16, and each serves twice.
-    let under = |page: usize| (page / 8 % 2 == 1).then_some((page - 8) / 16 % 2 * 8 + page % 8);
+    let under = |page: usize| (page / 8 % 2 == 1).then(|| (page - 8) / 16 % 2 * 8 + page % 8);
     for first in (0..64).step_by(8) {
         calls.push(match under(first) {
             None => map(0, first as u16, 8, WRITE),

@@ -71,8 +71,8 @@ impl Case {
     }
 }
 
-/// For each case and machine compare, and a call that is refused as soon as the state is found
-/// sound; then a bare comparison of as many pages as each case compares.
+/// For each case and machine compare, and a call that is refused as soon as the state is known;
+/// then a bare comparison of as many pages as each case compares.
 fn works(purpose: Purpose) -> Vec<Work> {
     let repeats = if purpose == Purpose::Time { REPEATS } else { 1 };
     let mut works = Vec::new();

@@ -4,7 +4,7 @@
 
 use bench::meter::{run, Counts, Times};
 use bench::table::{Costs, Purpose, Table};
-use bench::{calls, document, reach, rewind, TABLES};
+use bench::{calls, document, mixed, reach, rewind, soundness, TABLES};
 use std::path::Path;
 use std::process::ExitCode;
 use std::time::Duration;
@@ -50,10 +50,18 @@ fn measure(docs: &Path, timed: bool) -> io::Result<()> {
         write(table.name, &(table.markdown)(&costs))?;
         measured.push((table.name, costs));
     }
-    let of = |name: &str| measured.iter().find(|(table, _)| *table == name).map(|found| &found.1);
-    let calls = of(calls::TABLE.name).expect("the calls were measured");
-    let rewinds = of(rewind::TABLE.name).expect("the rewinds were measured");
-    write("reach", &reach::written(calls, rewinds))?;
+    let of = |table: Table| {
+        let found = measured.iter().find(|(name, _)| *name == table.name);
+        &found.expect("every table was measured").1
+    };
+    let rewinds = of(rewind::TABLE);
+    let judged = reach::Measured {
+        calls: of(calls::TABLE),
+        mixed: of(mixed::TABLE),
+        rewind: rewinds,
+        test: of(soundness::TABLE),
+    };
+    write("reach", &reach::written(&judged))?;
     fs::write(docs.join("rewind.svg"), rewind::drawing(rewinds))
 }
 
@@ -72,12 +80,15 @@ fn setting(timed: bool) -> io::Result<String> {
     let load = fs::read_to_string("/proc/loadavg")?;
     let load = load.split(' ').next().unwrap_or("unknown");
     let date = command("date", &["+%Y-%m-%d"])?;
-    let compiler = command("rustc", &["--version"])?;
+    let compiler = command("rustc", &["--version", "--verbose"])?;
+    let of_compiler = |start: &str| compiler.lines().find(|line| line.starts_with(start));
+    let release = of_compiler("rustc").unwrap_or("rustc unknown");
+    let llvm = of_compiler("LLVM").unwrap_or("LLVM version unknown");
     let times = match timed {
         true => format!("load average {load} before the times were taken"),
         false => "instructions alone, no times taken".to_string(),
     };
-    Ok(format!("Measured on {date}: x86-64, {model}, {cores} cores; {compiler}; {times}.\n"))
+    Ok(format!("Measured on {date}: x86-64, {model}, {cores} cores; {release}, {llvm}; {times}.\n"))
 }
 
 fn command(program: &str, arguments: &[&str]) -> io::Result<String> {

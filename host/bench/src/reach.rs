@@ -1,94 +1,127 @@
 //! What is reached and what is not, judged by what was measured.
 
-use crate::calls::{dearest, Dearest, Lines};
-use crate::rewind::{extra, Extra, DIRTY};
-use crate::table::{markdown, Costs};
+use crate::calls::{self, Lines};
+use crate::table::{markdown, reaches, Cost, Costs, Measure, Ratio, NOT_MEASURED};
+use crate::{mixed, rewind, soundness};
 
-/// A call of the proved machine, beside the same call of another.
-const MOST_RATIO: f64 = 1.5;
-/// A rewind's extra over a report, beside a bare copy of the dirty pages.
-const MOST_COPIES: f64 = 2.0;
-/// The dirty pages at which a rewind should take under a quarter of the copying machine's.
-const FEW: u16 = 7;
+/// The most that a line of a roll is to cost beside the trusting machine's.
+pub const CALL: Ratio = Ratio { count: 1.0, time: Some(1.1) };
+/// The same of a line of the mixed roll.
+pub const MIXED: Ratio = Ratio { count: 0.8, time: Some(1.1) };
+/// The most that a rewind's own work is to cost beside a bare copy of the dirty pages, and at how
+/// many dirty pages.
+pub const REWIND: Ratio = Ratio { count: 2.0, time: Some(2.0) };
+pub const REWIND_AT: [u16; 2] = [7, 64];
+/// The most instructions of the test of soundness in the busy state.
+const MOST_OF_TEST: i64 = 6_000;
 
-/// What was measured, and whether that reaches the aim.
-type Judgement = (String, bool);
-type Judge = fn(&Extra) -> Judgement;
+/// What was measured, and whether that reaches the aim where there is one.
+type Judgement = (String, Option<bool>);
+/// Of what was counted, and of what was timed.
+type Judged = [Option<Judgement>; 2];
+
+/// The tables that are judged.
+pub struct Measured<'a> {
+    pub calls: &'a Costs,
+    pub mixed: &'a Costs,
+    pub rewind: &'a Costs,
+    pub test: &'a Costs,
+}
 
 /// The part of the report that says so: the aims, then what stands beside them.
-pub fn written(calls: &Costs, rewind: &Costs) -> String {
-    let call = |name: &str, other: usize, lines: Lines| {
-        let (counted, timed) = dearest(calls, other, lines);
-        row(name, judged_call(&counted), timed.as_ref().map(judged_call))
-    };
-    let (counted, timed) = extra(rewind);
-    let of_rewind =
-        |name: &str, judge: Judge| row(name, judge(&counted), timed.as_ref().map(judge));
+pub fn written(measured: &Measured) -> String {
+    let Measured { calls, mixed, rewind, test } = measured;
+    let dearest = |lines| dearest(&calls::beside_trusting(calls, lines));
+    let [few, all] = REWIND_AT;
+    let own_work = |dirty| own_work(&rewind::beside_bare_copy(rewind, dirty));
     let rows = [
-        call("(a) dearest call, at most 1.5 × the unproved machine", 1, Lines::OfCalls),
-        of_rewind("(b) rewind − report grows with the dirty pages", grows),
-        of_rewind(
-            "(b) rewind − report, at most 2 × the bare copy, for all of 1 to 64 pages",
-            within_copies,
+        row(
+            "(a) dearest call, at most 1.0 × the trusting machine; in time 1.1 ×",
+            dearest(Lines::OfCalls),
         ),
-        of_rewind(
-            "(b) rewind − report at 7 pages, under ¼ of the copying machine",
-            few_over_report,
+        row("(a) line whose code is no call's, the same", dearest(Lines::OfNoCall)),
+        row(
+            "(a) mixed roll, at most 0.8 × the trusting machine; in time 1.1 ×",
+            within(&mixed::beside_trusting(mixed), &MIXED),
         ),
-        call("beside (a): dearest call, 1.5 × the one with the same steps", 2, Lines::OfCalls),
-        call("beside (a): unknown code, 1.5 × the unproved machine", 1, Lines::OfNoCall),
-        of_rewind("beside (b): each further page, 2 × the bare copy's", slope_within_copies),
-        of_rewind(
-            "beside (b): a rewind's own work at 7 pages, ¼ of the copying machine",
-            few_own_work,
+        row("(b) a rewind's own work at 7 dirty pages, at most 2.0 × the bare copy", own_work(few)),
+        row(
+            "(b) a rewind's own work at 64 dirty pages, at most 2.0 × the bare copy",
+            own_work(all),
+        ),
+        row(
+            "(j) the test of soundness, busy state, at most 6,000 instructions",
+            test_within(&soundness::of_busy(test)),
+        ),
+        row(
+            "beside (b): a rewind's whole line at 7 dirty pages, at most a full copy",
+            at_most(rewind::line_and_full_copy(rewind, few)),
+        ),
+        row(
+            "beside (b): the same at 64 dirty pages",
+            at_most(rewind::line_and_full_copy(rewind, all)),
+        ),
+        row(
+            "beside (b): each further dirty page, at most 2.0 × the bare copy's",
+            within(&rewind::further_page(rewind), &REWIND),
         ),
     ];
     markdown(&["aim", "instructions", "reached", "time", "reached"], &rows)
 }
 
-fn row(name: &str, counted: Judgement, timed: Option<Judgement>) -> Vec<String> {
-    let word = |reached: bool| if reached { "yes" } else { "**no**" }.to_string();
-    let (time, time_reached) = match timed {
-        Some((text, reached)) => (text, word(reached)),
-        None => ("–".to_string(), "–".to_string()),
-    };
-    vec![name.to_string(), counted.0, word(counted.1), time, time_reached]
+fn row(name: &str, [counted, timed]: Judged) -> Vec<String> {
+    let mut row = vec![name.to_string()];
+    for judged in [counted, timed] {
+        let (text, reached) = judged.unwrap_or((NOT_MEASURED.to_string(), None));
+        let word = reached.map_or(NOT_MEASURED, |reached| if reached { "yes" } else { "**no**" });
+        row.extend([text, word.to_string()]);
+    }
+    row
 }
 
-fn judged_call(dearest: &Dearest) -> Judgement {
-    (format!("{:.2} ({})", dearest.ratio, dearest.name), dearest.ratio <= MOST_RATIO)
+/// Judges what was counted and what was timed.
+fn both(judge: impl Fn(Measure) -> Option<Judgement>) -> Judged {
+    Measure::BOTH.map(judge)
 }
 
-fn grows(extra: &Extra) -> Judgement {
-    let over: Vec<f64> = extra.rows.iter().map(|row| row.0).collect();
-    let (first, last) = (over[0], over[over.len() - 1]);
-    (format!("{first:.0} to {last:.0}"), over.windows(2).all(|pair| pair[0] < pair[1]))
+fn within(ratio: &Ratio, most: &Ratio) -> Judged {
+    both(|by| {
+        let (ratio, most) = (ratio.by(by)?, most.by(by)?);
+        Some((format!("{ratio:.2} ×"), Some(reaches(ratio, most))))
+    })
 }
 
-fn within_copies(extra: &Extra) -> Judgement {
-    let ratios = extra.rows.iter().zip(DIRTY).skip(1).map(|(row, dirty)| (row.0 / row.2, dirty));
-    let most = ratios.max_by(|a, b| a.0.total_cmp(&b.0));
-    let (ratio, dirty) = most.expect("there are rows");
-    (format!("{ratio:.2} × at {dirty} pages"), ratio <= MOST_COPIES)
+/// The dearest of some rows, and how many miss the aim.
+fn dearest(rows: &[(String, Ratio)]) -> Judged {
+    both(|by| {
+        let most = CALL.by(by)?;
+        let measured = || rows.iter().filter_map(|(name, ratio)| Some((ratio.by(by)?, name)));
+        let (ratio, name) = measured().max_by(|a, b| a.0.total_cmp(&b.0))?;
+        let missed = measured().filter(|row| !reaches(row.0, most)).count();
+        let text = format!("{ratio:.2} × ({name}); {missed} of {} miss", measured().count());
+        Some((text, Some(missed == 0)))
+    })
 }
 
-fn slope_within_copies(extra: &Extra) -> Judgement {
-    let (first, last) = (extra.rows[0], extra.rows[DIRTY.len() - 1]);
-    let pages = f64::from(DIRTY[DIRTY.len() - 1] - DIRTY[0]);
-    let (page, copied) = ((last.1 - first.1) / pages, (last.2 - first.2) / pages);
-    (format!("{page:.0} beside {copied:.0}, {:.2} ×", page / copied), page <= MOST_COPIES * copied)
+/// A rewind's own work, of pages with backs and of pages without.
+fn own_work([with, without]: &[Ratio; 2]) -> Judged {
+    both(|by| {
+        let (with, without, most) = (with.by(by)?, without.by(by)?, REWIND.by(by)?);
+        let text = format!("{with:.2} × with backs, {without:.2} × without");
+        Some((text, Some(reaches(with, most) && reaches(without, most))))
+    })
 }
 
-fn few_over_report(extra: &Extra) -> Judgement {
-    few(extra, |row| row.0)
+/// The aim is one of instructions; the time stands beside it.
+fn test_within(cost: &Cost) -> Judged {
+    let timed = cost.time.map(|_| (format!("{} ns", cost.nanoseconds()), None));
+    [Some((cost.instructions(), Some(cost.count <= MOST_OF_TEST))), timed]
 }
 
-fn few_own_work(extra: &Extra) -> Judgement {
-    few(extra, |row| row.1)
-}
-
-fn few(extra: &Extra, cost: fn(&(f64, f64, f64)) -> f64) -> Judgement {
-    let index = DIRTY.iter().position(|&dirty| dirty == FEW).expect("it is measured");
-    let (cost, copying) = (cost(&extra.rows[index]), extra.copying);
-    (format!("{cost:.0} of {copying:.0}"), cost < copying / 4.0)
+fn at_most((line, copy): (Cost, Cost)) -> Judged {
+    let ratio = line.beside(&copy);
+    both(|by| {
+        let text = format!("{} beside {}", line.by(by), copy.by(by));
+        Some((text, Some(reaches(ratio.by(by)?, 1.0))))
+    })
 }

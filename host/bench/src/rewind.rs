@@ -1,19 +1,22 @@
 //! (b) Rewind against dirty pages, beside the copying machine and a bare copy.
 
-use crate::roll::{map, open, report, rewind, snapshot, text, write, WRITE};
+use crate::reach;
+use crate::roll::{map, open, rewind, snapshot, text, write, WRITE};
 use crate::svg::{plot, Curve, Panel};
-use crate::table::{markdown, thousands, Costs, Purpose, Table};
+use crate::table::{markdown, thousands, Cost, Costs, Purpose, Ratio, Table, NOT_MEASURED};
 use crate::work::{Player, Work};
 use model::{Call, PAGE_BYTES};
 
 pub const TABLE: Table = Table { name: "rewind", works, markdown: written, rounds: 41 };
 
 pub const DIRTY: [u16; 9] = [0, 1, 2, 4, 7, 8, 16, 32, 64];
-const PLAYERS: [Player; 2] = [Player::Proved, Player::Unproved];
+const PLAYERS: [Player; 3] = [Player::Proved, Player::Trusting, Player::Unproved];
 const REPEATS: usize = 256;
-/// The works of one number of dirty pages: three calls of two machines, with backs and
-/// without, and the bare copy.
-const STRIDE: usize = 13;
+/// The works of a machine: the state's calls alone, with a rewind, and with a refused call.
+const KINDS: usize = 3;
+/// The works of one number of dirty pages: those of each machine, with backs and without, and
+/// the bare copy.
+const STRIDE: usize = 2 * KINDS * PLAYERS.len() + 1;
 
 /// One sandbox with all 64 pages mapped and a share of all 128 frames. With `backs` every
 /// page was written before the snapshot, else none was. Since then `dirty` pages were.
@@ -27,20 +30,16 @@ pub fn state(dirty: u16, backs: bool) -> Vec<Call> {
     calls
 }
 
-/// Rewind; report; and a call that is refused as soon as the state is found sound, so
-/// that it costs the text and the test of soundness alone.
-fn measured() -> [(Call, u32); 3] {
-    [(rewind(0), 0), (report(0), 0), (open(0, 1), 5)]
-}
-
-/// The works of each number of dirty pages, then the copying machine's rewind.
+/// The works of each number of dirty pages, then the copying machine's rewind. The refused call
+/// is one that is refused as soon as the state is known.
 fn works(purpose: Purpose) -> Vec<Work> {
     let repeats = if purpose == Purpose::Time { REPEATS } else { 1 };
     let mut works = Vec::new();
     for dirty in DIRTY {
         for backs in [true, false] {
             for player in PLAYERS {
-                for (call, number) in measured() {
+                works.push(Work::play(player, text(&state(dirty, backs))));
+                for (call, number) in [(rewind(0), 0), (open(0, 1), 5)] {
                     let mut calls = state(dirty, backs);
                     calls.extend(vec![call; repeats]);
                     player.played(&text(&calls)).expect_last(repeats, number);
@@ -54,9 +53,41 @@ fn works(purpose: Purpose) -> Vec<Work> {
     works
 }
 
-/// Where the works of a machine's rewind, report and refused call stand.
-fn place(dirty: usize, backs: bool, player: usize) -> usize {
-    STRIDE * dirty + if backs { 0 } else { 6 } + 3 * player
+/// What a machine's rewind costs.
+#[derive(Clone, Copy)]
+struct Rewind {
+    /// As a line of a roll: its text, its work and its reply.
+    line: Cost,
+    /// Less what a call costs that is refused as soon as the state is known.
+    own_work: Cost,
+}
+
+fn rewind_of(costs: &Costs, index: usize, backs: bool, player: usize) -> Rewind {
+    let kind = if backs { 0 } else { KINDS * PLAYERS.len() };
+    let at = STRIDE * index + kind + KINDS * player;
+    Rewind {
+        line: costs.of_call(at + 1, at, REPEATS),
+        own_work: costs.of_call(at + 1, at + 2, REPEATS),
+    }
+}
+
+fn bare_copy(costs: &Costs, index: usize) -> Cost {
+    costs.of(STRIDE * index + STRIDE - 1)
+}
+
+/// The copying machine's rewind, as it was counted: callgrind counts each byte of one long copy
+/// as an instruction.
+fn full_copy(costs: &Costs) -> Cost {
+    costs.of(STRIDE * DIRTY.len())
+}
+
+/// The same with the instructions of a copy page by page.
+fn full_copy_by_pages(costs: &Costs) -> Cost {
+    Cost { count: bare_copy(costs, DIRTY.len() - 1).count, ..full_copy(costs) }
+}
+
+fn index_of(dirty: u16) -> usize {
+    DIRTY.iter().position(|&measured| measured == dirty).expect("it is measured")
 }
 
 fn written(costs: &Costs) -> String {
@@ -68,114 +99,121 @@ fn written(costs: &Costs) -> String {
             true => "Dirty pages with a back (their bytes are copied)",
             false => "Dirty pages without a back (they become zero)",
         };
-        text.push_str(&format!("{kind}:\n\n"));
-        text.push_str(&markdown(
-            &[
-                "dirty pages",
-                "bytes restored",
-                "proved − report",
-                "proved, own work",
-                "unproved − report",
-                "unproved, own work",
-                "bare copy",
-                "proved − report, ns",
-                "proved, own work, ns",
-                "unproved, own work, ns",
-                "bare copy, ns",
-            ],
-            &rows,
-        ));
-        text.push('\n');
+        text.push_str(&format!("{kind}:\n\n{}\n", markdown(&HEAD, &rows)));
     }
-    let copying = STRIDE * DIRTY.len();
+    let [few, all] = reach::REWIND_AT.map(|dirty| rewind_of(costs, index_of(dirty), true, 0).line);
+    let copy = full_copy(costs);
     text.push_str(&format!(
-        "The copying machine's rewind: 16,384 bytes, {} instructions, {} ns.\n",
-        thousands(costs.counts.get(copying)),
-        costs.time(copying)
+        "The copying machine's rewind, a full copy whatever was written: 16,384 bytes, {} \
+         instructions, {} ns. A whole line of the proved machine's roll, with backs: {} ns at {} \
+         dirty pages, {} ns at {}.\n",
+        copy.instructions(),
+        copy.nanoseconds(),
+        few.nanoseconds(),
+        reach::REWIND_AT[0],
+        all.nanoseconds(),
+        reach::REWIND_AT[1],
     ));
     text
 }
+
+const HEAD: [&str; 16] = [
+    "dirty pages",
+    "bytes restored",
+    "proved, a line",
+    "proved, own work",
+    "bare copy",
+    "own work ÷ bare copy",
+    "trusting, a line",
+    "trusting, own work",
+    "unproved, a line",
+    "proved, a line, ns",
+    "proved, own work, ns",
+    "bare copy, ns",
+    "own work ÷ bare copy, ns",
+    "trusting, a line, ns",
+    "trusting, own work, ns",
+    "unproved, a line, ns",
+];
 
 fn row(costs: &Costs, index: usize, backs: bool) -> Vec<String> {
     let dirty = DIRTY[index];
     let mut calls = state(dirty, backs);
     calls.push(rewind(0));
     let restored = Player::Proved.played(&text(&calls)).fronts() * PAGE_BYTES;
-    let [proved, unproved] = [0, 1].map(|player| place(index, backs, player));
-    let bare = STRIDE * index + STRIDE - 1;
-    let over = |at: usize, base: usize| thousands(costs.counts.difference(at, at + base));
-    let time = |at: usize, base: usize| costs.time_of_call(at, at + base, REPEATS);
+    let [proved, trusting, unproved] =
+        [0, 1, 2].map(|player| rewind_of(costs, index, backs, player));
+    let bare = bare_copy(costs, index);
+    let [counted, timed] = match dirty {
+        0 => [NOT_MEASURED.to_string(), NOT_MEASURED.to_string()],
+        _ => proved.own_work.beside(&bare).judged(&aim_at(dirty)),
+    };
     vec![
         dirty.to_string(),
         thousands(restored as i64),
-        over(proved, 1),
-        over(proved, 2),
-        over(unproved, 1),
-        over(unproved, 2),
-        thousands(costs.counts.get(bare)),
-        time(proved, 1),
-        time(proved, 2),
-        time(unproved, 2),
-        costs.time(bare),
+        proved.line.instructions(),
+        proved.own_work.instructions(),
+        bare.instructions(),
+        counted,
+        trusting.line.instructions(),
+        trusting.own_work.instructions(),
+        unproved.line.instructions(),
+        proved.line.nanoseconds(),
+        proved.own_work.nanoseconds(),
+        bare.nanoseconds(),
+        timed,
+        trusting.line.nanoseconds(),
+        trusting.own_work.nanoseconds(),
+        unproved.line.nanoseconds(),
     ]
 }
 
-/// The rewind's own work against dirty pages with a back, as a drawing.
+/// What is aimed at: elsewhere nothing is.
+fn aim_at(dirty: u16) -> Ratio {
+    match reach::REWIND_AT.contains(&dirty) {
+        true => reach::REWIND,
+        false => Ratio { count: f64::INFINITY, time: None },
+    }
+}
+
+/// A rewind against dirty pages with a back, as a drawing.
 pub fn drawing(costs: &Costs) -> String {
-    let at = |index: usize| place(index, true, 0);
-    let bare = |index: usize| STRIDE * index + STRIDE - 1;
-    let copying = STRIDE * DIRTY.len();
-    let points = |value: &dyn Fn(usize) -> f64| {
-        let points = (0..DIRTY.len()).map(|index| (f64::from(DIRTY[index]), value(index)));
-        points.collect::<Vec<_>>()
-    };
-    let counts = &costs.counts;
-    let count_panel = Panel {
-        title: "instructions",
-        curves: [
-            Curve::proved(points(&|i| counts.difference(at(i), at(i) + 2) as f64)),
-            Curve::bare(points(&|i| counts.get(bare(i)) as f64)),
-            Curve::copying(points(&|_| counts.get(bare(DIRTY.len() - 1)) as f64)),
-        ],
-    };
-    let time_panel = costs.times.as_ref().map(|times| Panel {
-        title: "nanoseconds",
-        curves: [
-            Curve::proved(points(&|i| times.difference(at(i), at(i) + 2) / REPEATS as f64)),
-            Curve::bare(points(&|i| times.get(bare(i)))),
-            Curve::copying(points(&|_| times.get(copying))),
-        ],
-    });
-    plot(&[Some(count_panel), time_panel].into_iter().flatten().collect::<Vec<_>>())
-}
-
-/// What the reach of (b) is judged by, with backs, in instructions or in nanoseconds.
-pub struct Extra {
-    /// For each number of dirty pages: a rewind less a report, a rewind's own work, and
-    /// the bare copy.
-    pub rows: Vec<(f64, f64, f64)>,
-    /// All 64 pages copied.
-    pub copying: f64,
-}
-
-/// The extra of the proved machine: counted, and timed if times were taken. The copying
-/// machine's instructions are those of a copy page by page, since callgrind counts each
-/// byte of one long copy as an instruction.
-pub fn extra(costs: &Costs) -> (Extra, Option<Extra>) {
-    let of = |difference: &dyn Fn(usize, usize) -> f64, get: &dyn Fn(usize) -> f64| {
-        let row = |index: usize| {
-            let at = place(index, true, 0);
-            let bare = get(STRIDE * index + STRIDE - 1);
-            (difference(at, at + 1), difference(at, at + 2), bare)
+    let curves = |of: &dyn Fn(Cost) -> f64| {
+        let points = |cost: &dyn Fn(usize) -> Cost| {
+            let points = (0..DIRTY.len()).map(|index| (f64::from(DIRTY[index]), of(cost(index))));
+            points.collect::<Vec<_>>()
         };
-        (0..DIRTY.len()).map(row).collect::<Vec<_>>()
+        [
+            Curve::line(points(&|index| rewind_of(costs, index, true, 0).line)),
+            Curve::own_work(points(&|index| rewind_of(costs, index, true, 0).own_work)),
+            Curve::bare(points(&|index| bare_copy(costs, index))),
+            Curve::copying(points(&|_| full_copy_by_pages(costs))),
+        ]
     };
-    let counts = &costs.counts;
-    let rows = of(&|a, b| counts.difference(a, b) as f64, &|at| counts.get(at) as f64);
-    let copying = rows[DIRTY.len() - 1].2;
-    let timed = costs.times.as_ref().map(|times| Extra {
-        rows: of(&|a, b| times.difference(a, b) / REPEATS as f64, &|at| times.get(at)),
-        copying: times.get(STRIDE * DIRTY.len()),
+    let counted = Panel { title: "instructions", curves: curves(&|cost| cost.count as f64) };
+    let timed = costs.times.as_ref().map(|_| Panel {
+        title: "nanoseconds",
+        curves: curves(&|cost| cost.time.expect("it was timed")),
     });
-    (Extra { rows, copying }, timed)
+    plot(&[Some(counted), timed].into_iter().flatten().collect::<Vec<_>>())
+}
+
+/// How often a rewind's own work is the bare copy of so many dirty pages, with backs and without.
+pub fn beside_bare_copy(costs: &Costs, dirty: u16) -> [Ratio; 2] {
+    let index = index_of(dirty);
+    [true, false]
+        .map(|backs| rewind_of(costs, index, backs, 0).own_work.beside(&bare_copy(costs, index)))
+}
+
+/// A whole line's cost at so many dirty pages with a back, and that of a full copy.
+pub fn line_and_full_copy(costs: &Costs, dirty: u16) -> (Cost, Cost) {
+    (rewind_of(costs, index_of(dirty), true, 0).line, full_copy_by_pages(costs))
+}
+
+/// What each further dirty page with a back adds to a rewind, beside what it adds to a bare copy.
+pub fn further_page(costs: &Costs) -> Ratio {
+    let last = DIRTY.len() - 1;
+    let [none, all] = [0, last].map(|index| rewind_of(costs, index, true, 0).own_work);
+    let [no_copy, copy] = [0, last].map(|index| bare_copy(costs, index));
+    all.less(&none).beside(&copy.less(&no_copy))
 }

@@ -10,7 +10,7 @@ pub const TABLE: Table = Table { name: "rounds", works, markdown: written, round
 pub const ADVERSE: Table =
     Table { name: "adverse", works: adverse_works, markdown: adverse_written, rounds: 41 };
 
-const PLAYERS: [Player; 3] = [Player::Proved, Player::Unproved, Player::Dropping];
+const PLAYERS: [Player; 3] = [Player::Proved, Player::Trusting, Player::Dropping];
 const PAGES: [u16; 5] = [1, 4, 7, 16, 32];
 const ROUNDS: usize = 10;
 const REPEATS: usize = 64;
@@ -75,10 +75,10 @@ fn written(costs: &Costs) -> String {
         "taking a frame",
         "taking a frame, dropping",
         "proved",
-        "unproved",
+        "trusting",
         "dropping",
         "proved, ns",
-        "unproved, ns",
+        "trusting, ns",
         "dropping, ns",
     ];
     markdown(&head, &rows)
@@ -95,7 +95,7 @@ fn after_request(pages: u16) -> Vec<Call> {
 }
 
 /// For each machine and first request: the rewind of a request of one page, and a call
-/// that is refused once the state is found sound.
+/// that is refused as soon as the state is known.
 fn adverse_works(purpose: Purpose) -> Vec<Work> {
     let repeats = if purpose == Purpose::Time { REPEATS } else { 1 };
     let mut works = Vec::new();
@@ -138,10 +138,10 @@ fn adverse_written(costs: &Costs) -> String {
         "pages restored later",
         "freed later, dropping",
         "proved, own work",
-        "unproved",
+        "trusting",
         "dropping",
         "proved, ns",
-        "unproved, ns",
+        "trusting, ns",
         "dropping, ns",
     ];
     markdown(&head, &rows)

@@ -1,7 +1,7 @@
 //! (c) Snapshot against mapped and written pages, beside the full copy.
 
-use crate::roll::{map, open, report, snapshot, text, write, WRITE};
-use crate::table::{markdown, thousands, Costs, Purpose, Table};
+use crate::roll::{map, open, snapshot, text, write, WRITE};
+use crate::table::{markdown, Cost, Costs, Purpose, Table};
 use crate::work::{Player, Work};
 use model::Call;
 
@@ -10,7 +10,10 @@ pub const TABLE: Table = Table { name: "snapshot", works, markdown: written, rou
 /// Pages mapped, and pages written among them.
 const CASES: [(u16, u16); 8] =
     [(1, 0), (8, 0), (8, 8), (16, 16), (32, 0), (32, 32), (64, 0), (64, 64)];
-const PLAYERS: [Player; 2] = [Player::Proved, Player::Unproved];
+const PLAYERS: [Player; 2] = [Player::Proved, Player::Trusting];
+/// The works of a machine: the state's calls alone, with a snapshot, and with a refused call.
+const KINDS: usize = 3;
+const STRIDE: usize = KINDS * PLAYERS.len();
 
 fn state((mapped, written): (u16, u16)) -> Vec<Call> {
     let mut calls = vec![open(0, 128), map(0, 0, mapped, WRITE)];
@@ -18,13 +21,14 @@ fn state((mapped, written): (u16, u16)) -> Vec<Call> {
     calls
 }
 
-/// For each case snapshot, report and a refused call of both machines; then the full copy.
-/// A snapshot is accepted once, so that nothing can be repeated.
+/// The works of each case; then the full copy. A snapshot is accepted once, so that nothing can
+/// be repeated.
 fn works(_: Purpose) -> Vec<Work> {
     let mut works = Vec::new();
     for case in CASES {
         for player in PLAYERS {
-            for (call, number) in [(snapshot(0), 0), (report(0), 0), (open(0, 1), 5)] {
+            works.push(Work::play(player, text(&state(case))));
+            for (call, number) in [(snapshot(0), 0), (open(0, 1), 5)] {
                 let mut calls = state(case);
                 calls.push(call);
                 player.played(&text(&calls)).expect_last(1, number);
@@ -37,37 +41,31 @@ fn works(_: Purpose) -> Vec<Work> {
 }
 
 fn written(costs: &Costs) -> String {
-    let rows: Vec<Vec<String>> = CASES
-        .iter()
-        .enumerate()
-        .map(|(index, (mapped, written))| {
-            let at = 6 * index;
-            let over = |at: usize, base: usize| thousands(costs.counts.difference(at, at + base));
-            vec![
-                format!("{mapped} mapped, {written} written"),
-                "0".to_string(),
-                over(at, 1),
-                over(at, 2),
-                over(at + 3, 2),
-                costs.time_of_call(at, at + 2, 1),
-                costs.time_of_call(at + 3, at + 5, 1),
-            ]
-        })
-        .collect();
+    let row = |(index, (mapped, written)): (usize, &(u16, u16))| {
+        let at = [0, 1].map(|player| STRIDE * index + KINDS * player);
+        let lines = at.map(|at| costs.of_call(at + 1, at, 1));
+        let own_works = at.map(|at| costs.of_call(at + 1, at + 2, 1));
+        let mut row = vec![format!("{mapped} mapped, {written} written"), "0".to_string()];
+        row.extend([lines[0], own_works[0], lines[1], own_works[1]].iter().map(Cost::instructions));
+        row.extend(own_works.iter().map(Cost::nanoseconds));
+        row
+    };
+    let rows: Vec<Vec<String>> = CASES.iter().enumerate().map(row).collect();
     let head = [
         "pages",
         "page bytes copied",
-        "proved − report",
+        "proved, a line",
         "proved, own work",
-        "unproved, own work",
+        "trusting, a line",
+        "trusting, own work",
         "proved, own work, ns",
-        "unproved, own work, ns",
+        "trusting, own work, ns",
     ];
-    let copying = 6 * CASES.len();
+    let copy = costs.of(STRIDE * CASES.len());
     format!(
         "{}\nThe copying machine's snapshot: 16,384 bytes, {} instructions, {} ns.\n",
         markdown(&head, &rows),
-        thousands(costs.counts.get(copying)),
-        costs.time(copying)
+        copy.instructions(),
+        copy.nanoseconds()
     )
 }

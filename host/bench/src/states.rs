@@ -73,6 +73,6 @@ fn full() -> Vec<Call> {
     calls
 }
 
-fn full_pages() -> impl Iterator<Item = u16> {
+pub fn full_pages() -> impl Iterator<Item = u16> {
     (0..8).flat_map(|area| [8 * area, 8 * area + 1])
 }

@@ -1,7 +1,8 @@
 //! (f) The calls of (a) made one at a time, beside the same calls as lines of a roll.
 
-use crate::calls::{pair, repeats, rows, Row};
+use crate::calls::pair;
 use crate::roll::text;
+use crate::rows::{rows, Row};
 use crate::states::State;
 use crate::table::{markdown, ratio, thousands, Costs, Purpose, Table};
 use crate::work::{Player, Work};
@@ -34,9 +35,9 @@ fn works(purpose: Purpose) -> Vec<Work> {
     for way in WAYS {
         works.extend(State::ALL.map(|state| way.work(&state.calls())));
         works.extend(rows.iter().map(|row| {
-            let mut calls = row.state.calls();
-            calls.extend(vec![row.call; repeats(row, purpose)]);
-            expect_last(&calls, repeats(row, purpose), row.number);
+            let measured = row.calls(purpose);
+            let calls = [row.state.calls(), measured.clone()].concat();
+            expect_last(&calls, measured.len(), row.number);
             way.work(&calls)
         }));
     }
@@ -44,7 +45,7 @@ fn works(purpose: Purpose) -> Vec<Work> {
 }
 
 /// Asserts that the last calls are answered with this number, and all before them accepted.
-fn expect_last(calls: &[model::Call], last: usize, number: u32) {
+pub fn expect_last(calls: &[model::Call], last: usize, number: u32) {
     let mut machine = Machine::start(crate::roll::image(), 128).expect("right lengths");
     for (index, &model::Call { code, sandbox, parameters }) in calls.iter().enumerate() {
         let told = machine.answer(&Call { code, sandbox, parameters });
@@ -56,26 +57,23 @@ fn expect_last(calls: &[model::Call], last: usize, number: u32) {
 fn written(costs: &Costs) -> String {
     let rows = rows();
     let line = |(index, row): (usize, &Row)| {
-        let count = |way| {
+        let [call, line] = [0, 1].map(|way| {
             let (with, without) = pair(&rows, index, way);
-            costs.counts.difference(with, without)
-        };
-        let time = |way| {
-            let (with, without) = pair(&rows, index, way);
-            costs.time_of_call(with, without, repeats(row, Purpose::Time))
-        };
-        let [call, line] = [0, 1].map(count);
+            row.cost(costs, with, without)
+        });
         vec![
             row.title(),
-            thousands(call),
-            thousands(line),
-            thousands(call - line),
-            ratio(call, line),
-            time(0),
-            time(1),
+            call.instructions(),
+            line.instructions(),
+            thousands(call.count - line.count),
+            ratio(call.count, line.count),
+            row.timed().to_string(),
+            call.nanoseconds(),
+            line.nanoseconds(),
         ]
     };
     let lines: Vec<Vec<String>> = rows.iter().enumerate().map(line).collect();
-    let head = ["state: call", "a call", "a line", "more", "ratio", "a call, ns", "a line, ns"];
+    let head =
+        ["state: call", "a call", "a line", "more", "ratio", "timed", "a call, ns", "a line, ns"];
     markdown(&head, &lines)
 }

@@ -1,10 +1,10 @@
 //! A drawing of curves against dirty pages, on a white ground.
 
 const WIDTH: f64 = 460.0;
-const HEIGHT: f64 = 360.0;
+const HEIGHT: f64 = 378.0;
 const LEFT: f64 = 70.0;
 const RIGHT: f64 = 20.0;
-const TOP: f64 = 90.0;
+const TOP: f64 = 108.0;
 const BOTTOM: f64 = 50.0;
 const MOST_PAGES: f64 = 64.0;
 
@@ -15,7 +15,11 @@ pub struct Curve {
 }
 
 impl Curve {
-    pub fn proved(points: Vec<(f64, f64)>) -> Curve {
+    pub fn line(points: Vec<(f64, f64)>) -> Curve {
+        Curve { name: "proved machine, a rewind's whole line", colour: "#7f7f7f", points }
+    }
+
+    pub fn own_work(points: Vec<(f64, f64)>) -> Curve {
         Curve { name: "proved machine, a rewind's own work", colour: "#1b6ca8", points }
     }
 
@@ -31,7 +35,7 @@ impl Curve {
 /// One diagram; its title says what is drawn upwards.
 pub struct Panel {
     pub title: &'static str,
-    pub curves: [Curve; 3],
+    pub curves: [Curve; 4],
 }
 
 /// The panels side by side.

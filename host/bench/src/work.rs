@@ -6,6 +6,7 @@ use crate::roll::text;
 use crate::{same_steps, unproved};
 use model::PAGE_BYTES;
 use std::hint::black_box;
+use std::sync::atomic::{compiler_fence, Ordering};
 
 const FRAMES: usize = 128;
 
@@ -13,13 +14,15 @@ const FRAMES: usize = 128;
 #[derive(Clone, Copy, PartialEq, Eq, Debug)]
 pub enum Player {
     Proved,
+    /// The unproved machine without its test of soundness.
+    Trusting,
     Unproved,
     /// The unproved machine with the proved one's steps in the test of soundness and
     /// where a page is looked up.
     SameSteps,
-    /// The unproved machine with a rewind that frees every front.
+    /// The trusting machine with a rewind that frees every front.
     Dropping,
-    /// The unproved machine without runs of kept frames.
+    /// The trusting machine without runs of kept frames.
     KeepingNothing,
 }
 
@@ -174,9 +177,12 @@ impl Work {
     }
 }
 
+/// Page by page: without the fence, which is no instruction, the compiler would make one copy of
+/// all pages, as if dirty pages always lay side by side.
 fn copy_pages(from: &[u8], to: &mut [u8]) {
     for (to, from) in to.chunks_exact_mut(PAGE_BYTES).zip(from.chunks_exact(PAGE_BYTES)) {
         to.copy_from_slice(from);
+        compiler_fence(Ordering::SeqCst);
     }
 }
 
@@ -201,6 +207,7 @@ impl Player {
     ) -> usize {
         match self {
             Player::Proved => gazhuppin::play(roll, image, pool, table, out).unwrap_or(0),
+            Player::Trusting => unproved::play_trusting(roll, image, pool, table, out),
             Player::Unproved => unproved::play(roll, image, pool, table, out),
             Player::SameSteps => same_steps::play(roll, image, pool, table, out),
             Player::Dropping => unproved::play_dropping(roll, image, pool, table, out),

@@ -154,6 +154,11 @@ fn the_unproved_machine_compares_as_the_document_says() {
 }
 
 #[test]
+fn the_trusting_machine_compares_the_same() {
+    answers_by_hand(unproved::play_trusting);
+}
+
+#[test]
 fn with_the_proved_machines_steps_it_compares_the_same() {
     answers_by_hand(same_steps::play);
 }

@@ -3,8 +3,10 @@
 
 use bench::copying::Copying;
 use bench::document::with_part;
-use bench::table::{thousands, Purpose};
+use bench::rows::rows;
+use bench::table::{thousands, Purpose, Ratio, Table};
 use bench::TABLES;
+use gazhuppin::{Call, Machine};
 
 #[test]
 fn the_copying_machine_rewinds_to_its_snapshot() {
@@ -33,12 +35,55 @@ fn numbers_have_commas() {
     assert_eq!(numbers, ["0", "999", "1,000", "-1,234,567"]);
 }
 
-/// `works` plays each roll and looks at its replies.
+/// `works` plays each roll and looks at its replies. Of frames nothing is measured, and long rolls
+/// are timed alone.
 #[test]
 fn measured_calls_are_accepted_or_refused_as_their_tables_say() {
-    for table in TABLES {
-        let [counted, timed] = [Purpose::Count, Purpose::Time].map(|p| (table.works)(p).len());
-        assert_eq!(counted, timed, "{}", table.name);
-        assert_eq!(counted == 0, table.name == "frames", "{}", table.name);
+    for Table { name, works, .. } in TABLES {
+        let [counted, timed] = [Purpose::Count, Purpose::Time].map(|purpose| works(purpose).len());
+        assert_eq!(counted == 0, ["frames", "throughput"].contains(&name), "{name}");
+        assert_eq!(timed == 0, name == "frames", "{name}");
+        assert!(counted == 0 || counted == timed, "{name}");
     }
+}
+
+/// State, pool and table.
+type Left = (Vec<u8>, Vec<u8>, Vec<u16>);
+
+fn made(machine: &mut Machine, calls: &[model::Call]) -> Left {
+    for &model::Call { code, sandbox, parameters } in calls {
+        let _ = machine.answer(&Call { code, sandbox, parameters });
+    }
+    (machine.state().to_vec(), machine.pool().to_vec(), machine.table().to_vec())
+}
+
+/// A timed call stands 64 times in its roll, each time with the same work: what comes after it
+/// returns to the state, but for bytes of fronts that a first rewind restores.
+#[test]
+fn timed_calls_return_to_their_state() {
+    let mut returning = 0;
+    for row in rows() {
+        let mut machine = Machine::start(vec![7; 16 * 256], 128).expect("right lengths");
+        let before = made(&mut machine, &row.state.calls());
+        let Some(group) = row.group() else {
+            assert!([1, 7].contains(&row.call.code), "{}", row.title());
+            continue;
+        };
+        let [once, twice] = [0, 1].map(|_| made(&mut machine, &group));
+        assert!(once == twice, "{}", row.title());
+        let rewound = group.iter().any(|call| call.code == 8);
+        assert!(rewound || before == once, "{}", row.title());
+        returning += usize::from(group.len() > 1);
+    }
+    assert_eq!(returning, 12);
+}
+
+#[test]
+fn what_misses_its_aim_stands_in_bold() {
+    let ratio = |count, time| Ratio { count, time };
+    let aim = ratio(1.0, Some(1.1));
+    assert_eq!(ratio(1.0, Some(1.1)).judged(&aim), ["1.00", "1.10"]);
+    assert_eq!(ratio(1.01, Some(1.2)).judged(&aim), ["**1.01**", "**1.20**"]);
+    assert_eq!(ratio(0.5, None).judged(&aim), ["0.50", "–"]);
+    assert_eq!(ratio(0.5, Some(-0.1)).judged(&aim), ["0.50", "**-0.10**"]);
 }

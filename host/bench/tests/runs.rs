@@ -10,8 +10,12 @@ fn proved(r: &[u8], i: &[u8], pool: &mut [u8], table: &mut [u16], out: &mut [u8]
     gazhuppin::play(r, i, pool, table, out).expect("out has room")
 }
 
-const MACHINES: [(&str, Play); 3] =
-    [("unproved", unproved::play), ("same steps", same_steps::play), ("proved", proved)];
+const MACHINES: [(&str, Play); 4] = [
+    ("unproved", unproved::play),
+    ("trusting", unproved::play_trusting),
+    ("same steps", same_steps::play),
+    ("proved", proved),
+];
 /// "64 for the lowest gap that fits".
 const ANYWHERE: u16 = 64;
 const IMAGE: [u8; 1024] = [7; 1024];

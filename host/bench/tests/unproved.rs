@@ -45,6 +45,12 @@ fn the_unproved_machine_answers_as_the_model() {
     answers_as(unproved::play, Fault::None);
 }
 
+/// A roll's state comes from its start, so that no test of it is missed.
+#[test]
+fn the_trusting_machine_answers_the_same() {
+    answers_as(unproved::play_trusting, Fault::None);
+}
+
 #[test]
 fn with_the_proved_machines_steps_it_answers_the_same() {
     answers_as(same_steps::play, Fault::None);
@@ -72,7 +78,7 @@ fn a_machine_that_keeps_nothing_differs_in_its_reports_alone() {
     assert!(reports > 1_000 && differ > 100, "{reports} reports, {differ} rolls differ");
 }
 
-/// Pool and table are those of the proved machine too: all three take the greatest
+/// Pool and table are those of the proved machine too: all four take the greatest
 /// unheld frame, and give up the smallest of a run.
 #[test]
 fn pool_and_table_are_those_of_the_proved_machine() {
@@ -82,7 +88,7 @@ fn pool_and_table_are_those_of_the_proved_machine() {
         let (mut pool, mut table) = (vec![1; 256 * case.frames], [1; 512]);
         let lines = gazhuppin::play(&case.roll, &case.image, &mut pool, &mut table, &mut out);
         let left = (lines.expect("out has room"), pool, table, out);
-        for play in [unproved::play as Play, same_steps::play] {
+        for play in [unproved::play as Play, unproved::play_trusting, same_steps::play] {
             let mut out = vec![0; left.3.len()];
             let (mut pool, mut table) = (vec![1; 256 * case.frames], [1; 512]);
             let lines = play(&case.roll, &case.image, &mut pool, &mut table, &mut out);

@@ -41,8 +41,8 @@ fn after_request(pages: u16, areas: u16, frames: Frames) -> Vec<Call> {
 fn expect_kept(player: Player, pages: u16, areas: u16, frames: Frames) {
     let mut calls = after_request(pages, areas, frames);
     calls.push(report(0));
-    let kept = player != Player::KeepingNothing && frames == Frames::Kept;
+    let kept = if frames == Frames::Kept { u32::from(pages) } else { 0 };
     let played = player.played(&text(&calls));
-    assert_eq!(played.reply(calls.len() - 1), (0, if kept { u32::from(pages) } else { 0 }));
+    assert_eq!(played.reply(calls.len() - 1), (0, kept));
     assert_eq!(played.named(), 0);
 }

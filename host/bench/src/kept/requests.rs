@@ -7,8 +7,7 @@ use model::Call;
 
 pub const TABLE: Table = Table { name: "kept-requests", works, markdown: written, rounds: 21 };
 
-const PLAYERS: [Player; 4] =
-    [Player::Proved, Player::Unproved, Player::SameSteps, Player::KeepingNothing];
+const PLAYERS: [Player; 3] = [Player::Proved, Player::Trusting, Player::KeepingNothing];
 const REQUESTS: usize = 10;
 /// The pages of the snapshot; a request's pages come behind them.
 const SNAPSHOT_PAGES: u16 = 16;
@@ -113,12 +112,10 @@ fn written(costs: &Costs) -> String {
         "taken anew in a request",
         "taken anew, keeping nothing",
         "proved",
-        "unproved",
-        "same steps",
+        "trusting",
         "keeping nothing",
         "proved, ns",
-        "unproved, ns",
-        "same steps, ns",
+        "trusting, ns",
         "keeping nothing, ns",
     ];
     markdown(&head, &rows)

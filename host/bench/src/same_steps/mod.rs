@@ -41,4 +41,4 @@ mod spoiled;
 mod text;
 mod walk;
 
-pub use roll::{play, play_dropping, play_keeping_nothing};
+pub use roll::{play, play_dropping, play_keeping_nothing, play_trusting};

@@ -9,7 +9,9 @@ use super::page::{Attributes, Backing, PageNo, PAGES};
 use super::sandbox::Sandbox;
 use super::walk::Walk;
 
-impl<const KEEPS_FRONTS: bool, const KEEPS_RUNS: bool> Machine<KEEPS_FRONTS, KEEPS_RUNS> {
+impl<const KEEPS_FRONTS: bool, const KEEPS_RUNS: bool, const TESTS: bool>
+    Machine<KEEPS_FRONTS, KEEPS_RUNS, TESTS>
+{
     pub fn is_sound(&self, memory: &Memory) -> bool {
         memory.has_right_lengths()
             && Held::named_by(memory.table, memory.frames()) == Some(self.held)

@@ -14,7 +14,7 @@ const OUTPUT_TOO_SHORT: u32 = 15;
 /// A machine with memory of its own, as a roll leaves it.
 #[derive(Clone, Debug)]
 pub struct Left {
-    machine: Machine<true, true>,
+    machine: Machine<true, true, true>,
     pool: Vec<u8>,
     table: Vec<u16>,
     image: Vec<u8>,
@@ -51,7 +51,7 @@ struct Archived<'a> {
     areas: &'a Areas,
 }
 
-impl Machine<true, true> {
+impl Machine<true, true, true> {
     fn archived<'a>(&'a self, memory: &'a Memory, sandbox: u16) -> Result<Archived<'a>, Refusal> {
         if !self.is_sound(memory) {
             return Err(Refusal::Unsound);

@@ -1,5 +1,6 @@
 //! The machine of the Rattle crates, written in ordinary Rust without a proof: the
-//! same state, the same work at each call, the same test of soundness before each.
+//! same state, the same work at each call. `play` makes the whole test of soundness before
+//! every call, `play_trusting` never.
 //!
 //! - `page`: numbers, backings and attributes of pages;
 //! - `areas`, `lookup` and `pack`: a sandbox's mapped pages as at most 8 runs;
@@ -33,4 +34,4 @@ mod spoiled;
 mod text;
 
 pub use archive::Left;
-pub use roll::{play, play_dropping, play_keeping_nothing};
+pub use roll::{play, play_dropping, play_keeping_nothing, play_trusting};

@@ -14,10 +14,21 @@ pub fn play(
     table: &mut [u16],
     out: &mut [u8],
 ) -> usize {
-    play_with::<true, true>(roll, Memory { pool, table, image }, out)
+    play_with::<true, true, true>(roll, Memory { pool, table, image }, out)
 }
 
-/// The same with a machine whose rewind frees every front.
+/// The same with a machine that trusts its state: there is no test of soundness.
+pub fn play_trusting(
+    roll: &[u8],
+    image: &[u8],
+    pool: &mut [u8],
+    table: &mut [u16],
+    out: &mut [u8],
+) -> usize {
+    play_with::<true, true, false>(roll, Memory { pool, table, image }, out)
+}
+
+/// The trusting machine with a rewind that frees every front.
 pub fn play_dropping(
     roll: &[u8],
     image: &[u8],
@@ -25,10 +36,10 @@ pub fn play_dropping(
     table: &mut [u16],
     out: &mut [u8],
 ) -> usize {
-    play_with::<false, true>(roll, Memory { pool, table, image }, out)
+    play_with::<false, true, false>(roll, Memory { pool, table, image }, out)
 }
 
-/// The same with a machine that keeps no frame of a finished request.
+/// The trusting machine without kept frames of finished requests.
 pub fn play_keeping_nothing(
     roll: &[u8],
     image: &[u8],
@@ -36,10 +47,10 @@ pub fn play_keeping_nothing(
     table: &mut [u16],
     out: &mut [u8],
 ) -> usize {
-    play_with::<true, false>(roll, Memory { pool, table, image }, out)
+    play_with::<true, false, false>(roll, Memory { pool, table, image }, out)
 }
 
-fn play_with<const KEEPS_FRONTS: bool, const KEEPS_RUNS: bool>(
+fn play_with<const KEEPS_FRONTS: bool, const KEEPS_RUNS: bool, const TESTS: bool>(
     roll: &[u8],
     mut memory: Memory,
     out: &mut [u8],
@@ -48,7 +59,7 @@ fn play_with<const KEEPS_FRONTS: bool, const KEEPS_RUNS: bool>(
     if out.len() / REPLY_BYTES < lines {
         return 0;
     }
-    let mut machine = Machine::<KEEPS_FRONTS, KEEPS_RUNS>::start(&mut memory);
+    let mut machine = Machine::<KEEPS_FRONTS, KEEPS_RUNS, TESTS>::start(&mut memory);
     let replies = out.chunks_exact_mut(REPLY_BYTES);
     for ((line, reply), number) in roll.chunks(LINE_BYTES).take(MOST_LINES).zip(replies).zip(1..) {
         let answer = match parse(line) {

@@ -1,4 +1,4 @@
-//! "A state is sound if ..": the whole test, made before every call.
+//! "A state is sound if ..": the whole test, made before every call of a machine that tests.
 
 use super::held::Held;
 use super::machine::Machine;
@@ -7,7 +7,9 @@ use super::page::{Attributes, Backing, PageNo, PAGES};
 use super::runs::Runs;
 use super::sandbox::Sandbox;
 
-impl<const KEEPS_FRONTS: bool, const KEEPS_RUNS: bool> Machine<KEEPS_FRONTS, KEEPS_RUNS> {
+impl<const KEEPS_FRONTS: bool, const KEEPS_RUNS: bool, const TESTS: bool>
+    Machine<KEEPS_FRONTS, KEEPS_RUNS, TESTS>
+{
     pub fn is_sound(&self, memory: &Memory) -> bool {
         memory.has_right_lengths()
             && Held::named_by(memory.table, memory.frames()) == Some(self.held)

@@ -8,7 +8,7 @@ use super::request::{Refusal, Request};
 use super::runs::MOST_RUNS;
 
 const FRAMES: usize = 70;
-type Kept = Machine<true, true>;
+type Kept = Machine<true, true, true>;
 type Spoil = fn(&mut Kept, &mut Memory);
 
 fn request(code: u16, sandbox: u16, parameters: [u16; 5]) -> Request {
