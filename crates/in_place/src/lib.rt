@@ -1,7 +1,7 @@
 // Calls answered in place: those that leave every sandbox and the page table as they are. Reads, reports, comparisons, and writes to a page that has a
 // front: of these only a byte of the pool changes. One sandbox is looked at, and the page of a read or a write is looked up once.
 // It promises: what `answer` answers is the outcome of `step` (step/specs/Step) in any sound world with this sandbox, pool and table; where it says that it
-// did not answer, nothing has changed. It answers every read, report and comparison, refused or not, and every write but to a page without a front.
+// did not answer, nothing has changed. Which calls it answers is no part of the promise: whoever calls it performs those that it leaves.
 // It stands on `rows`, `limits` and `decision` for what is refused, on `values`, `reading` and `filling` for what is read, counted, compared and stored, and on
 // `step` for what a call is.
 ghost use mathlib.Core.Path.{_≡_};
