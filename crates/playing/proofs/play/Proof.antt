@@ -39,7 +39,8 @@ play-lines-requires : tie.Need-play-lines-requires
 play-lines-requires c κs =
     let counted = c .before .before .before in
     let lines = counted .lines-of in
-    rw (prefix-lines (begun counted .args .out .now) (lines .result) (has-room counted), lines .ensures) (begun counted .pre .1 .0, refl, begun counted .pre .1 .1)
+    let asked = begun counted .pre .1 in
+    rw (prefix-lines (begun counted .args .out .now) (lines .result) (has-room counted), lines .ensures) (asked .0, refl, asked .1)
 
 same-length : tie.Need-same-length
 same-length c = search needs
