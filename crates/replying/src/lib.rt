@@ -5,13 +5,12 @@
 ghost use mathlib.Core.Path.{_≡_};
 ghost use Prim.Native.Nat.{_+_, _*_, _≤_};
 ghost use lib.ListN.{length};
-ghost use Rattle.interface.specs.Answers.{valueOf};
-ghost use Rattle.state.specs.World.{worldOf};
-ghost use Rattle.step.specs.Step.{Stepped};
-ghost use Rattle.step.specs.Reply.{outcomeOf};
-ghost use Rattle.columns.specs.Sizes.{MostNumber, MostPrinted, ReplyBytes};
+ghost use Rattle.columns.specs.Sizes.{MostPrinted, ReplyBytes};
 ghost use Rattle.roll.specs.Known.{Known};
-ghost use Rattle.roll.specs.Play.{Turned, Replied};
+ghost use Rattle.roll.specs.Play.{Replied};
+ghost use Rattle.replying.specs.Asked.{askedBy};
+ghost use Rattle.replying.specs.Playing.{playedBy};
+use frames::Held;
 use interface::Answer;
 use interface::Refusal;
 use interface::Request;
@@ -19,12 +18,14 @@ use lines::Line;
 use performing::act;
 use reply_text::print_answer;
 use state::sandbox::Machine;
-use step::Reply;
+use state::sandbox::Sandbox;
 use totals::put_together;
 
-// A roll that is being played: the machine, whether its state is sound, the number of the roll's first line, and how many lines are answered.
+// A roll that is being played: the machine's sandboxes and held marks, whether its state is sound, the number of the roll's first line, and how many lines are
+// answered. The machine stands here in its parts, so that a line takes one sandbox out and puts one back, and the others stay where they are.
 pub struct Playing {
-    pub machine: Machine,
+    pub sandboxes: [Sandbox; Machine::SANDBOXES],
+    pub held: Held,
     pub sound: bool,
     pub first: u32,
     pub answered: usize,
@@ -32,7 +33,7 @@ pub struct Playing {
 
 // The next line, with its reply: 19 bytes of out.
 pub fn reply<'a, 'b>(
-    playing: Playing,
+    mut playing: Playing,
     pool: &'a mut [u8],
     table: &'a mut [u16],
     image: &'b [u8],
@@ -41,108 +42,67 @@ pub fn reply<'a, 'b>(
 ) -> Playing
     requires { ⌜ (playing .answered * ReplyBytes + ReplyBytes ≤ length (now out))
         × (playing .first + playing .answered ≤ MostPrinted)
-        × Known (playing .sound) (now image) (worldOf (playing .machine) (now pool) (now table)) ⌝ }
-    ensures { λ r. let before = worldOf (playing .machine) (now (pool .entry)) (now (table .entry)) in
+        × Known (playing .sound) (now image) (playedBy playing (now pool) (now table)) ⌝ }
+    ensures { λ r. let before = playedBy playing (now (pool .entry)) (now (table .entry)) in
         let k = playing .answered in
         ⌜ Replied (now (image .entry)) before line (playing .first + k) (k * ReplyBytes)
         (now (out .entry)) (now (out .exit))
-        (worldOf (r .machine) (now (pool .exit)) (now (table .exit)))
+        (playedBy r (now (pool .exit)) (now (table .exit)))
         × (r .first ≡ playing .first) × (r .answered ≡ k + 1) × (r .sound ≡ playing .sound) ⌝ }
 {
-    let machine = playing.machine;
-    let r = turn(machine, playing.sound, pool, table, image, line);
-    let answer = r.answer;
-    print_answer(
-        out,
-        playing.answered,
-        playing.first + playing.answered as u32,
-        answer,
-    );
-    let after = r.machine;
-    Playing {
-        machine: after,
-        sound: playing.sound,
-        first: playing.first,
-        answered: playing.answered + 1,
+    let at = playing.answered;
+    let number = playing.first + at as u32;
+    let asked = ask(playing.sound, line);
+    let mut answer = Answer::Value(0);
+    match asked {
+        Asked::Refused(why) => {
+            answer = Answer::Refused(why);
+        }
+        Asked::Call(q) => {
+            let k = q.sandbox as usize;
+            let b = playing.sandboxes[k];
+            let tried = in_place::answer(b, pool, table, image, q);
+            if tried.done {
+                answer = tried.answer;
+            } else {
+                let sandboxes = playing.sandboxes;
+                let held = playing.held;
+                let all = put_together(sandboxes, held, q.code == Request::WRITE);
+                let acted = act(b, all, pool, table, image, q);
+                let after = acted.sandbox;
+                let marks = acted.held;
+                playing.sandboxes[k] = after;
+                playing.held = marks;
+                answer = acted.answer;
+            }
+        }
     }
+    print_answer(out, at, number, answer);
+    playing.answered = at + 1;
+    playing
 }
 
-// One line: its request is called; a malformed one is refused.
-fn turn(
-    machine: Machine,
-    sound: bool,
-    pool: &mut [u8],
-    table: &mut [u16],
-    image: &[u8],
-    line: Line,
-) -> Reply
-    requires { ⌜ Known sound (now image) (worldOf machine (now pool) (now table)) ⌝ }
-    ensures { λ r. ⌜ Turned (now (image .entry)) (worldOf machine (now (pool .entry)) (now (table .entry))) line
-        (outcomeOf r (now (pool .exit)) (now (table .exit))) ⌝ }
-    ensures { λ r. ⌜ valueOf (r .answer) ≤ MostNumber ⌝ }
-{
-    match line {
-        Line::Call(q) => call_known(machine, sound, pool, table, image, q),
-        Line::Malformed => Reply {
-            machine: machine,
-            answer: Answer::Refused(Refusal::Malformed),
-        },
-    }
+// What a line asks: a call on one of the four sandboxes of a sound state, or nothing that can be performed, and why.
+enum Asked {
+    Refused(Refusal),
+    Call(Request),
 }
 
-// One request, where it is known whether the state is sound: no test of the state, and else what `call` does.
-fn call_known(
-    machine: Machine,
-    sound: bool,
-    pool: &mut [u8],
-    table: &mut [u16],
-    image: &[u8],
-    q: Request,
-) -> Reply
-    requires { ⌜ Known sound (now image) (worldOf machine (now pool) (now table)) ⌝ }
-    ensures { λ r. ⌜ (let before = worldOf machine (now (pool .entry)) (now (table .entry)) in
-        Stepped (now (image .entry)) before q (outcomeOf r (now (pool .exit)) (now (table .exit)))) ⌝ }
+// Rows 1 to 3, and row 4 of a sandbox past the four: what is refused without a look at a sandbox. Whether the state is sound is known.
+fn ask(sound: bool, line: Line) -> Asked
+    ensures { λ r. ⌜ r ≡ askedBy sound line ⌝ }
 {
+    let Line::Call(q) = line else {
+        return Asked::Refused(Refusal::Malformed);
+    };
     if !codes::is_call(q) {
-        return refuse(machine, Refusal::NoSuchCall);
+        return Asked::Refused(Refusal::NoSuchCall);
     }
     if !sound {
-        return refuse(machine, Refusal::Unsound);
+        return Asked::Refused(Refusal::Unsound);
     }
     if q.sandbox as usize >= Machine::SANDBOXES {
-        return refuse(machine, Refusal::NotOpen);
+        return Asked::Refused(Refusal::NotOpen);
     }
-    let k = q.sandbox as usize;
-    let mut m = machine;
-    let sandboxes = m.sandboxes;
-    let b = sandboxes[k];
-    let tried = in_place::answer(b, pool, table, image, q);
-    if tried.done {
-        let answer = tried.answer;
-        return Reply {
-            machine: m,
-            answer: answer,
-        };
-    }
-    let all = put_together(sandboxes, m.held, q.code == Request::WRITE);
-    let acted = act(b, all, pool, table, image, q);
-    let after = acted.sandbox;
-    let held = acted.held;
-    let answer = acted.answer;
-    m.sandboxes[k] = after;
-    m.held = held;
-    Reply {
-        machine: m,
-        answer: answer,
-    }
-}
-
-// A refusal leaves the state.
-fn refuse(machine: Machine, why: Refusal) -> Reply
-    ensures { λ r. ⌜ r ≡ record { machine = machine; answer = Answer.Refused why } ⌝ }
-{
-    Reply {
-        machine: machine,
-        answer: Answer::Refused(why),
-    }
+    Asked::Call(q)
 }
