@@ -15,9 +15,9 @@ use Rattle.areas.specs.Walk.{Formed}
 use Rattle.areas.proofs.SlotLaws.{advance-zero}
 use Rattle.areas.proofs.WalkLaws.{endOf, order}
 use Rattle.packing.specs.declared.pack.Packed.{Packed}
-use Rattle.packing.specs.declared.part.Turn.the-variants.{Keep}
+use Rattle.packing.specs.declared.part.Update.the-variants.{Keep}
 use Rattle.packing.specs.Pack.{start, last, continues}
-use Rattle.packing.specs.Parts.{packOn, placed, pushArea, partOf, turned}
+use Rattle.packing.specs.Parts.{packOn, placed, pushArea, partOf, updated}
 use Rattle.packing.proofs.RunLaws.{ready-start, ready-on, push-places}
 use Rattle.packing.proofs.PartLaws.{Parts, parts-start, parts-more, parts-stop, parts-all}
 
@@ -41,7 +41,7 @@ part-whole a to h =
 
 -- what is packed of the areas before a place: as many, the last of them the part of its area before the page
 pub record Kept (s : Areas) (to k : ℕ) (p : Areas) : Type 0 where
-  pub parts : Parts s (λ i. turned Keep (slots s i)) start 0 to k (record { areas = p; fits = true })
+  pub parts : Parts s (λ i. updated Keep (slots s i)) start 0 to k (record { areas = p; fits = true })
   pub count : p .count ≡ k
   pub last : (j : ℕ) → j + 1 ≡ k → getD (p .list) j none ≡ partOf (getD (s .list) j none) 0 to
 
@@ -54,9 +54,9 @@ module _ (s : Areas) (F : Formed s) (to : ℕ) where
 
   pub kept-eight : (k : ℕ) (p : Areas) → Kept s to k p → length (p .list) ≡ 8
   kept-eight k p w =
-      let e : record { areas = p; fits = true } ≡ packOn start (λ i. turned Keep (slots s i)) 0 (max 0 (min (w .parts .page) to) - 0) = w .parts .packed in
+      let e : record { areas = p; fits = true } ≡ packOn start (λ i. updated Keep (slots s i)) 0 (max 0 (min (w .parts .page) to) - 0) = w .parts .packed in
       ap (λ (b : Packed). length (b .areas .list)) e
-      ∙ ready-on start (λ i. turned Keep (slots s i)) 0 (max 0 (min (w .parts .page) to) - 0) ready-start .eight
+      ∙ ready-on start (λ i. updated Keep (slots s i)) 0 (max 0 (min (w .parts .page) to) - 0) ready-start .eight
 
   -- no page of the next area goes on where the last one ends
   apart : (k : ℕ) (p : Areas) → Kept s to k p → k < s .count → at k .first .0 < to
@@ -90,10 +90,10 @@ module _ (s : Areas) (F : Formed s) (to : ℕ) where
 
   -- an area that starts behind the page, or no area more
   pub kept-stop : (k : ℕ) (p : Areas) → Kept s to k p → k < s .count → to ≤ at k .first .0
-      → record { areas = p; fits = true } ≡ packOn start (λ i. turned Keep (slots s i)) 0 to
+      → record { areas = p; fits = true } ≡ packOn start (λ i. updated Keep (slots s i)) 0 to
   kept-stop k p w l d =
       let e : to - 0 ≡ to = omega arith in rw e at (parts-stop s F Keep start 0 to (omega arith) ready-start k _ (w .parts) l d)
 
-  pub kept-all : (k : ℕ) (p : Areas) → Kept s to k p → s .count ≤ k → record { areas = p; fits = true } ≡ packOn start (λ i. turned Keep (slots s i)) 0 to
+  pub kept-all : (k : ℕ) (p : Areas) → Kept s to k p → s .count ≤ k → record { areas = p; fits = true } ≡ packOn start (λ i. updated Keep (slots s i)) 0 to
   kept-all k p w l =
       let e : to - 0 ≡ to = omega arith in rw e at (parts-all s F Keep start 0 to (omega arith) ready-start k _ (w .parts) l)

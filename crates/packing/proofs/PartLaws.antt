@@ -11,7 +11,7 @@ use borrow.Author.Tests.{ltb-false}
 use Rattle.basics.proofs.TestLaws.{by-cases}
 use Rattle.interface.specs.declared.page.Attributes.{Attributes}
 use Rattle.interface.specs.declared.page.Slot.the-variants.{Unmapped}
-use Rattle.interface.specs.Slots.{Slots}
+use Rattle.interface.specs.Slots.{Slots, advance}
 use Rattle.interface.specs.Outcome.{pageOn}
 use Rattle.areas.specs.declared.area.Area.{Area}
 use Rattle.areas.specs.declared.area.Areas.{Areas}
@@ -20,9 +20,9 @@ use Rattle.areas.specs.Walk.{Formed}
 use Rattle.areas.proofs.WalkLaws.{Before, endOf, before-start, before-gap, before-last, before-next}
 use Rattle.areas.proofs.FewAreas.{area-slot}
 use Rattle.packing.specs.declared.pack.Packed.{Packed}
-use Rattle.packing.specs.declared.part.Turn.{Turn}
-use Rattle.packing.specs.declared.part.Turn.the-variants.{Keep, Rights, Commit}
-use Rattle.packing.specs.Parts.{packOn, Ready, areaFrom, pushArea, partOf, turnedTo, turned, turnedArea}
+use Rattle.packing.specs.declared.part.Update.{Update}
+use Rattle.packing.specs.declared.part.Update.the-variants.{Keep, Rights, Commit}
+use Rattle.packing.specs.Parts.{packOn, Ready, areaFrom, pushArea, partOf, updatedTo, updated, updatedArea}
 use Rattle.packing.proofs.RunLaws.{pack-split, pack-gap, ready-on, advance-more, run, push-nothing}
 
 -- ---- pages that are not mapped, and a run behind them
@@ -44,14 +44,16 @@ module _ (b : Packed) (f : Slots) (from x : ℕ) (l : from ≤ x) where
 
 -- ---- what a part says of its pages
 
-on-part : (turn : Turn) (a : Area) (from to i : ℕ) → max (a .first .0) from ≤ i
-    → turned turn (slotOf a i) ≡ pageOn (turnedTo turn (attributesOf (partOf a from to))) (i - max (a .first .0) from)
-on-part Keep a from to i l =
+on-backing : (a : Area) (from i : ℕ) → max (a .first .0) from ≤ i
+    → advance (advance (a .backing) (max (a .first .0) from - a .first .0)) (i - max (a .first .0) from) ≡ advance (a .backing) (i - a .first .0)
+on-backing a from i l =
     let e : max (a .first .0) from - a .first .0 + (i - max (a .first .0) from) ≡ i - a .first .0 = omega arith in rw (advance-more, e)
-on-part (Rights r) a from to i l =
-    let e : max (a .first .0) from - a .first .0 + (i - max (a .first .0) from) ≡ i - a .first .0 = omega arith in rw (advance-more, e)
-on-part Commit a from to i l =
-    let e : max (a .first .0) from - a .first .0 + (i - max (a .first .0) from) ≡ i - a .first .0 = omega arith in rw (advance-more, e)
+
+on-part : (update : Update) (a : Area) (from to i : ℕ) → max (a .first .0) from ≤ i
+    → updated update (slotOf a i) ≡ pageOn (updatedTo update (attributesOf (partOf a from to))) (i - max (a .first .0) from)
+on-part Keep a from to i l = rw (on-backing a from i l)
+on-part (Rights r) a from to i l = rw (on-backing a from i l)
+on-part Commit a from to i l = rw (on-backing a from i l)
 
 -- an area that has no page there
 out-of-reach : (a : Area) (from to : ℕ) → (ltb (a .first .0) to && ltb from (a .first .0 + a .pages)) ≡ false → partOf a from to .pages ≡ 0
@@ -68,15 +70,15 @@ pub record Parts (s : Areas) (f : Slots) (b : Packed) (from to k : ℕ) (p : Pac
   pub there : Before s k page
   pub packed : p ≡ packOn b f from (max from (min page to) - from)
 
-module _ (s : Areas) (F : Formed s) (turn : Turn) (b : Packed) (from to : ℕ) (ends : from ≤ to) (ready : Ready b from) where
+module _ (s : Areas) (F : Formed s) (update : Update) (b : Packed) (from to : ℕ) (ends : from ≤ to) (ready : Ready b from) where
   abbrev f : Slots
-  f i = turned turn (slots s i)
+  f i = updated update (slots s i)
 
   abbrev at : ℕ → Area
   at k = getD (s .list) k none
 
   abbrev piece : ℕ → Area
-  piece k = turnedArea turn (partOf (at k) from to)
+  piece k = updatedArea update (partOf (at k) from to)
 
   pub parts-start : Parts s f b from to 0 b
   unfolding packOn
@@ -117,9 +119,9 @@ module _ (s : Areas) (F : Formed s) (turn : Turn) (b : Packed) (from to : ℕ) (
           go (yes d) =
               let e : max from (min (endOf s k) to) ≡ piece k .first .0 + piece k .pages = omega arith in
               rw (e, r .packed)
-              (stretch b f from reached (omega arith) ready (piece k .first .0) (piece k .pages) (turnedTo turn (attributesOf (partOf (at k) from to)))
+              (stretch b f from reached (omega arith) ready (piece k .first .0) (piece k .pages) (updatedTo update (attributesOf (partOf (at k) from to)))
               (omega (arith, ahead)) (λ i u v. gap i u (omega arith) (omega arith))
-              (λ i u v. rw (area-slot (F .images) s (F .formed) i k l (omega arith) (omega arith)) (on-part turn (at k) from to i u)))
+              (λ i u v. rw (area-slot (F .images) s (F .formed) i k l (omega arith) (omega arith)) (on-part update (at k) from to i u)))
 
       pub parts-more : Parts s f b from to (k + 1) (pushArea p (piece k))
       parts-more = record { page = endOf s k; there = before-next s F k (r .page) (r .there) l; packed = sym pages-pushed }

@@ -10,24 +10,24 @@ use Rattle.interface.specs.Slots.{Slots, withRights, withCommitted}
 use Rattle.packing.specs.declared.pack.Packed.{Packed}
 use Rattle.packing.specs.declared.pack.Change.{Change}
 use Rattle.packing.specs.declared.pack.Change.the-variants.{Map, Unmap, Protect, Commit}
-use Rattle.packing.specs.declared.part.Turn.the-variants.{Keep, Rights, Commit as Committed}
+use Rattle.packing.specs.declared.part.Update.the-variants.{Keep, Rights, Commit as Committed}
 use Rattle.packing.specs.Pack.{start, pack, changeAt, changed}
-use Rattle.packing.specs.Parts.{packOn, Ready, areaFrom, pushArea, turned}
+use Rattle.packing.specs.Parts.{packOn, Ready, areaFrom, pushArea, updated}
 use Rattle.packing.proofs.RunLaws.{pack-start, pack-split, pack-alike, pack-gap, ready-start, ready-on, run}
 
 -- ---- what becomes of a slot
 
-turned-keep : (s : Slot) → turned Keep s ≡ s
-turned-keep Unmapped = refl
-turned-keep (Mapped t) = refl
+updated-keep : (s : Slot) → updated Keep s ≡ s
+updated-keep Unmapped = refl
+updated-keep (Mapped t) = refl
 
-turned-rights : (r : ℕ) (s : Slot) → turned (Rights r) s ≡ withRights r s
-turned-rights r Unmapped = refl
-turned-rights r (Mapped t) = refl
+updated-rights : (r : ℕ) (s : Slot) → updated (Rights r) s ≡ withRights r s
+updated-rights r Unmapped = refl
+updated-rights r (Mapped t) = refl
 
-turned-commit : (s : Slot) → turned Committed s ≡ withCommitted s
-turned-commit Unmapped = refl
-turned-commit (Mapped t) = refl
+updated-commit : (s : Slot) → updated Committed s ≡ withCommitted s
+updated-commit Unmapped = refl
+updated-commit (Mapped t) = refl
 
 -- ---- the pages that a change changes, by the change
 
@@ -41,11 +41,11 @@ module _ (b : Packed) (f : Slots) (from n : ℕ) (c : Change) where
   pub change-unmap : c ≡ Unmap → Changed b
   change-unmap e = sym (pack-gap b (λ i. changeAt c (i - from) (f i)) from n (λ i l u. rw e))
 
-  pub change-protect : (rights : ℕ) → c ≡ Protect rights → (r : Packed) → r ≡ packOn b (λ i. turned (Rights rights) (f i)) from n → Changed r
-  change-protect rights e r h = h ∙ pack-alike b _ _ from n (λ i l u. rw e (turned-rights rights (f i)))
+  pub change-protect : (rights : ℕ) → c ≡ Protect rights → (r : Packed) → r ≡ packOn b (λ i. updated (Rights rights) (f i)) from n → Changed r
+  change-protect rights e r h = h ∙ pack-alike b _ _ from n (λ i l u. rw e (updated-rights rights (f i)))
 
-  pub change-commit : c ≡ Commit → (r : Packed) → r ≡ packOn b (λ i. turned Committed (f i)) from n → Changed r
-  change-commit e r h = h ∙ pack-alike b _ _ from n (λ i l u. rw e (turned-commit (f i)))
+  pub change-commit : c ≡ Commit → (r : Packed) → r ≡ packOn b (λ i. updated Committed (f i)) from n → Changed r
+  change-commit e r h = h ∙ pack-alike b _ _ from n (λ i l u. rw e (updated-commit (f i)))
 
 -- ---- one stretch of pages behind the other
 
@@ -69,16 +69,16 @@ module _ (f : Slots) (first n : ℕ) (c : Change) (from to : ℕ) (starts : from
       pack-start g 64 ∙ ap (packOn start g 0) e ∙ pack-split start g 0 from (to - from + (64 - to))
       ∙ rw (h, pack-split (packOn start g 0 from) g from (to - from) (64 - to), k)
 
-  pub repack-all : (p q r : Packed) → p ≡ packOn start (λ i. turned Keep (f i)) 0 from
-      → q ≡ packOn p (λ i. changeAt c (i - from) (f i)) from (to - from) → r ≡ packOn q (λ i. turned Keep (f i)) to (64 - to) → r ≡ pack g
+  pub repack-all : (p q r : Packed) → p ≡ packOn start (λ i. updated Keep (f i)) 0 from
+      → q ≡ packOn p (λ i. changeAt c (i - from) (f i)) from (to - from) → r ≡ packOn q (λ i. updated Keep (f i)) to (64 - to) → r ≡ pack g
   repack-all p q r hp hq hr =
       let before : p ≡ packOn start g 0 from =
       hp
-      ∙ pack-alike start _ g 0 from (λ i l u. turned-keep (f i) ∙ sym (over-out first n _ f i (inside-below first n i (omega arith)))) in
+      ∙ pack-alike start _ g 0 from (λ i l u. updated-keep (f i) ∙ sym (over-out first n _ f i (inside-below first n i (omega arith)))) in
       let within : q ≡ packOn p g from (to - from) =
       hq
       ∙ pack-alike p _ g from (to - from)
       (λ i l u. let k : from ≡ first = omega arith in rw k (sym (over-in first n _ f i (inside-yes first n i (omega arith) (omega arith))))) in
       let behind : r ≡ packOn q g to (64 - to) =
-      hr ∙ pack-alike q _ g to (64 - to) (λ i l u. turned-keep (f i) ∙ sym (over-out first n _ f i (inside-past first n i (omega arith)))) in
+      hr ∙ pack-alike q _ g to (64 - to) (λ i l u. updated-keep (f i) ∙ sym (over-out first n _ f i (inside-past first n i (omega arith)))) in
       behind ∙ rw (within, before) (sym three)

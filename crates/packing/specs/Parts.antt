@@ -13,8 +13,8 @@ use Rattle.areas.specs.declared.area.Area.{Area}
 use Rattle.areas.specs.declared.area.Areas.{Areas}
 use Rattle.areas.specs.Areas.{attributesOf}
 use Rattle.packing.specs.declared.pack.Packed.{Packed}
-use Rattle.packing.specs.declared.part.Turn.{Turn}
-use Rattle.packing.specs.declared.part.Turn.the-variants.{Keep, Rights, Commit}
+use Rattle.packing.specs.declared.part.Update.{Update}
+use Rattle.packing.specs.declared.part.Update.the-variants.{Keep, Rights, Commit}
 use Rattle.packing.specs.Pack.{last, continues, push}
 
 -- n pages from a page on pushed from left to right
@@ -69,16 +69,16 @@ partOf a from to =
     }
 
 -- what becomes of a mapped page
-abbrev pub turnedTo : Turn → Attributes → Attributes
-turnedTo Keep t = t
-turnedTo (Rights r) t = record { rights = r; committed = t .committed; backing = t .backing }
-turnedTo Commit t = record { rights = t .rights; committed = true; backing = t .backing }
+abbrev pub updatedTo : Update → Attributes → Attributes
+updatedTo Keep t = t
+updatedTo (Rights r) t = record { rights = r; committed = t .committed; backing = t .backing }
+updatedTo Commit t = record { rights = t .rights; committed = true; backing = t .backing }
 
 -- what becomes of a page
-abbrev pub turned : Turn → Slot → Slot
-turned turn Unmapped = Unmapped
-turned turn (Mapped t) = Mapped (turnedTo turn t)
+abbrev pub updated : Update → Slot → Slot
+updated update Unmapped = Unmapped
+updated update (Mapped t) = Mapped (updatedTo update t)
 
 -- what becomes of an area
-abbrev pub turnedArea : Turn → Area → Area
-turnedArea turn a = areaFrom (a .first .0) (a .pages) (turnedTo turn (attributesOf a))
+abbrev pub updatedArea : Update → Area → Area
+updatedArea update a = areaFrom (a .first .0) (a .pages) (updatedTo update (attributesOf a))

@@ -2,7 +2,7 @@
 // It promises: every change of pages is packed anew into the longest runs, as if page by page from left to right (specs/Pack), and says when a
 // ninth would be needed; what the areas say after that is what was packed (proofs/PackLaws); they are well formed after every sensible
 // change, and well formed areas packed again are the same (proofs/KeptLaws). The code goes by the parts of areas (specs/Parts), which comes
-// to the same (proofs/RunLaws, PartLaws, RepackLaws).
+// to the same (proofs/RunLaws, PartLaws, BeforeLaws, RepackLaws).
 // It stands on `areas`, whose runs it makes, and on `basics` and `interface`.
 pub mod pack;
 mod part;

@@ -5,9 +5,9 @@ ghost use Rattle.interface.specs.Numbers.{PageCount};
 ghost use Rattle.areas.specs.Areas.{slots, attributesOf};
 ghost use Rattle.areas.specs.Walk.{Formed};
 ghost use Rattle.packing.specs.Pack.{start, last, continues, pack, changeAt, changed, changeStart};
-ghost use Rattle.packing.specs.declared.part.Turn.the-variants.{Keep};
-ghost use Rattle.packing.specs.Parts.{packOn, longerBy, extendedBy, placed, pushArea, turned, Ready};
-use crate::part::Turn;
+ghost use Rattle.packing.specs.declared.part.Update.the-variants.{Keep};
+ghost use Rattle.packing.specs.Parts.{packOn, longerBy, extendedBy, placed, pushArea, updated, Ready};
+use crate::part::Update;
 use crate::part::area_from;
 use crate::part::part;
 use crate::part::reaches;
@@ -41,7 +41,7 @@ pub fn repack(areas: Areas, first: PageNo, n: u8, change: Change) -> Packed
     let to = within(first.0 as usize + n as usize);
     let before = Packed::up_to(areas, from);
     let changed = before.with_change(areas, from, to, change);
-    changed.with_parts(areas, to, Areas::PAGES, Turn::Keep)
+    changed.with_parts(areas, to, Areas::PAGES, Update::Keep)
 }
 
 impl Packed {
@@ -49,7 +49,7 @@ impl Packed {
     fn up_to(areas: Areas, to: u8) -> Self
         requires { ⌜ Formed areas ⌝ }
         requires { ⌜ to ≤ PageCount ⌝ }
-        ensures { λ r. ⌜ r ≡ packOn start (λ i. turned Keep (slots areas i)) 0 to ⌝ }
+        ensures { λ r. ⌜ r ≡ packOn start (λ i. updated Keep (slots areas i)) 0 to ⌝ }
     {
         let mut kept = Areas::empty();
         for k in 0..areas.count {
@@ -80,25 +80,25 @@ impl Packed {
         match change {
             Change::Map(t) => self.with_area(area_from(from, to - from, t)),
             Change::Unmap => self,
-            Change::Protect(rights) => self.with_parts(areas, from, to, Turn::Rights(rights)),
-            Change::Commit => self.with_parts(areas, from, to, Turn::Commit),
+            Change::Protect(rights) => self.with_parts(areas, from, to, Update::Rights(rights)),
+            Change::Commit => self.with_parts(areas, from, to, Update::Commit),
         }
     }
 
     // What becomes of the pages from one page to another, put behind what is packed: the part of each area that lies there.
-    fn with_parts(self, areas: Areas, from: u8, to: u8, turn: Turn) -> Self
+    fn with_parts(self, areas: Areas, from: u8, to: u8, update: Update) -> Self
         requires { ⌜ Formed areas ⌝ }
         requires { ⌜ Ready self from ⌝ }
         requires { ⌜ from ≤ to ⌝ }
         requires { ⌜ to ≤ PageCount ⌝ }
-        ensures { λ r. ⌜ r ≡ packOn self (λ i. turned turn (slots areas i)) from (to - from) ⌝ }
+        ensures { λ r. ⌜ r ≡ packOn self (λ i. updated update (slots areas i)) from (to - from) ⌝ }
     {
         let mut packed = self;
         for k in 0..areas.count {
             let area = areas.list[k as usize];
             // What is packed is copied only where there is something to add.
             if reaches(area, from, to) {
-                packed = packed.with_area(turn.area(part(area, from, to)));
+                packed = packed.with_area(update.area(part(area, from, to)));
             }
         }
         packed

@@ -1,11 +1,11 @@
-// Parts of areas: what of an area lies between two pages, and what becomes of it there.
+// Parts of areas: what of an area lies from one page to another, and what becomes of it there.
 ghost use mathlib.Core.Path.{_≡_};
 ghost use mathlib.Core.Bool.{_&&_};
 ghost use Prim.Native.Nat.{_+_, _-_, _≤_, min, max};
 ghost use lib.Dec.{ltb};
 ghost use Rattle.interface.specs.Numbers.{PageCount};
 ghost use Rattle.interface.specs.Slots.{startOf};
-ghost use Rattle.packing.specs.Parts.{areaFrom, partOf, turnedArea};
+ghost use Rattle.packing.specs.Parts.{areaFrom, partOf, updatedArea};
 use areas::area::Area;
 use interface::Attributes;
 use interface::PageNo;
@@ -13,29 +13,29 @@ use slots::backing_at;
 use slots::page_on;
 
 // What becomes of an area: it is kept as it is, gets rights, or becomes committed.
-pub(crate) enum Turn {
+pub(crate) enum Update {
     Keep,
     Rights(u8),
     Commit,
 }
 
-impl Turn {
+impl Update {
     // What becomes of the area.
     pub(crate) fn area(self, area: Area) -> Area
-        ensures { λ r. ⌜ r ≡ turnedArea self area ⌝ }
+        ensures { λ r. ⌜ r ≡ updatedArea self area ⌝ }
     {
         let first = area.first;
         let backing = area.backing;
         match self {
-            Turn::Keep => area,
-            Turn::Rights(rights) => Area {
+            Update::Keep => area,
+            Update::Rights(rights) => Area {
                 first: first,
                 pages: area.pages,
                 rights: rights,
                 committed: area.committed,
                 backing: backing,
             },
-            Turn::Commit => Area {
+            Update::Commit => Area {
                 first: first,
                 pages: area.pages,
                 rights: area.rights,
@@ -88,7 +88,7 @@ pub(crate) fn area_from(page: u8, pages: u8, t: Attributes) -> Area
     }
 }
 
-// The page itself, or 64 behind the last.
+// The page, or 64 where it lies behind the last.
 pub(crate) fn within(page: usize) -> u8
     ensures { λ r. ⌜ r ≡ min page PageCount ⌝ }
 {

@@ -74,7 +74,8 @@ loop-again c =
     let l = turn-of-part c .before .loop in (
       omega arith,
       rw (c .part .ensures)
-          (kept-next (s .args .t1) (s .pre .0) (s .args .to) (l .k) (l .kept) (l .inv .1) (turn-of-part c .loop-test .taken) (omega (arith, c .before .if1 .left))),
+          (kept-next (s .args .t1) (s .pre .0) (s .args .to) (l .k) (l .kept) (l .inv .1) (turn-of-part c .loop-test .taken)
+          (omega (arith, c .before .if1 .left))),
     )
 
 returns-2 : tie.Need-returns-2 Inv-loop μ-loop

@@ -37,8 +37,8 @@ placed-requires c κs = search needs
 returns-3 : tie.Need-returns-3
 returns-3 c =
     let on = c .before .before .before .before .continues in
-    push-places _ _ (ne-eqb _ _ (c .before .before .before .before .before .before .if1 .left)) (on .result) (on .ensures) (c .before .before .before .if2 .left)
-    (omega (arith, c .before .if3 .taken)) _ (c .placed .ensures)
+    push-places _ _ (ne-eqb _ _ (c .before .before .before .before .before .before .if1 .left)) (on .result) (on .ensures)
+    (c .before .before .before .if2 .left) (omega (arith, c .before .if3 .taken)) _ (c .placed .ensures)
 
 returns-4 : tie.Need-returns-4
 returns-4 c =

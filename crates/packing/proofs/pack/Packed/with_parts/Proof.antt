@@ -6,20 +6,23 @@ use native.Mathlib.Omega.{arith}
 use borrow.Author.Needs.{needs}
 use Rattle.areas.specs.Areas.{slots}
 use Rattle.areas.proofs.WalkLaws.{end-small, near-formed}
-use Rattle.packing.specs.Parts.{pushArea, turned, turnedArea}
+use Rattle.packing.specs.Parts.{pushArea, updated, updatedArea}
 use Rattle.packing.proofs.PartLaws.{Parts, parts-start, parts-few, parts-next, parts-all}
 use Rattle.packing.proofs.pack.Packed.with_parts.Statement.{statement}
 use Rattle.packing.proofs.pack.Packed.with_parts.Tie as tie
 
 abbrev Inv-loop : tie.InvT-loop
-Inv-loop from to turn areas packed₀ k₀ k-end packed k =
-    (k ≤ areas .count) × Parts areas (λ i. turned turn (slots areas i)) packed₀ from to k packed
+Inv-loop from to update areas packed₀ k₀ k-end packed k =
+    (k ≤ areas .count) × Parts areas (λ i. updated update (slots areas i)) packed₀ from to k packed
 
 abbrev μ-loop : tie.MeasureT-loop
-μ-loop from to turn areas packed₀ k₀ k-end packed k = areas .count - k
+μ-loop from to update areas packed₀ k₀ k-end packed k = areas .count - k
 
 loop-holds : tie.Need-loop-holds Inv-loop μ-loop
-loop-holds c = (omega arith, parts-start (c .args .t2) (c .pre .0) (c .args .turn) (c .args .self) (c .args .from) (c .args .to) (c .pre .1 .1 .0) (c .pre .1 .0))
+loop-holds c = (
+  omega arith,
+  parts-start (c .args .t2) (c .pre .0) (c .args .update) (c .args .self) (c .args .from) (c .args .to) (c .pre .1 .1 .0) (c .pre .1 .0),
+)
 
 cast-area : tie.Need-cast-area Inv-loop μ-loop
 cast-area c = search needs
@@ -53,7 +56,7 @@ with-area-requires : tie.Need-with-area-requires Inv-loop μ-loop
 with-area-requires c κs =
     let s = start-of-area (c .before .before .before .before) in
     let l = loop-of-area (c .before .before .before .before) .loop in (
-      parts-few (s .args .t2) (s .pre .0) (s .args .turn) (s .args .self) (s .args .from) (s .args .to) (s .pre .1 .1 .0) (s .pre .1 .0) (l .k) (l .packed)
+      parts-few (s .args .t2) (s .pre .0) (s .args .update) (s .args .self) (s .args .from) (s .args .to) (s .pre .1 .1 .0) (s .pre .1 .0) (l .k) (l .packed)
           (l .inv .1),
       rw (c .area2 .ensures, c .before .part .ensures) (omega (arith, end-small (s .args .t2) (s .pre .0) (l .k))),
     )
@@ -69,10 +72,10 @@ loop-again c =
     let s = start-of-area (c .before .before) in
     let l = loop-of-area (c .before .before) .loop in (
       omega arith,
-      parts-next (s .args .t2) (s .pre .0) (s .args .turn) (s .args .self) (s .args .from) (s .args .to) (s .pre .1 .1 .0) (s .pre .1 .0) (l .k) (l .packed)
+      parts-next (s .args .t2) (s .pre .0) (s .args .update) (s .args .self) (s .args .from) (s .args .to) (s .pre .1 .1 .0) (s .pre .1 .0) (l .k) (l .packed)
           (l .inv .1) (c .before .before .before .loop-test .taken) (c .before .reaches .result) (c .if1 .packed) (c .before .reaches .ensures)
           (⊎-elim
-          (λ w. inl (w .0 .taken, w .4 ∙ w .3 .ensures ∙ ap (pushArea (l .packed)) (w .2 .ensures ∙ ap (turnedArea (s .args .turn)) (w .1 .ensures))))
+          (λ w. inl (w .0 .taken, w .4 ∙ w .3 .ensures ∙ ap (pushArea (l .packed)) (w .2 .ensures ∙ ap (updatedArea (s .args .update)) (w .1 .ensures))))
           (λ w. inr (w .0 .left, w .1)) (c .if1 .came)),
     )
 
@@ -80,8 +83,8 @@ returns : tie.Need-returns Inv-loop μ-loop
 returns c =
     let s = c .before .before in
     let l = c .before .loop in
-    parts-all (s .args .t2) (s .pre .0) (s .args .turn) (s .args .self) (s .args .from) (s .args .to) (s .pre .1 .1 .0) (s .pre .1 .0) (l .k) (l .packed) (l .inv .1)
-    (omega arith)
+    parts-all (s .args .t2) (s .pre .0) (s .args .update) (s .args .self) (s .args .from) (s .args .to) (s .pre .1 .1 .0) (s .pre .1 .0) (l .k) (l .packed)
+    (l .inv .1) (omega arith)
 
 pub with-parts-spec : {M : Type 1} → statement M
 with-parts-spec =
