@@ -15,9 +15,9 @@ use Rattle.basics.proofs.RowLaws.{best-low}
 use Rattle.basics.proofs.TestLaws.{by-cases, when-cases}
 use Rattle.frames.specs.declared.Held.{Held}
 use Rattle.basics.specs.Ranges.{sum}
-use Rattle.frames.specs.Frames.{held, noneHeld, countHeld}
+use Rattle.frames.specs.Frames.{held, noneHeld, sameHeld, countHeld}
 use Rattle.words.proofs.SumLaws.{sum-le}
-use Rattle.frames.proofs.FrameLaws.{held-lt, held-zero, none-count}
+use Rattle.frames.proofs.FrameLaws.{held-lt, held-zero, same-held-true, none-count}
 use Rattle.runs.specs.declared.Runs.{Runs}
 use Rattle.runs.specs.Row.{row, lengthsOf, noRuns, withRunAt, rowTo, tabled, betterOf, shiftTo, movedRuns, pushed}
 
@@ -78,6 +78,12 @@ module _ (better : ℕ → ℕ → Bool) (l : ℕ → ℕ) where
 pub count-small : (h : Held) → countHeld h ≤ 128
 unfolding countHeld
 count-small h = sum-le (held h) 128 (held-lt h)
+
+-- a run that has the marks of no held frame has none
+pub empty-count : (h j : Held) → j ≡ noneHeld → (r : Bool) → r ≡ sameHeld h j → r ≡ true → countHeld h ≡ 0
+empty-count h j e r s t =
+    let empty : h ≡ noneHeld = same-held-true h j (sym s ∙ t) ∙ e in
+    none-count h (λ f l. ap (λ (x : Held). held x f) empty ∙ held-zero f)
 
 pub sum-more : (l : ℕ → ℕ) (i n x : ℕ) → n ≡ sum l i → x ≡ l i → n + x ≡ sum l (i + 1)
 unfolding sum
