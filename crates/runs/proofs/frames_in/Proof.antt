@@ -13,7 +13,9 @@ same-requires : tie.Need-same-requires
 same-requires c κs = search needs
 
 returns : tie.Need-returns
-returns c = (sym (empty-count (c .before .before .before .args .run) _ (c .before .before .none .ensures) _ (c .before .same .ensures) (c .if1 .taken)), omega arith)
+returns c =
+    let a = c .before .before .before .args in
+    (sym (empty-count (a .run) _ (c .before .before .none .ensures) _ (c .before .same .ensures) (c .if1 .taken)), omega arith)
 
 count-requires : tie.Need-count-requires
 count-requires c κs = search needs
