@@ -3,11 +3,11 @@
 // It stands on `areas`, whose runs it tests.
 ghost use mathlib.Core.Path.{_≡_};
 ghost use mathlib.Core.Bool.{_&&_};
-ghost use lib.Dec.{ltb};
+ghost use lib.Dec.{leb};
 ghost use lib.ListN.{length};
-ghost use Rattle.basics.specs.Choice.{implies};
 ghost use Rattle.interface.specs.Limits.{rightsOk};
-ghost use Rattle.areas.specs.Formed.{imagesExist, proper, isApart, isNone, wellFormed};
+ghost use Rattle.areas.specs.Areas.{attributesOf};
+ghost use Rattle.areas.specs.Formed.{goesOn, imagesExist, proper, isNone, wellFormed};
 use areas::area::Area;
 use areas::area::Areas;
 use interface::Attributes;
@@ -24,13 +24,21 @@ pub fn well_formed(areas: Areas, images: u8) -> bool
         return false;
     }
     let count = areas.count as usize;
-    let mut previous = areas.list[0];
+    // Only an area that starts where the one before it ends can go on there.
+    let mut end: usize = 0;
     for k in 0..count {
         let area = areas.list[k];
-        if !area_ok(previous, area, k, images) {
+        if !is_fitting(area, end, images) {
             return false;
         }
-        previous = area;
+        let start = area.first.0 as usize;
+        if (start == end) & (k != 0) {
+            let previous = areas.list[k - 1];
+            if goes_on(previous, area) {
+                return false;
+            }
+        }
+        end = start + area.pages as usize;
     }
     for k in count..Area::MOST {
         let area = areas.list[k];
@@ -41,17 +49,11 @@ pub fn well_formed(areas: Areas, images: u8) -> bool
     true
 }
 
-// Whether the area in place k is as it should be, and apart from the one before it.
-fn area_ok(previous: Area, area: Area, k: usize, images: u8) -> bool
-    ensures { λ r. ⌜ r ≡ (proper images area && implies (ltb 0 k) (isApart previous area)) ⌝ }
+// Whether the area is as it should be by itself, and starts no earlier than a page.
+fn is_fitting(area: Area, end: usize, images: u8) -> bool
+    ensures { λ r. ⌜ r ≡ (proper images area && leb end (area .first .0)) ⌝ }
 {
-    if !is_proper(area, images) {
-        return false;
-    }
-    if k == 0 {
-        return true;
-    }
-    is_apart(previous, area)
+    is_proper(area, images) & (end <= area.first.0 as usize)
 }
 
 // Whether no area stands in the place.
@@ -74,17 +76,12 @@ fn is_proper(area: Area, images: u8) -> bool
     (area.pages != 0) & (inside & allowed)
 }
 
-// Whether the other area stands behind this one and does not go on where it ends. Only one that starts there can go on.
-fn is_apart(area: Area, other: Area) -> bool
-    ensures { λ r. ⌜ r ≡ isApart area other ⌝ }
+// Whether the other area goes on where this one ends.
+fn goes_on(area: Area, other: Area) -> bool
+    ensures { λ r. ⌜ r ≡ goesOn area (other .first .0) (attributesOf other) ⌝ }
 {
     let first = other.first;
-    let start = first.0 as usize;
-    let end = area.first.0 as usize + area.pages as usize;
-    if end != start {
-        return end <= start;
-    }
-    !area.goes_on(first, other.attributes())
+    area.goes_on(first, other.attributes())
 }
 
 // Whether the rights are 1 for read or 3 for read and write.

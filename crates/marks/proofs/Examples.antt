@@ -1,9 +1,7 @@
 -- An example, computed: of four frames, entries that name frames 2 and 0, then frame 2 twice, then a frame past the pool.
-use Prim.Native.Nat.{ℕ}
 use mathlib.Core.Path.{_≡_, refl}
 use mathlib.Core.Bool.{true, false}
-use mathlib.Core.List.{List, [], _∷_}
-use Rattle.basics.specs.Ranges.{sum}
+use mathlib.Core.List.{[], _∷_}
 use Rattle.words.specs.Word.{bit, putBit}
 use Rattle.frames.specs.Frames.{held, mark}
 use Rattle.marks.specs.Marks.{addEntry, marksTo, from}

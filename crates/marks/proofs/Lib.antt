@@ -1,4 +1,5 @@
 pub mod NamedLaws
 pub mod MarkLaws
+pub mod PassLaws
 pub mod UsedLaws
 pub mod Examples

@@ -4,16 +4,14 @@ use mathlib.Core.Logic.{⊎-elim}
 use mathlib.Core.Bool.{true, false}
 use mathlib.Core.List.{List}
 use Prim.Native.Nat.{ℕ, zero, suc, _+_, _-_, _*_, _^_, _≤_, _<_}
-use native.Mathlib.Nat.{zero-add, add-zero, zero-mul, suc-mul}
+use native.Mathlib.Nat.{zero-add, zero-mul, suc-mul}
 use native.Mathlib.Omega.{arith}
-use native.Mathlib.Numerals.{add-one}
-use borrow.Author.Tests.{lt-ltb, le-ltb, eq-eqb, ne-eqb, eqb-true}
-use lib.Dec.{ltb, eqb}
+use borrow.Author.Tests.{lt-ltb, le-ltb, eq-eqb, ne-eqb}
+use lib.Dec.{ltb}
 use lib.ListN.{length, getD, List·getD-eq-default}
 use Rattle.basics.specs.Choice.{_when_else_}
-use Rattle.basics.specs.Ranges.{sum, every}
+use Rattle.basics.specs.Ranges.{sum}
 use Rattle.basics.proofs.TestLaws.{never, and-left, and-right, and-both, and-of}
-use Rattle.basics.proofs.LoopLaws.{every-at}
 use Rattle.frames.specs.Frames.{held, mark, noneHeld, sameHeld, countHeld, Within}
 use Rattle.frames.specs.declared.Held.{Held}
 use Rattle.words.proofs.SumLaws.{sum-same, sum-add}
@@ -242,26 +240,7 @@ module _ (n : ℕ) (h : Held) (t : List ℕ) (few : n ≤ 128) (e : length t ≡
       held-ext (found .held) h (words .low) (words .high) a b (marks-same n (found .held) h (from 0 t) (named-all n few (from 0 t) 512 no-more good) names) in
       and-of good (same-held-of (found .held) h same)
 
--- ---- the code's loop
-
--- one more turn
-pub marks-more : (n : ℕ) (p : ℕ → ℕ) (i : ℕ) (m : Marks) → m ≡ marksTo n p i → addEntry n m (p i) ≡ marksTo n p (i + 1)
-unfolding marksTo
-marks-more n p i m e = rw (add-one i) (ap (λ (x : Marks). addEntry n x (p i)) e)
-
--- entries that name none change nothing
-pub marks-none : (n : ℕ) (p : ℕ → ℕ) (i k : ℕ) → ((j : ℕ) → j < k → p (i + j) ≡ 0) → marksTo n p (i + k) ≡ marksTo n p i
-unfolding marksTo
-marks-none n p i zero h = ap (marksTo n p) (add-zero i)
-marks-none n p i (suc k) h =
-    let e : i + suc k ≡ suc (i + k) = omega arith in
-    rw (e, h k (omega arith)) (add-none n (marksTo n p (i + k)) ∙ marks-none n p i k (λ j l. h j (omega arith)))
-
--- what the test of eight entries says of each
-pub eight-none : (t : List ℕ) (first i : ℕ) → every (λ j. eqb (getD t (first + i + j) 0) 0) 0 8 ≡ true → (j : ℕ) → j < 8 → from first t (i + j) ≡ 0
-eight-none t first i h j l =
-    let e : first + (i + j) ≡ first + i + j = omega arith in
-    ap (λ (k : ℕ). getD t k 0) e ∙ eqb-true (getD t (first + i + j) 0) 0 (every-at (λ j. eqb (getD t (first + i + j) 0) 0) 0 8 h j (omega arith) l)
+-- ---- the marks themselves
 
 -- marks that pass are two words of 64 bits
 pub words : (n : ℕ) (h : Held) (t : List ℕ) → n ≤ 128 → marksb n h t ≡ true → (h .low < 2 ^ 64) × (h .high < 2 ^ 64)

@@ -1,3 +1,4 @@
 -- In reading order.
 pub mod Named
 pub mod Marks
+pub mod Pass

@@ -4,13 +4,14 @@
 // that name a frame.
 // It stands on `frames`, for the marks and the number of a frame.
 ghost use mathlib.Core.Path.{_≡_};
-ghost use Prim.Native.Nat.{_+_, _*_, _≤_, _<_};
+ghost use Prim.Native.Nat.{_+_, _*_, _^_, _≤_, _<_};
 ghost use lib.Dec.{eqb};
 ghost use lib.ListN.{length, getD};
 ghost use Rattle.basics.specs.Ranges.{every};
 ghost use Rattle.interface.specs.Numbers.{MostFrames, SandboxEntries, TableEntries};
 ghost use Rattle.frames.specs.Frames.{countHeld};
-ghost use Rattle.marks.specs.Marks.{addEntry, marksTo, from, marksb};
+ghost use Rattle.marks.specs.Marks.{marksTo, from, marksb};
+ghost use Rattle.marks.specs.Pass.{passEntry, passTo};
 ghost use Rattle.marks.specs.Named.{used as usedOne, usedBelow};
 use frames::FrameNo;
 use frames::Held;
@@ -29,35 +30,46 @@ impl Marks {
 
     // How many entries are looked at together.
     const TOGETHER: usize = 8;
+}
 
+// The pass as it is kept: whether no entry names a frame past the pool, how many name a frame of it, and the marks of these frames.
+struct Pass {
+    inside: bool,
+    named: usize,
+    held: Held,
+}
+
+impl Pass {
     // One more entry, of a table over a pool of so many frames.
-    pub fn add(self, frames: u8, entry: u16) -> Marks
+    fn add(self, frames: u8, entry: u16) -> Pass
         requires { ⌜ frames ≤ MostFrames ⌝ }
-        ensures { λ r. ⌜ r ≡ addEntry frames self entry ⌝ }
+        requires { ⌜ self .named + 1 < 2 ^ 64 ⌝ }
+        ensures { λ r. ⌜ r ≡ passEntry frames self entry ⌝ }
     {
         if entry == 0 {
             return self;
         }
         let held = self.held;
         if entry > frames as u16 {
-            return Marks {
-                good: false,
+            return Pass {
+                inside: false,
+                named: self.named,
                 held: held,
             };
         }
-        let frame = FrameNo((entry - 1) as u8);
-        Marks {
-            good: !held.contains(frame) & self.good,
-            held: held.with(frame),
+        Pass {
+            inside: self.inside,
+            named: self.named + 1,
+            held: held.with(FrameNo((entry - 1) as u8)),
         }
     }
 
     // Eight more entries, from place i of a run of entries on.
-    fn add_eight(self, table: &[u16], first: usize, i: usize, frames: u8) -> Marks
+    fn add_eight(self, table: &[u16], first: usize, i: usize, frames: u8) -> Pass
         requires { ⌜ first + (i + 8) ≤ length (now table) ⌝ }
         requires { ⌜ frames ≤ MostFrames ⌝ }
-        requires { ⌜ self ≡ marksTo frames (from first (now table)) i ⌝ }
-        ensures { λ r. ⌜ r ≡ marksTo frames (from first (now (table .entry))) (i + 8) ⌝ }
+        requires { ⌜ self ≡ passTo frames (from first (now table)) i ⌝ }
+        ensures { λ r. ⌜ r ≡ passTo frames (from first (now (table .entry))) (i + 8) ⌝ }
     {
         let mut found = self;
         for j in i..i + Marks::TOGETHER {
@@ -98,8 +110,9 @@ pub fn marks_of(table: &[u16], first: usize, entries: usize, frames: u8) -> Mark
     requires { ⌜ frames ≤ MostFrames ⌝ }
     ensures { λ r. ⌜ r ≡ marksTo frames (from first (now (table .entry))) entries ⌝ }
 {
-    let mut found = Marks {
-        good: true,
+    let mut found = Pass {
+        inside: true,
+        named: 0,
         held: Held::none(),
     };
     // Most often eight entries in a row name no frame, and nothing changes.
@@ -114,7 +127,12 @@ pub fn marks_of(table: &[u16], first: usize, entries: usize, frames: u8) -> Mark
         found = found.add(frames, table[first + i]);
         i += 1;
     }
-    found
+    // A frame that is named twice is marked once.
+    let held = found.held;
+    Marks {
+        good: found.inside & (held.count() as usize == found.named),
+        held: held,
+    }
 }
 
 // Whether eight entries in a row name no frame. All are looked at, which takes no branch.

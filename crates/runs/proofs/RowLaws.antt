@@ -86,6 +86,12 @@ pub count-small : (h : Held) → countHeld h ≤ 128
 unfolding countHeld
 count-small h = sum-le (held h) 128 (held-lt h)
 
+-- a run that has the marks of no held frame has none
+pub empty-count : (h j : Held) → j ≡ noneHeld → (r : Bool) → r ≡ sameHeld h j → r ≡ true → countHeld h ≡ 0
+empty-count h j e r s t =
+    let empty : h ≡ noneHeld = same-held-true h j (sym s ∙ t) ∙ e in
+    none-count h (λ f l. ap (λ (x : Held). held x f) empty ∙ held-zero f)
+
 pub sum-more : (l : ℕ → ℕ) (i n x : ℕ) → n ≡ sum l i → x ≡ l i → n + x ≡ sum l (i + 1)
 unfolding sum
 sum-more l i n x a b = rw (add-one i) (rw (a, b))

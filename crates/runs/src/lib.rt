@@ -6,7 +6,7 @@ ghost use mathlib.Core.Path.{_≡_};
 ghost use Prim.Native.Nat.{_≤_, _<_};
 ghost use Rattle.basics.specs.Ranges.{sum, every};
 ghost use Rattle.basics.specs.Rows.{best, longer, noLonger, fitter};
-ghost use Rattle.frames.specs.Frames.{noneHeld, sameHeld};
+ghost use Rattle.frames.specs.Frames.{noneHeld, sameHeld, countHeld};
 ghost use Rattle.run_choice.specs.Runs.{longestRun, runFor};
 ghost use Rattle.interface.specs.Numbers.{MostFrames};
 ghost use Rattle.runs.specs.Row.{row, lengthsOf, noRuns, withRunAt, betterBy, orBetter, movedRuns, pushed};
@@ -62,14 +62,15 @@ impl Runs {
         r
     }
 
-    // How many frames are kept.
+    // How many frames are kept; most places have none.
     pub fn kept(self) -> u16
         ensures { λ r. ⌜ r ≡ sum (lengthsOf self) 8 ⌝ }
         ensures small { λ r. ⌜ r ≤ 1024 ⌝ }
     {
         let mut n: u16 = 0;
-        for i in 0..Runs::END {
-            n = n + self.length(i) as u16;
+        for k in 0..Runs::PLACES {
+            let run = self.list[k];
+            n = n + frames_in(run) as u16;
         }
         n
     }
@@ -80,8 +81,7 @@ impl Runs {
         ensures { λ r. ⌜ r ≡ lengthsOf self place ⌝ }
         ensures small { λ r. ⌜ r ≤ MostFrames ⌝ }
     {
-        let run = self.at(place);
-        run.count()
+        frames_in(self.at(place))
     }
 
     // Whether no run is kept. All places are looked at, which takes no branch.
@@ -197,6 +197,18 @@ impl Choice {
         }
         self
     }
+}
+
+// How many frames a run has. One without a frame is not counted through.
+fn frames_in(run: Held) -> u8
+    ensures { λ r. ⌜ r ≡ countHeld run ⌝ }
+    ensures small { λ r. ⌜ r ≤ MostFrames ⌝ }
+{
+    let none = Held::none();
+    if run.same(none) {
+        return 0;
+    }
+    run.count()
 }
 
 // Whether a run of the first length is better than one of the second.

@@ -1,23 +1,27 @@
--- The first loop has the marks of the first i entries, eight more at each turn; the second the others, one by one.
+-- The first loop has the pass over the first i entries, eight more at each turn; the second over the others, one by one.
 use mathlib.Core.Path.{_≡_, sym, ap, _∙_}
-use Prim.Native.Nat.{_+_, _≤_, _-_}
+use Prim.Native.Nat.{ℕ, _+_, _≤_, _-_}
+use mathlib.Core.Bool.{_&&_}
+use lib.Dec.{eqb}
 use native.Mathlib.Omega.{arith}
 use mathlib.Core.Logic.{⊎-elim}
 use borrow.Author.Needs.{needs}
 use borrow.Author.Tests.{not-false}
+use Rattle.marks.specs.declared.Pass.{Pass}
 use Rattle.marks.specs.Marks.{marksTo, from}
-use Rattle.marks.proofs.MarkLaws.{marks-more, marks-none, eight-none}
+use Rattle.marks.specs.Pass.{passTo}
+use Rattle.marks.proofs.PassLaws.{pass-more, pass-none, pass-small, pass-marks, found as foundBy, eight-none}
 use Rattle.marks.proofs.marks_of.Statement.{statement}
 use Rattle.marks.proofs.marks_of.Tie as tie
 
 abbrev Inv-loop : tie.InvT-loop
-Inv-loop table first entries frames found₀ i₀ found i = (i ≤ entries) × (found ≡ marksTo frames (from first table) i)
+Inv-loop table first entries frames found₀ i₀ found i = (i ≤ entries) × (found ≡ passTo frames (from first table) i)
 
 abbrev μ-loop : tie.MeasureT-loop
 μ-loop table first entries frames found₀ i₀ found i = entries - i
 
 abbrev Inv-loop2 : tie.InvT-loop2
-Inv-loop2 table first entries frames found₀ i₀ found i = (i ≤ entries) × (found ≡ marksTo frames (from first table) i)
+Inv-loop2 table first entries frames found₀ i₀ found i = (i ≤ entries) × (found ≡ passTo frames (from first table) i)
 
 abbrev μ-loop2 : tie.MeasureT-loop2
 μ-loop2 table first entries frames found₀ i₀ found i = entries - i
@@ -26,7 +30,7 @@ none-requires : tie.Need-none-requires Inv-loop μ-loop Inv-loop2 μ-loop2
 none-requires c κs = search needs
 
 loop-holds : tie.Need-loop-holds Inv-loop μ-loop Inv-loop2 μ-loop2
-unfolding marksTo
+unfolding passTo
 loop-holds c = (omega arith, rw (c .none .ensures))
 
 sub-loop : tie.Need-sub-loop Inv-loop μ-loop Inv-loop2 μ-loop2
@@ -54,16 +58,16 @@ at-loop c = c .before .before .before
 abbrev start-of-loop : tie.At-loop Inv-loop μ-loop Inv-loop2 μ-loop2 → tie.Start Inv-loop μ-loop Inv-loop2 μ-loop2
 start-of-loop c = c .before .before .before
 
--- the marks behind the eight entries, whether one of them names a frame or none
+-- the pass behind the eight entries, whether one of them names a frame or none
 behind : (c : tie.Joined1 Inv-loop μ-loop Inv-loop2 μ-loop2) →
     let a = start-of-loop (at-loop c) .args in
-    c .if1 .found ≡ marksTo (a .frames) (from (a .first) (a .table .now)) (at-loop c .loop .i + 8)
+    c .if1 .found ≡ passTo (a .frames) (from (a .first) (a .table .now)) (at-loop c .loop .i + 8)
 behind c =
     let a = start-of-loop (at-loop c) .args in
     let l = at-loop c .loop in
     ⊎-elim
     (λ w. w .2 ∙ w .1 .ensures)
-    (λ w. w .1 ∙ l .inv .1 ∙ sym (marks-none (a .frames) (from (a .first) (a .table .now)) (l .i) 8
+    (λ w. w .1 ∙ l .inv .1 ∙ sym (pass-none (a .frames) (from (a .first) (a .table .now)) (l .i) 8
     (λ j d. eight-none (a .table .now) (a .first) (l .i) (sym (c .before .names-none .ensures) ∙ not-false _ (w .0 .left)) j d)))
     (c .if1 .came)
 
@@ -83,7 +87,14 @@ shared-slice-read-add : tie.Need-shared-slice-read-add Inv-loop μ-loop Inv-loop
 shared-slice-read-add c = search needs
 
 add-requires : tie.Need-add-requires Inv-loop μ-loop Inv-loop2 μ-loop2
-add-requires c κs = search needs
+add-requires c κs =
+    let m = c .before .before in
+    let s = start-of-loop (m .before .before) in
+    let a = s .args in
+    let l = m .loop2 in
+    let most = pass-small (a .frames) (from (a .first) (a .table .now)) (l .i) in
+    let same = ap (λ (x : Pass). x .named) (l .inv .1) in
+    (s .pre .1, omega (arith, most, same, c .before .loop2-test .taken, s .pre .0))
 
 add-i-2 : tie.Need-add-i-2 Inv-loop μ-loop Inv-loop2 μ-loop2
 add-i-2 c = search needs
@@ -98,13 +109,28 @@ loop2-again : tie.Need-loop2-again Inv-loop μ-loop Inv-loop2 μ-loop2
 loop2-again c =
     let l = c .before .before .before .loop2 in
     let a = start-of-loop (at-loop2 c .before .before) .args in
-    (search needs, c .add .ensures ∙ marks-more (a .frames) (from (a .first) (a .table .now)) (l .i) (l .found) (l .inv .1))
+    (search needs, c .add .ensures ∙ pass-more (a .frames) (from (a .first) (a .table .now)) (l .i) (l .found) (l .inv .1))
+
+count-requires : tie.Need-count-requires Inv-loop μ-loop Inv-loop2 μ-loop2
+count-requires c κs = search needs
+
+cast-t18 : tie.Need-cast-t18 Inv-loop μ-loop Inv-loop2 μ-loop2
+cast-t18 c = search needs
+
+abbrev at-end : tie.After-struct-known2 Inv-loop μ-loop Inv-loop2 μ-loop2 → tie.After-loop2 Inv-loop μ-loop Inv-loop2 μ-loop2
+at-end c = c .before .before .before .before
 
 returns : tie.Need-returns Inv-loop μ-loop Inv-loop2 μ-loop2
 returns c =
-    let a = start-of-loop (c .before .before .before) .args in
-    let l = c .before .loop2 in
-    l .inv .1 ∙ ap (marksTo (a .frames) (from (a .first) (a .table .now))) (omega (arith, l .inv .0, c .loop2-test .left))
+    let m = c .before .before .before .before .before in
+    let s = start-of-loop (m .before .before) in
+    let a = s .args in
+    let l = m .loop2 in
+    let p : ℕ → ℕ = from (a .first) (a .table .now) in
+    let end : l .i ≡ a .entries = omega (arith, l .inv .0, at-end c .loop2-test .left) in
+    let counted = c .before .before .count .ensures in
+    (λ j. record { good = l .found .inside && eqb (counted j) (l .found .named); held = l .found .held })
+    ∙ ap foundBy (l .inv .1) ∙ pass-marks (a .frames) (s .pre .1) p (l .i) ∙ ap (marksTo (a .frames) p) end
 
 pub marks-of-spec : {M : Type 1} → statement M
 marks-of-spec =
@@ -131,4 +157,6 @@ marks-of-spec =
     add-i-2
     loop2-less
     loop2-again
+    count-requires
+    cast-t18
     returns)

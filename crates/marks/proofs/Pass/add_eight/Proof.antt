@@ -1,15 +1,17 @@
--- The loop has the marks of the first j entries, from i on.
+-- The loop has the pass over the first j entries, from i on.
 use mathlib.Core.Path.{_≡_, refl, ap, _∙_}
 use Prim.Native.Nat.{_+_, _≤_, _-_}
 use native.Mathlib.Omega.{arith}
 use borrow.Author.Needs.{needs}
-use Rattle.marks.specs.Marks.{marksTo, from}
-use Rattle.marks.proofs.MarkLaws.{marks-more}
-use Rattle.marks.proofs.Marks.add_eight.Statement.{statement}
-use Rattle.marks.proofs.Marks.add_eight.Tie as tie
+use Rattle.marks.specs.declared.Pass.{Pass}
+use Rattle.marks.specs.Marks.{from}
+use Rattle.marks.specs.Pass.{passTo}
+use Rattle.marks.proofs.PassLaws.{pass-more, pass-small}
+use Rattle.marks.proofs.Pass.add_eight.Statement.{statement}
+use Rattle.marks.proofs.Pass.add_eight.Tie as tie
 
 abbrev Inv-loop : tie.InvT-loop
-Inv-loop table first i frames found₀ j₀ j-end found j = (i ≤ j) × (j ≤ i + 8) × (j-end ≡ i + 8) × (found ≡ marksTo frames (from first table) j)
+Inv-loop table first i frames found₀ j₀ j-end found j = (i ≤ j) × (j ≤ i + 8) × (j-end ≡ i + 8) × (found ≡ passTo frames (from first table) j)
 
 abbrev μ-loop : tie.MeasureT-loop
 μ-loop table first i frames found₀ j₀ j-end found j = i + 8 - j
@@ -37,7 +39,13 @@ shared-slice-read-add : tie.Need-shared-slice-read-add Inv-loop μ-loop
 shared-slice-read-add c = search needs
 
 add-requires : tie.Need-add-requires Inv-loop μ-loop
-add-requires c κs = search needs
+add-requires c κs =
+    let l = c .before .before .loop in
+    let s = c .before .before .before .before in
+    let a = s .args in
+    let most = pass-small (a .frames) (from (a .first) (a .table .now)) (l .j) in
+    let same = ap (λ (x : Pass). x .named) (l .inv .3) in
+    (s .pre .1 .0, omega (arith, most, same, c .before .loop-test .taken, s .pre .0))
 
 add-j : tie.Need-add-j Inv-loop μ-loop
 add-j c = search needs
@@ -49,14 +57,14 @@ loop-again : tie.Need-loop-again Inv-loop μ-loop
 loop-again c =
     let a = at-start c .args in
     let l = at-loop c .loop in
-    (omega arith, omega arith, refl, c .add .ensures ∙ marks-more (a .frames) (from (a .first) (a .table .now)) (l .j) (l .found) (l .inv .3))
+    (omega arith, omega arith, refl, c .add .ensures ∙ pass-more (a .frames) (from (a .first) (a .table .now)) (l .j) (l .found) (l .inv .3))
 
 returns : tie.Need-returns Inv-loop μ-loop
 returns c =
     let a = c .before .before .before .args in
     let l = c .before .loop in
     let end : l .j ≡ a .i + 8 = omega (arith, l .inv .1, l .inv .2, c .loop-test .left) in
-    l .inv .3 ∙ ap (marksTo (a .frames) (from (a .first) (a .table .now))) end
+    l .inv .3 ∙ ap (passTo (a .frames) (from (a .first) (a .table .now))) end
 
 pub add-eight-spec : {M : Type 1} → statement M
 add-eight-spec =
