@@ -53,13 +53,14 @@ fn free_entries(held: Held, pool: &mut [u8], table: &mut [u16], at: usize, n: u8
     ensures { λ r. ⌜ kept r (now (pool .exit)) (now (table .exit)) ≡ freeTo PageBytes at
         (kept held (now (pool .entry)) (now (table .entry))) n ⌝ }
 {
+    let groups = n / GROUP;
     let mut h = held;
-    let mut i: u8 = 0;
-    while i + GROUP <= n {
+    for k in 0..groups {
+        let i = k * GROUP;
         h = free_group(h, pool, table, at + i as usize);
-        i += GROUP;
     }
-    free_each(h, pool, table, at + i as usize, n - i)
+    let done = groups * GROUP;
+    free_each(h, pool, table, at + done as usize, n - done)
 }
 
 // The pages of eight entries are freed. Where none has a page, nothing is done.

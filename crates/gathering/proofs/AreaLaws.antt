@@ -4,7 +4,6 @@ use mathlib.Core.Path.{_≡_, refl, sym, ap, _∙_}
 use mathlib.Core.Bool.{Bool, true, false}
 use mathlib.Core.List.{List}
 use native.Mathlib.Omega.{arith}
-use native.Mathlib.Numerals.{add-one}
 use native.Mathlib.Decide.{decLt}
 use lib.Dec.{eqb}
 use lib.ListN.{length, getD}
@@ -32,11 +31,6 @@ use Rattle.areas.proofs.WalkLaws.{endOf, Before, before-start, before-gap, befo
 use Rattle.areas.proofs.FewAreas.{area-slot}
 use Rattle.areas.proofs.StartLaws.{starts-first, starts-inside}
 use Rattle.gathering.specs.AreaRun.{withEntry, frontsTo, runOf}
-
-pub fronts-more : (table : List ℕ) (s first i e : ℕ) (run next : Held) → run ≡ frontsTo table s first i → e ≡ getD table (frontOf s (first + i)) 0
-    → next ≡ withEntry e run → next ≡ frontsTo table s first (i + 1)
-unfolding frontsTo
-fronts-more table s first i e run next a b d = d ∙ rw (add-one i) (rw (a, b))
 
 -- the runs with that of one area, by the code's ways out
 module _ (table : List ℕ) (s : ℕ) (a : Area) (r : Runs) (b : Bool) (is : b ≡ isSpared (Mapped (attributesOf a))) where

@@ -16,6 +16,11 @@ use Rattle.areas.specs.Areas.{attributesOf}
 abbrev pub withEntry : ℕ → Held → Held
 withEntry entry run = run when eqb entry 0 else mark run (entry - 1) 1
 
+-- those that n entries from a place on name come to it
+unfoldable pub withEntries : List ℕ → ℕ → Held → ℕ → Held
+withEntries table at run zero = run
+withEntries table at run (suc n) = withEntry (getD table (at + n) 0) (withEntries table at run n)
+
 -- the frames of the fronts of n pages
 unfoldable pub frontsTo : List ℕ → ℕ → ℕ → ℕ → Held
 frontsTo table s first zero = noneHeld

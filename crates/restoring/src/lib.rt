@@ -36,18 +36,19 @@ pub fn restore_pages(
         kept h (now (pool .exit)) table
         ≡ rewindTo PageBytes at (λ i. true) (backingOn image backing) (kept h (now (pool .entry)) table) pages) ⌝ }
 {
-    let mut i: u8 = 0;
-    while i + GROUP <= pages {
+    let groups = pages / GROUP;
+    for k in 0..groups {
+        let i = k * GROUP;
         restore_group(pool, table, image, at + i as usize, advanced(backing, i));
-        i += GROUP;
     }
+    let done = groups * GROUP;
     restore_each(
         pool,
         table,
         image,
-        at + i as usize,
-        pages - i,
-        advanced(backing, i),
+        at + done as usize,
+        pages - done,
+        advanced(backing, done),
     );
 }
 

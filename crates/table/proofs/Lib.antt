@@ -1,6 +1,7 @@
 -- In reading order.
 pub mod FiledLaws
 pub mod StoreLaws
+pub mod GroupLaws
 pub mod FreeLaws
 pub mod MoveLaws
 pub mod RewindLaws

@@ -42,7 +42,8 @@ start-of-turn c = c .before .before .before
 push-area-requires : tie.Need-push-area-requires Inv-loop μ-loop
 push-area-requires c κs =
     let p = start-of-turn (c .before) .pre in
-    (p .0, (end-small _ (p .1 .0) (c .before .before .loop .k), p .1 .1))
+    let k = c .before .before .loop .k in
+    (p .0, (end-small _ (p .1 .0) k, (p .1 .0 .formed .each k (c .before .loop-test .taken) .some, p .1 .1)))
 
 add-k : tie.Need-add-k Inv-loop μ-loop
 add-k c = search needs
