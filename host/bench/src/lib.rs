@@ -1,8 +1,8 @@
 //! The proved machine measured beside unproved ones.
 //!
 //! - `unproved`: the same design in ordinary Rust, with the test of soundness before every call
-//!   and, trusting its state, without; `same_steps`: the same again, with the proved machine's
-//!   steps in the test of soundness and where a page is looked up; `copying`: whole copies;
+//!   and, trusting its state, without; `same_steps`: the same again, with the steps that the
+//!   proved machine had while it tested before every line; `copying`: whole copies;
 //! - `roll`, `states` and `rows`: the calls that are measured, and the states before them;
 //! - `work` and `meter`: what is measured, and instructions and times of it;
 //! - `calls`, `mixed`, `throughput`, `rewind`, `snapshot`, `frames`, `rounds`, `stepwise`,

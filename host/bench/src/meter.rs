@@ -32,6 +32,8 @@ pub struct Counts(Vec<u64>);
 impl Counts {
     /// Counts a table's works: this program is run again under callgrind with `count`
     /// and the table's name, and dumps one profile for each work.
+    /// Its environment has nothing but the path: how a copy goes depends on where the stack lies,
+    /// which is behind the environment, and some instructions would come and go with that.
     pub fn of(table: &str, works: usize) -> io::Result<Counts> {
         if works == 0 {
             return Ok(Counts(Vec::new()));
@@ -39,6 +41,8 @@ impl Counts {
         let folder = env::temp_dir().join(format!("bench-{}-{table}", std::process::id()));
         fs::create_dir_all(&folder)?;
         let status = Command::new("valgrind")
+            .env_clear()
+            .envs(env::var_os("PATH").map(|path| ("PATH", path)))
             .args(["--tool=callgrind", "--quiet"])
             .arg(format!("--toggle-collect={METERED}"))
             .arg(format!("--dump-after={METERED}"))

@@ -17,8 +17,8 @@ pub enum Player {
     /// The unproved machine without its test of soundness.
     Trusting,
     Unproved,
-    /// The unproved machine with the proved one's steps in the test of soundness and
-    /// where a page is looked up.
+    /// The unproved machine with the steps that the proved one had while it tested before
+    /// every line.
     SameSteps,
     /// The trusting machine with a rewind that frees every front.
     Dropping,

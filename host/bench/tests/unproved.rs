@@ -45,7 +45,7 @@ fn the_unproved_machine_answers_as_the_model() {
     answers_as(unproved::play, Fault::None);
 }
 
-/// A roll's state comes from its start, so that no test of it is missed.
+/// A roll's state comes from its start, so that a test of it would find nothing.
 #[test]
 fn the_trusting_machine_answers_the_same() {
     answers_as(unproved::play_trusting, Fault::None);

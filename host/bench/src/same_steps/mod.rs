@@ -1,6 +1,6 @@
-//! The unproved machine once more, from the same files, but for five that go by the
-//! proved machine's steps. They part what a step costs from what the proof or the
-//! compiler costs:
+//! The unproved machine once more, from the same files, but for five that go by the steps
+//! that the proved machine had while it tested before every line. They part what a step
+//! costs from what the proof or the compiler costs:
 //!
 //! - `lookup`: all 8 places are tried for a page, and all 8 lengths are counted;
 //! - `walk` and `soundness`: the test of soundness walks the areas along with the pages, and
