@@ -9,6 +9,7 @@ ghost use Rattle.lines.specs.Lines.{linesOf};
 ghost use Rattle.state.specs.World.{worldOf};
 ghost use Rattle.roll.specs.Known.{Known};
 ghost use Rattle.roll.specs.Play.{Played};
+ghost use Rattle.replying.specs.Playing.{playedBy};
 use lines::Line;
 use lines::lines_of;
 use reader::new;
@@ -52,15 +53,23 @@ pub fn play(
         (worldOf r (now (pool .exit)) (now (table .exit))) ⌝ }
 {
     let machine = player.machine;
+    let sandboxes = machine.sandboxes;
+    let held = machine.held;
     let playing = Playing {
-        machine: machine,
+        sandboxes: sandboxes,
+        held: held,
         sound: player.sound,
         first: player.line,
         answered: 0,
     };
     let size = lines_of(roll.len()) * Line::REPLY;
     let played = play_lines(playing, pool, table, image, roll, &mut out[..size]);
-    played.machine
+    let after = played.sandboxes;
+    let marks = played.held;
+    Machine {
+        sandboxes: after,
+        held: marks,
+    }
 }
 
 // As many lines of the roll as out has room for replies, over which one reader goes line by line.
@@ -73,11 +82,11 @@ fn play_lines(
     out: &mut [u8],
 ) -> Playing
     requires { ⌜ (playing .first + length (now out) / ReplyBytes ≤ PrintedNumbers) × (playing .answered ≡ 0)
-        × Known (playing .sound) (now image) (worldOf (playing .machine) (now pool) (now table)) ⌝ }
-    ensures { λ r. let before = worldOf (playing .machine) (now (pool .entry)) (now (table .entry)) in
+        × Known (playing .sound) (now image) (playedBy playing (now pool) (now table)) ⌝ }
+    ensures { λ r. let before = playedBy playing (now (pool .entry)) (now (table .entry)) in
         let lines = length (now (out .entry)) / ReplyBytes in
         ⌜ Played (now (image .entry)) before (now (roll .entry)) lines (playing .first) (now (out .entry))
-        (now (out .exit)) (worldOf (r .machine) (now (pool .exit)) (now (table .exit))) ⌝ }
+        (now (out .exit)) (playedBy r (now (pool .exit)) (now (table .exit))) ⌝ }
 {
     let lines = out.len() / Line::REPLY;
     let mut state = playing;

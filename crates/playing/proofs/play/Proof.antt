@@ -5,6 +5,7 @@ use native.Mathlib.Omega.{arith}
 use lib.ListN.{length}
 use lib.Seq.{length-take-le}
 use Rattle.state.specs.World.{worldOf}
+use Rattle.replying.specs.Playing.{playedBy}
 use Rattle.playing.proofs.PrefixLaws.{prefix-lines, played-prefix}
 use borrow.Author.Needs.{needs}
 use Rattle.playing.proofs.play.Statement.{statement}
@@ -60,7 +61,7 @@ returns c =
     let lines = counted .lines-of in
     let all = played .play-lines in
     played-prefix (a .out .now) (lines .result) (has-room counted) _ (lines .ensures) (a .image .now) w (a .roll .now) (a .player .line)
-    (all .last .1 .1 .1 .1 .1 .0) (worldOf (all .result .machine) (all .last .1 .0) (all .last .1 .1 .0)) (all .ensures)
+    (all .last .1 .1 .1 .1 .1 .0) (playedBy (all .result) (all .last .1 .0) (all .last .1 .1 .0)) (all .ensures)
 
 pub play-spec : {M : Type 1} → statement M
 play-spec =

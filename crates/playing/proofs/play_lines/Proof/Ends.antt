@@ -31,7 +31,7 @@ use denote.Triple.Entry.{Vals, onEntry}
 use denote.Triple.Spec.{tripleOf}
 use denote.Triple.Statement.{Contract, Triple}
 use denote.Triple.Walked.{says, Stays, stay-none, stay-slice, stay-none-slice, walkOf, ends-at}
-use Rattle.state.specs.World.{worldOf}
+use Rattle.replying.specs.Playing.{playedBy}
 use Rattle.replying.proofs.Playing as G
 use Rattle.replying.proofs.Playing.Laws as G′
 use Rattle.reader.specs.declared.Reader.{Reader}
@@ -97,7 +97,7 @@ module _ (P : Passed) (ok : Fits P) (is : Is G.the-row (P .args .0) (valueOf (P 
         (valueOf (t .state)) (t .state) (tt, (t .pool, (t .table, (tt, (tt, (t .out, tt))))))
         (tt, (t .pool-length, (t .table-length, (tt, (tt, (t .out-length, tt))))))) $
         says ! (subst (λ (m : ℕ). Played (image P .now) (world₀ P) (roll P .now) m (first P) (out₀ P .now)
-        (t .out) (worldOf (t .state .machine) (t .pool) (t .table))) e (t .played)) $
+        (t .out) (playedBy (t .state) (t .pool) (t .table))) e (t .played)) $
         -- the tokens, and then what is had of each parameter, and the result
         keep ! (3 ∷ 5 ∷ 9 ∷ 1 ∷ 7 ∷ 2 ∷ 4 ∷ 8 ∷ 10 ∷ 6 ∷ []) $ nothing ! $
         move ! (5 ∷ 0 ∷ []) $ join ! $ move ! (4 ∷ 0 ∷ []) $ join ! $ move ! (3 ∷ 0 ∷ []) $ join ! $ move ! (2 ∷ 0 ∷ []) $ join ! $ move ! (1 ∷ 0 ∷ []) $

@@ -41,6 +41,7 @@ use Rattle.lines.specs.declared.Line.{Line}
 use Rattle.lines.proofs.Line as S
 use Rattle.state.specs.World.{World, worldOf}
 use Rattle.replying.specs.declared.Playing.{Playing}
+use Rattle.replying.specs.Playing.{playedBy}
 use Rattle.replying.proofs.Playing as G
 use Rattle.replying.proofs.Playing.Laws as G′
 use Rattle.reader.specs.declared.Reader.{Reader}
@@ -127,7 +128,7 @@ module _ (P : Passed) where
 
   -- the world that the first line meets
   abbrev pub world₀ : World
-  world₀ = worldOf (P .args .0 .machine) (pool₀ .now) (table₀ .now)
+  world₀ = playedBy (P .args .0) (pool₀ .now) (table₀ .now)
 
   -- what is known of what is passed
   pub record Fits : Type 0 where
@@ -166,12 +167,12 @@ module _ (P : Passed) where
     pub pool-length : length pool ≡ length (pool₀ .now)
     pub table-length : length table ≡ length (table₀ .now)
     pub out-length : length out ≡ length (out₀ .now)
-    pub played : Played (image .now) world₀ (roll .now) k first (out₀ .now) out (worldOf (state .machine) pool table)
+    pub played : Played (image .now) world₀ (roll .now) k first (out₀ .now) out (playedBy state pool table)
 
   -- whether the state is sound is known before each line, as it is before the first
-  pub known-at : Fits → {k : ℕ} (t : Turn k) → Known (t .state .sound) (image .now) (worldOf (t .state .machine) (t .pool) (t .table))
+  pub known-at : Fits → {k : ℕ} (t : Turn k) → Known (t .state .sound) (image .now) (playedBy (t .state) (t .pool) (t .table))
   known-at ok {k} t =
-      let now′ = worldOf (t .state .machine) (t .pool) (t .table) in
+      let now′ = playedBy (t .state) (t .pool) (t .table) in
       subst (λ s. Known s (image .now) now′) (sym (t .sound-is))
       (known-played (P .args .0 .sound) (image .now) world₀ (roll .now) k first (out₀ .now) (t .out) now′ (ok .known) (t .played))
 

@@ -35,8 +35,8 @@ use denote.Triple.Walked.{says}
 use Rattle.lines.specs.Lines.{lineAt}
 use Rattle.lines.proofs.Line as S
 use Rattle.lines.proofs.Line.Laws as S′
-use Rattle.state.specs.World.{worldOf}
 use Rattle.replying.specs.declared.Playing.{Playing}
+use Rattle.replying.specs.Playing.{playedBy}
 use Rattle.replying.proofs.Playing as G
 use Rattle.replying.proofs.Playing.Laws as G′
 use Rattle.playing.proofs.Again.{at, Owned, Lent, lends, backs}
@@ -109,8 +109,8 @@ module _ (P : Passed) (ok : Fits P) {M₁ : Type 1} (𝓤 : URA M₁) (H : Heap 
     -- the line's reply, under its number and at its place, and a line more is answered
     abbrev Said-at : ℕ → ℕ → Playing → Ends → Type 0
     Said-at number place r zs =
-        ReplySaid (image P .now) (worldOf (t .state .machine) (t .pool) (t .table)) (lineAt (roll P .now) k) number place (t .out) (out-of zs)
-        (worldOf (r .machine) (zs .1 .0) (zs .1 .1 .0))
+        ReplySaid (image P .now) (playedBy (t .state) (t .pool) (t .table)) (lineAt (roll P .now) k) number place (t .out) (out-of zs)
+        (playedBy r (zs .1 .0) (zs .1 .1 .0))
 
     abbrev Said : Playing → Ends → Type 0
     Said r zs =
@@ -167,7 +167,7 @@ module _ (P : Passed) (ok : Fits P) {M₁ : Type 1} (𝓤 : URA M₁) (H : Heap 
           table-length = ls ∙ t .table-length;
           out-length = lo ∙ t .out-length;
           played = played-on (image P .now) (roll P .now) (out₀ P .now) (t .out) (out-of zs) (world₀ P)
-              (worldOf (t .state .machine) (t .pool) (t .table)) (worldOf (r .machine) (zs .1 .0) (zs .1 .1 .0)) k (first P) (t .played) (said-here r zs said);
+              (playedBy (t .state) (t .pool) (t .table)) (playedBy r (zs .1 .0) (zs .1 .1 .0)) k (first P) (t .played) (said-here r zs said);
         }
 
   pub replied : Triple 𝓤 (C #replying·reply) (Reply 𝓤 H A mem run) → ent 𝓤 (⋆ 𝓤 H A (Held P 𝓤 k t))
