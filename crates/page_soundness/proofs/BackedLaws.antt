@@ -24,9 +24,13 @@ use Rattle.areas.specs.Areas.{none, covers, slotOf, slots}
 use Rattle.areas.specs.Walk.{Formed}
 use Rattle.areas.proofs.SlotLaws.{covers-none}
 use Rattle.areas.proofs.WalkLaws.{endOf, between, order}
-use Rattle.page_soundness.specs.Parts.{backingOk, backedAt, reach}
+use Rattle.page_soundness.specs.Parts.{backingOk, reach}
 use Rattle.page_soundness.proofs.RestLaws.{every-over, every-alike}
 use Rattle.page_soundness.proofs.AreaLaws.{area-says}
+
+-- page i of a committed area is in the snapshot, with the same backing
+abbrev pub backedAt : Area → Slots → ℕ → Bool
+backedAt a copy i = isMapped (copy i) && follows (advance (a .backing) (i - a .first .0)) 0 (backingAt (copy i))
 
 -- whether two backings agree is the same at every page that lies in both
 agree-image : (p f q g page : ℕ) → f ≤ page → g ≤ page → eqb (p + g) (q + f) ≡ eqb (p + (page - f) + 0) (q + (page - g))

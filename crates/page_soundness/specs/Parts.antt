@@ -4,7 +4,7 @@ use Prim.Native.Nat.{ℕ, _+_, _-_}
 use lib.Dec.{eqb}
 use Rattle.basics.specs.Choice.{_when_else_, implies}
 use Rattle.interface.specs.declared.page.Slot.{Slot}
-use Rattle.interface.specs.Slots.{Slots, isMapped, isCommitted, backingAt, advance, follows}
+use Rattle.interface.specs.Slots.{isMapped, isCommitted, backingAt, advance, follows}
 use Rattle.areas.specs.declared.area.Area.{Area}
 use Rattle.areas.specs.Areas.{covers}
 
@@ -20,10 +20,6 @@ markOk copy = implies (isMapped copy) (isCommitted copy)
 abbrev pub backingOk : Slot → Slot → Bool
 backingOk slot copy =
     implies (isCommitted slot) (isMapped copy) && implies (isCommitted slot) (follows (backingAt slot) 0 (backingAt copy))
-
--- the same of page i of a committed area
-abbrev pub backedAt : Area → Slots → ℕ → Bool
-backedAt a copy i = isMapped (copy i) && follows (advance (a .backing) (i - a .first .0)) 0 (backingAt (copy i))
 
 -- how far the snapshot has the area's pages from this one on: to the end of an area of it that has the page with the same backing
 abbrev pub reach : Area → Area → ℕ → ℕ

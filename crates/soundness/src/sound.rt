@@ -61,7 +61,9 @@ fn sandboxes_ok(sandboxes: [Sandbox; Machine::SANDBOXES], table: &[u16], images:
         if !sandbox_ok(rec, table, s, images) {
             return false;
         }
-        let runs = b.runs;
+        // Read again, so that the runs are not kept at hand while the record is tested.
+        let again = sandboxes[k];
+        let runs = again.runs;
         if !runs_ok(runs, table, s, rec.opened, rec.share) {
             return false;
         }

@@ -45,13 +45,13 @@ same start s l = getD-any (start .args .t1) s zeroSandbox closedSandbox (omega (
 
 -- the way back from where a fact is needed to where it was learned
 abbrev at-sandbox-ok : tie.After-runs-ok Inv-loop μ-loop → tie.After-sandbox-ok Inv-loop μ-loop
-at-sandbox-ok c = c .before .before .before
+at-sandbox-ok c = c .before .before .before .before
 
 abbrev turn-of-sandbox-ok : tie.After-sandbox-ok Inv-loop μ-loop → tie.In-loop Inv-loop μ-loop
 turn-of-sandbox-ok c = c .before .before .before
 
 abbrev turn-of-runs : tie.After-runs Inv-loop μ-loop → tie.In-loop Inv-loop μ-loop
-turn-of-runs c = turn-of-sandbox-ok (c .before .before)
+turn-of-runs c = turn-of-sandbox-ok (c .before .before .before)
 
 abbrev turn-of-runs-ok : tie.After-runs-ok Inv-loop μ-loop → tie.In-loop Inv-loop μ-loop
 turn-of-runs-ok c = turn-of-runs (c .before)
@@ -79,7 +79,7 @@ here c h pool =
     let s : ℕ = turn-of-runs-ok c .before .loop .s in
     let t = at-sandbox-ok c .sandbox-ok in
     runs-decide (a .images) (kept h pool (a .table .now)) s (getD (a .t1) s zeroSandbox) (getD (a .t1) s closedSandbox)
-    (same start s (turn-of-runs-ok c .loop-test .taken)) (t .result) (told (at-sandbox-ok c) h pool) (not-false _ (c .before .before .if1 .left))
+    (same start s (turn-of-runs-ok c .loop-test .taken)) (t .result) (told (at-sandbox-ok c) h pool) (not-false _ (c .before .before .before .if1 .left))
     (c .runs-ok .result)
     (c .runs-ok .ensures h pool)
 
@@ -112,6 +112,12 @@ returns c = λ h pool.
     (sandbox-stops (a .images) (kept h pool (a .table .now)) (l .s) (getD (a .t1) (l .s) zeroSandbox) (getD (a .t1) (l .s) closedSandbox)
     (same start (l .s) low) (t .result) (told (c .before) h pool) (not-true _ (c .if1 .taken))))
 
+mul-again : tie.Need-mul-again Inv-loop μ-loop
+mul-again c = search needs
+
+array-copy-out-again : tie.Need-array-copy-out-again Inv-loop μ-loop
+array-copy-out-again c = search needs
+
 -- a sandbox that passed has entries within its share
 runs-ok-requires : tie.Need-runs-ok-requires Inv-loop μ-loop
 runs-ok-requires c κs =
@@ -120,7 +126,7 @@ runs-ok-requires c κs =
     let s : ℕ = turn-of-runs c .before .loop .s in
     let b : Sandbox = getD (a .t1) s zeroSandbox in
     let st : Store = kept noneHeld [] (a .table .now) in
-    let passed = passed-true (a .images) st s b (sym (told (c .before .before) noneHeld []) ∙ not-false _ (c .before .if1 .left)) in
+    let passed = passed-true (a .images) st s b (sym (told (c .before .before .before) noneHeld []) ∙ not-false _ (c .before .before .if1 .left)) in
     (turn-of-runs c .loop-test .taken, (start .pre .1, passed-share (a .images) st s b passed))
 
 returns-2 : tie.Need-returns-2 Inv-loop μ-loop
@@ -168,6 +174,8 @@ sandboxes-ok-spec =
     array-copy-out-b
     sandbox-ok-requires
     returns
+    mul-again
+    array-copy-out-again
     runs-ok-requires
     returns-2
     add-s
