@@ -29,7 +29,7 @@ abbrev at : Areas → ℕ → Area
 at s k = getD (s .list) k none
 
 -- the backing of the page at which an area ends follows the area's
-follows-advance : (b : Backing) (n : ℕ) → follows b n (advance b n) ≡ true
+pub follows-advance : (b : Backing) (n : ℕ) → follows b n (advance b n) ≡ true
 unfolding follows
 follows-advance Anonymous n = refl
 follows-advance (Image first) n = eq-eqb (first .0 + n) (first .0 + n) refl

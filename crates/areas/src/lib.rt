@@ -7,7 +7,6 @@ pub mod area;
 pub mod basic;
 mod count;
 mod gap;
-mod walk;
 
 pub use area::Area;
 pub use area::Areas;

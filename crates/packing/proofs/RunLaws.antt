@@ -13,13 +13,14 @@ use Rattle.interface.specs.declared.page.Backing.the-variants.{Anonymous, Image
 use Rattle.interface.specs.declared.page.Attributes.{Attributes}
 use Rattle.interface.specs.declared.page.Slot.{Slot}
 use Rattle.interface.specs.declared.page.Slot.the-variants.{Unmapped}
-use Rattle.interface.specs.Slots.{Slots, advance, follows}
+use Rattle.interface.specs.Slots.{Slots, advance}
 use Rattle.interface.specs.Outcome.{pageOn}
 use Rattle.areas.specs.declared.area.Area.{Area}
 use Rattle.areas.specs.declared.area.Areas.{Areas}
 use Rattle.areas.specs.Areas.{none, attributesOf}
 use Rattle.areas.specs.Formed.{goesOn}
 use Rattle.areas.proofs.SlotLaws.{advance-zero}
+use Rattle.areas.proofs.ToldLaws.{follows-advance}
 use Rattle.packing.specs.declared.pack.Packed.{Packed}
 use Rattle.packing.specs.Pack.{start, single, longer, last, continues, extended, push, packTo}
 use Rattle.packing.specs.Parts.{packOn, Ready, areaFrom, longerBy, extendedBy, placed, pushArea}
@@ -87,11 +88,6 @@ ready-on b f from (suc n) r =
     rw e (ready-push (packOn b f from n) (from + n) (f (from + n)) (ready-on b f from n r))
 
 -- ---- a run of pages that agree
-
-follows-advance : (b : Backing) (n : ℕ) → follows b n (advance b n) ≡ true
-unfolding follows
-follows-advance Anonymous n = refl
-follows-advance (Image first) n = eq-eqb (first .0 + n) (first .0 + n) refl
 
 pub advance-more : (b : Backing) (m n : ℕ) → advance (advance b m) n ≡ advance b (m + n)
 advance-more Anonymous m n = refl

@@ -16,7 +16,7 @@ abbrev Counted : Type 0
 Counted = tie.After-lines-of
 
 abbrev lent : Counted → tie.After-shared-slice-known
-lent c = c .before .before .before .before
+lent c = c .before .before .before .before .before .before
 
 abbrev begun : Counted → tie.Start
 begun c = lent c .before .before .before
