@@ -54,7 +54,7 @@ same-length-3 c = search needs
 
 returns : tie.Need-returns
 returns c =
-    let played = c .before .before .before .before .before .before .before in
+    let played = c .before .before .before .before .before .before .before .before in
     let counted = played .before .before .before .before in
     let a = begun counted .args in
     let w = worldOf (a .player .machine) (a .pool .now) (a .table .now) in
