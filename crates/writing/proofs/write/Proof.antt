@@ -69,7 +69,8 @@ store-byte-requires c κs =
     let touching = touched c in
     let s = behind touching in
     let row = there s in
-    let ranged = touch-ranged (s .args .image .now) (s .args .q) (worldIn s row) (asked s) (s .pre .0) _ _ (small s) (touching .touch .ensures row (s .pre .1 .1)) in
+    let left = touching .touch .ensures row (s .pre .1 .1) in
+    let ranged = touch-ranged (s .args .image .now) (s .args .q) (worldIn s row) (asked s) (s .pre .0) _ _ (small s) left in
     (asked s .row, (small s, ranged))
 
 same-length : tie.Need-same-length
