@@ -4,16 +4,13 @@
 // It stands on `memory` for the definitions and their laws, on `writing`, `rewinding` and `freeing` for the frames, on `reuse` and `gathering` for the
 // runs, on `totals` for what the sandboxes have together, and on `rules` for what a request within its limits is.
 ghost use mathlib.Core.Path.{_≡_};
-ghost use mathlib.Core.List.{List};
 ghost use Prim.Native.Nat.{_<_};
 ghost use lib.ListN.{length};
 ghost use Rattle.interface.specs.Numbers.{PageBytes, Sandboxes, pagesIn};
 ghost use Rattle.interface.specs.Requests.{Map, Write};
 ghost use Rattle.table.specs.Store.{kept, Ranged};
-ghost use Rattle.state.specs.declared.sandbox.Sandbox.{Sandbox as Owner};
-ghost use Rattle.state.specs.World.{World};
 ghost use Rattle.rules.specs.Ready.{Fit, Ready};
-ghost use Rattle.memory.specs.Parts.{AskedOf, LeftBy, StoreStepped};
+ghost use Rattle.memory.specs.Parts.{SomeRow, OfEveryRow, LeftBy, StoreStepped};
 use frames::Held;
 use freeing::store::free_range;
 use gathering::gathered;
@@ -36,12 +33,10 @@ pub fn store_after(
     image: &[u8],
     q: Request,
 ) -> Left
-    requires { ⌜ ((row : List Owner) × AskedOf (now image) q b all (kept (all .held) (now pool) (now table)) row) ⌝ }
-    ensures { λ r. ⌜ ((row : List Owner) →
-        let before = kept (all .held) (now (pool .entry)) (now (table .entry)) in
-        let w : World = record { sandboxes = row; store = before } in
-        AskedOf (now (image .entry)) q b all before row
-        → StoreStepped (now (image .entry)) q w (kept (r .held) (now (pool .exit)) (now (table .exit))) (r .runs)) ⌝ }
+    requires { ⌜ SomeRow (now image) q b all (kept (all .held) (now pool) (now table)) ⌝ }
+    ensures { λ r. ⌜ (let before = kept (all .held) (now (pool .entry)) (now (table .entry)) in
+        let after = kept (r .held) (now (pool .exit)) (now (table .exit)) in
+        OfEveryRow (now (image .entry)) q b all before (λ w. StoreStepped (now (image .entry)) q w after (r .runs))) ⌝ }
 {
     let code = q.code;
     let held = all.held;

@@ -60,6 +60,14 @@ pub record Handed (q : Request) (b : Sandbox) (all : Together) (sandboxes : List
 abbrev pub AskedOf : List ℕ → Request → Sandbox → Together → Store → List Sandbox → Type 0
 AskedOf image q b all st sandboxes = Handed q b all sandboxes × Asked image q (record { sandboxes = sandboxes; store = st })
 
+-- there is such a row
+abbrev pub SomeRow : List ℕ → Request → Sandbox → Together → Store → Type 0
+SomeRow image q b all st = (sandboxes : List Sandbox) × AskedOf image q b all st sandboxes
+
+-- it is so of the world of every such row
+abbrev pub OfEveryRow : List ℕ → Request → Sandbox → Together → Store → (World → Type 0) → Type 0
+OfEveryRow image q b all st So = (sandboxes : List Sandbox) → AskedOf image q b all st sandboxes → So (record { sandboxes = sandboxes; store = st })
+
 -- the frame that a write takes "was unheld, or was given up by this very call"
 abbrev pub Takes : Request → World → ℕ → ℕ → Type 0
 Takes q w frame given = Unheld w frame ⊎ ((givesAt q (ownSandbox q w) (w .store) ≡ true) × (frame ≡ given))

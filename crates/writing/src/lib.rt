@@ -4,12 +4,9 @@
 // It stands on `memory` for the definitions and their laws, on `reuse` for the frame that is taken, on `totals` for the frames that are kept, and on `filling`
 // for what is put into it.
 ghost use mathlib.Core.Path.{_≡_};
-ghost use mathlib.Core.List.{List};
 ghost use Rattle.interface.specs.Requests.{Write};
 ghost use Rattle.table.specs.Store.{kept};
-ghost use Rattle.state.specs.declared.sandbox.Sandbox.{Sandbox as Owner};
-ghost use Rattle.state.specs.World.{World};
-ghost use Rattle.memory.specs.Parts.{AskedOf, StoreStepped, TouchStepped};
+ghost use Rattle.memory.specs.Parts.{SomeRow, OfEveryRow, StoreStepped, TouchStepped};
 use interface::PageNo;
 use interface::Request;
 use pages::Page;
@@ -30,12 +27,10 @@ pub fn write(
     q: Request,
 ) -> Left
     requires { ⌜ q .code ≡ Write ⌝ }
-    requires { ⌜ ((row : List Owner) × AskedOf (now image) q b all (kept (all .held) (now pool) (now table)) row) ⌝ }
-    ensures { λ r. ⌜ ((row : List Owner) →
-        let before = kept (all .held) (now (pool .entry)) (now (table .entry)) in
-        let w : World = record { sandboxes = row; store = before } in
-        AskedOf (now (image .entry)) q b all before row
-        → StoreStepped (now (image .entry)) q w (kept (r .held) (now (pool .exit)) (now (table .exit))) (r .runs)) ⌝ }
+    requires { ⌜ SomeRow (now image) q b all (kept (all .held) (now pool) (now table)) ⌝ }
+    ensures { λ r. ⌜ (let before = kept (all .held) (now (pool .entry)) (now (table .entry)) in
+        let after = kept (r .held) (now (pool .exit)) (now (table .exit)) in
+        OfEveryRow (now (image .entry)) q b all before (λ w. StoreStepped (now (image .entry)) q w after (r .runs))) ⌝ }
 {
     let left = touch(b, all, pool, table, image, q);
     let s = q.sandbox as u8;
@@ -61,12 +56,10 @@ fn touch(
     q: Request,
 ) -> Left
     requires { ⌜ q .code ≡ Write ⌝ }
-    requires { ⌜ ((row : List Owner) × AskedOf (now image) q b all (kept (all .held) (now pool) (now table)) row) ⌝ }
-    ensures { λ r. ⌜ ((row : List Owner) →
-        let before = kept (all .held) (now (pool .entry)) (now (table .entry)) in
-        let w : World = record { sandboxes = row; store = before } in
-        AskedOf (now (image .entry)) q b all before row
-        → TouchStepped (now (image .entry)) q w (kept (r .held) (now (pool .exit)) (now (table .exit))) (r .runs)) ⌝ }
+    requires { ⌜ SomeRow (now image) q b all (kept (all .held) (now pool) (now table)) ⌝ }
+    ensures { λ r. ⌜ (let before = kept (all .held) (now (pool .entry)) (now (table .entry)) in
+        let after = kept (r .held) (now (pool .exit)) (now (table .exit)) in
+        OfEveryRow (now (image .entry)) q b all before (λ w. TouchStepped (now (image .entry)) q w after (r .runs))) ⌝ }
 {
     let s = q.sandbox as u8;
     let number = PageNo((q.p1 / PageNo::BYTES as u16) as u8);
