@@ -1,5 +1,5 @@
--- The three ways of `reply`: a line is refused without a look at a sandbox, it is answered in place, or its sandbox is acted on and put back. Of each the same is
--- said (`Answers`), and so of the place where they meet (`met`).
+-- The three ways of `reply`: a line is refused without a look at a sandbox, it is answered in place, or its sandbox is acted on and put back.
+-- Of each the same is said (`Answers`), and so of the place where they meet (`met`).
 use mathlib.Core.Path.{_≡_, refl, sym, ap, subst, _∙_}
 use mathlib.Core.Logic.{⊎-elim}
 use mathlib.Core.List.{List}
@@ -193,14 +193,18 @@ refused-met c pool table p a e f g h =
     let s = startOf (c .before .before) in
     same-answers s pool table (s .args .pool .now) (s .args .table .now) p (s .args .t1) a (Refused (c .asked .given .0 .0)) e f g h (refused c)
 
-in-place-met : (c : tie.Then1) (pool table : List ℕ) (p : Playing) (a : Answer) → let behind = c .before .before .before in let s = asking (told-at behind) in
+in-place-met : (c : tie.Then1) (pool table : List ℕ) (p : Playing) (a : Answer) →
+    let behind = c .before .before .before in
+    let s = asking (told-at behind) in
     pool ≡ behind .answer .last .1 .0 → table ≡ s .args .table .now → p ≡ s .args .t1 → a ≡ behind .answer .result .answer → Answers s pool table p a
 in-place-met c pool table p a e f g h =
     let behind = c .before .before .before in
     let s = asking (told-at behind) in
     same-answers s pool table (behind .answer .last .1 .0) (s .args .table .now) p (s .args .t1) a (behind .answer .result .answer) e f g h (in-place c)
 
-acted-met : (c : tie.After-marks) (pool table : List ℕ) (p : Playing) (a : Answer) → let did = acted-at c in let told = told-at (left-at (did .before .before .before)) in
+acted-met : (c : tie.After-marks) (pool table : List ℕ) (p : Playing) (a : Answer) →
+    let did = acted-at c in
+    let told = told-at (left-at (did .before .before .before)) in
     let s = asking told in
     pool ≡ did .act .last .1 .1 .0 → table ≡ did .act .last .1 .1 .1 .0 → p ≡ record {
       sandboxes = set (s .args .t1 .sandboxes) (asked told .sandbox) (did .act .result .sandbox);
