@@ -10,7 +10,7 @@ use borrow.Author.Tests.{eqb-false, not-true, not-false}
 use native.Mathlib.Omega.{arith}
 use Rattle.basics.proofs.TestLaws.{length-mapped, never, and-right}
 use Rattle.areas.specs.Areas.{none}
-use Rattle.areas.specs.Formed.{placeOk}
+use Rattle.areas.specs.Formed.{placeOk, wellFormed}
 use Rattle.area_soundness.proofs.PlaceLaws.{misfit, joined, holds, behind, Rest, rest-next, many, fails, passes}
 use Rattle.area_soundness.proofs.well_formed.Statement.{statement}
 use Rattle.area_soundness.proofs.well_formed.Tie as tie
@@ -54,6 +54,18 @@ at-loop2 c = c .before .before .before
 abbrev first-loop : tie.At-loop2 Inv-loop μ-loop Inv-loop2 μ-loop2 → tie.At-loop Inv-loop μ-loop Inv-loop2 μ-loop2
 first-loop c = c .before .before
 
+-- an area that is not in order: so the areas are not well formed
+fails-at : (n : tie.After-is-fitting Inv-loop μ-loop Inv-loop2 μ-loop2) →
+    let a = start-of-loop (at-loop n) .args in
+    false ≡ placeOk (a .images) (a .t1) (at-loop n .loop .k) → (false ≡ wellFormed (a .images) (a .t1)) × (length (a .t1 .list) ≡ 8)
+fails-at n e =
+    let m = at-loop n in
+    let s = start-of-loop m in
+    let l = m .loop in (
+      fails (s .args .images) (s .args .t1) (eight s) (few m) (l .k) (omega (arith, at-turn n .loop-test .taken, few m)) (l .inv .3) false e refl,
+      eight s,
+    )
+
 -- an area that starts where another ends is not the first
 later : (c : tie.Then3 Inv-loop μ-loop Inv-loop2 μ-loop2) → 0 < at-loop (tested c) .loop .k
 later c =
@@ -86,15 +98,10 @@ is-fitting-requires c κs = search needs
 returns-2 : tie.Need-returns-2 Inv-loop μ-loop Inv-loop2 μ-loop2
 returns-2 c =
     let n = c .before in
-    let m = at-loop n in
-    let s = start-of-loop m in
-    let a = s .args in
-    let l = m .loop in
-    let low = at-turn n .loop-test .taken in (
-      fails (a .images) (a .t1) (eight s) (few m) (l .k) (omega (arith, low, few m)) (l .inv .3) false
-          (sym (misfit (a .images) (a .t1) (l .k) (l .end) low (l .inv .1) (l .inv .2) _ (n .is-fitting .ensures) (not-true _ (c .if2 .taken)))) refl,
-      eight s,
-    )
+    let a = start-of-loop (at-loop n) .args in
+    let l = at-loop n .loop in
+    let low = at-turn n .loop-test .taken in
+    fails-at n (sym (misfit (a .images) (a .t1) (l .k) (l .end) low (l .inv .1) (l .inv .2) _ (n .is-fitting .ensures) (not-true _ (c .if2 .taken))))
 
 cast-start : tie.Need-cast-start Inv-loop μ-loop Inv-loop2 μ-loop2
 cast-start c = search needs
@@ -116,15 +123,10 @@ returns-3 c =
     let g = c .before in
     let p = g .before .before in
     let n = tested p in
-    let m = at-loop n in
-    let s = start-of-loop m in
-    let a = s .args in
-    let l = m .loop in
-    let low = at-turn n .loop-test .taken in (
-      fails (a .images) (a .t1) (eight s) (few m) (l .k) (omega (arith, low, few m)) (l .inv .3) false
-          (sym (joined (a .images) (a .t1) (l .k) (l .end) low (l .inv .1) (l .inv .2) (p .if3 .taken) _ (g .goes-on .ensures) (c .if4 .taken))) refl,
-      eight s,
-    )
+    let a = start-of-loop (at-loop n) .args in
+    let l = at-loop n .loop in
+    let low = at-turn n .loop-test .taken in
+    fails-at n (sym (joined (a .images) (a .t1) (l .k) (l .end) low (l .inv .1) (l .inv .2) (p .if3 .taken) _ (g .goes-on .ensures) (c .if4 .taken)))
 
 cast-end : tie.Need-cast-end Inv-loop μ-loop Inv-loop2 μ-loop2
 cast-end c = search needs

@@ -1,5 +1,5 @@
 -- Digits from the first column that is no blank: the loop keeps the number that the columns so far say, which is 0 before the first digit alone.
-use Prim.Native.Nat.{_≤_, _<_, _+_, _-_, _*_, _^_}
+use Prim.Native.Nat.{ℕ, _≤_, _<_, _+_, _-_, _*_, _^_}
 use mathlib.Core.Path.{_≡_, refl}
 use native.Mathlib.Omega.{arith}
 use native.Mathlib.Numerals.{add-one}
@@ -17,6 +17,14 @@ Inv-loop part first n₀ i₀ n i =
 
 abbrev μ-loop : tie.MeasureT-loop
 μ-loop part first n₀ i₀ n i = 5 - i
+
+-- the start, seen from a turn of the loop
+abbrev behind : tie.At-loop Inv-loop μ-loop → tie.Start Inv-loop μ-loop
+behind turn = turn .before .before .before .before
+
+-- the byte that a turn looks at
+abbrev column : tie.At-loop Inv-loop μ-loop → ℕ
+column turn = getD (behind turn .args .part .now) (turn .loop .i) 0
 
 shared-slice-read-if1 : tie.Need-shared-slice-read-if1 Inv-loop μ-loop
 shared-slice-read-if1 c = search needs
@@ -40,18 +48,12 @@ digit-of-requires c κs = search needs
 returns-2 : tie.Need-returns-2 Inv-loop μ-loop
 returns-2 c =
     let turn = c .before .before .before .before in
-    let seen = turn .before in
-    let start = seen .before .before .before in
-    let part = start .args .part .now in
-    let first = start .args .first in
-    let i = turn .loop .i in
-    let n = turn .loop .n in
-    let inv = turn .loop .inv in
-    let no-blank = start .pre .1 .1 in
-    let no-zero = seen .if1 .left in
+    let s = behind turn in
+    let l = turn .loop in
     let digit = c .before .digit-of in
-    let missing = digit-missing n (getD part i 0) (digit .result) (digit .ensures) (search needs) (c .if2 .taken) in
-    next-bad part first i n (inv .2) (inv .3) no-blank no-zero 65536 missing (c .before .before .before .loop-test .taken) (omega arith)
+    let missing = digit-missing (l .n) (column turn) (digit .result) (digit .ensures) (search needs) (c .if2 .taken) in
+    next-bad (s .args .part .now) (s .args .first) (l .i) (l .n) (l .inv .2) (l .inv .3) (s .pre .1 .1) (turn .before .if1 .left) 65536 missing
+    (c .before .before .before .loop-test .taken) (omega arith)
 
 mul-n : tie.Need-mul-n Inv-loop μ-loop
 mul-n c = search needs
@@ -68,22 +70,17 @@ loop-less c = search needs
 loop-again : tie.Need-loop-again Inv-loop μ-loop
 loop-again c =
     let turn = c .before .before .before .before in
-    let seen = turn .before in
-    let start = seen .before .before .before in
-    let part = start .args .part .now in
-    let first = start .args .first in
-    let i = turn .loop .i in
-    let n = turn .loop .n in
-    let inv = turn .loop .inv in
-    let no-blank = start .pre .1 .1 in
-    let no-zero = seen .if1 .left in
+    let s = behind turn in
+    let l = turn .loop in
     let digit = c .before .digit-of in
-    let read = digit-read n (getD part i 0) (digit .result) (digit .ensures) (search needs) (c .if2 .left) in
-    let more = digits-more i n (digit .result) (omega arith) (inv .4) (c .if2 .left) in
-    let few = digits-few (i + 1) (n * 10 + digit .result) (omega arith) more in
-    let said = next-said part first i n (inv .2) (inv .3) no-blank no-zero (n * 10 + digit .result) read (omega arith) in
-    let begun = next-begun part first i n (inv .2) (inv .3) no-blank no-zero (n * 10 + digit .result) read in
-    (search needs, few, rw (add-one i) said, λ z. absurd (begun z), more, search needs)
+    let m = l .n * 10 + digit .result in
+    let read = digit-read (l .n) (column turn) (digit .result) (digit .ensures) (search needs) (c .if2 .left) in
+    let more = digits-more (l .i) (l .n) (digit .result) (omega arith) (l .inv .4) (c .if2 .left) in
+    let few = digits-few (l .i + 1) m (omega arith) more in
+    let said = next-said (s .args .part .now) (s .args .first) (l .i) (l .n) (l .inv .2) (l .inv .3) (s .pre .1 .1) (turn .before .if1 .left) m read
+        (omega arith) in
+    let begun = next-begun (s .args .part .now) (s .args .first) (l .i) (l .n) (l .inv .2) (l .inv .3) (s .pre .1 .1) (turn .before .if1 .left) m read in
+    (search needs, few, rw (add-one (l .i)) said, λ z. absurd (begun z), more, search needs)
 
 shared-slice-read-with-digit : tie.Need-shared-slice-read-with-digit Inv-loop μ-loop
 shared-slice-read-with-digit c = search needs

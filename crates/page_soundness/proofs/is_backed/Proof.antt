@@ -60,7 +60,7 @@ loop-again c =
     let low = c .before .before .loop-test .taken in (
       omega (arith, low),
       subst⁻¹ (Come (a .t2) (a .area) (l .k + 1)) (c .reached .ensures)
-          (come-next (a .t2) (s .pre) (a .area) (l .k) (l .page) low (l .inv .1)),
+          (come-next (a .t2) (a .area) (s .pre) (l .k) (l .page) low (l .inv .1)),
     )
 
 cast-result : tie.Need-cast-result Inv-loop μ-loop
@@ -82,7 +82,7 @@ returns-2 c =
     let a = s .args in
     let l = m .loop in
     let end : l .k ≡ a .t2 .count = omega (arith, l .inv .0, c .before .before .loop-test .left) in
-    come-all (a .t2) (s .pre) (a .area) (l .page) (subst (λ (k : ℕ). Come (a .t2) (a .area) k (l .page)) end (l .inv .1))
+    come-all (a .t2) (a .area) (s .pre) (l .page) (subst (λ (k : ℕ). Come (a .t2) (a .area) k (l .page)) end (l .inv .1))
     ∙ committed-is (a .area) (slots (a .t2)) (not-false _ (else1-of-loop m .if1 .left))
 
 pub is-backed-spec : {M : Type 1} → statement M
