@@ -9,7 +9,7 @@ use lib.ListN.{length}
 use Rattle.interface.specs.declared.request.Request.{Request}
 use Rattle.interface.specs.Requests.{_is_, Map, Write, pageOf}
 use Rattle.interface.specs.Outcome.{firstOf}
-use Rattle.interface.specs.Numbers.{pagesIn}
+use Rattle.interface.specs.Numbers.{Sandboxes, PageCount, PageBytes, MostFrames, SandboxEntries, pagesIn}
 use Rattle.frames.specs.Frames.{held}
 use Rattle.marks.specs.Named.{usedBelow}
 use Rattle.marks.specs.Marks.{from}
@@ -36,17 +36,18 @@ ownFront q st = entry st (frontOf (q .sandbox) (pageOf q))
 -- what a part of an accepted call asks: a request within its limits for one of the four sandboxes, well formed areas, a store whose marks are those of its
 -- entries, and kept frames that are zero, each of one run and of no entry
 pub record Asked (image : List ℕ) (q : Request) (w : World) : Type 0 where
-  pub row : q .sandbox < 4
+  pub row : q .sandbox < Sandboxes
   pub fit : Fit q
   pub ready : Ready (pagesIn (length image)) (ownSandbox q w .rec)
-  pub filed : Filed 256 (framesOf w) (w .store)
-  pub spare : Spare 256 (framesOf w) (w .store) (rowsOf w)
+  pub filed : Filed PageBytes (framesOf w) (w .store)
+  pub spare : Spare PageBytes (framesOf w) (w .store) (rowsOf w)
   -- the marks of all runs together, as a pass over them finds them
-  pub found : (f : ℕ) → f < 128 → held (keptTo (rowsOf w) 4 .held) f ≡ keptAt (rowsOf w) f
+  pub found : (f : ℕ) → f < MostFrames → held (keptTo (rowsOf w) Sandboxes .held) f ≡ keptAt (rowsOf w) f
   -- a map lies within the 64 pages
-  pub mapped : q .code ≡ Map → firstOf (slots (ownSandbox q w .rec .present)) q + q .p2 ≤ 64
+  pub mapped : q .code ≡ Map → firstOf (slots (ownSandbox q w .rec .present)) q + q .p2 ≤ PageCount
   -- a written page is mapped: without a front of its own, fronts and backs leave room for one more within the share,
-  pub fits : q .code ≡ Write → ownFront q (w .store) ≡ 0 → usedBelow (from (q .sandbox * 128) (w .store .table)) 128 < ownSandbox q w .rec .share
+  pub fits : q .code ≡ Write → ownFront q (w .store) ≡ 0
+      → usedBelow (from (q .sandbox * SandboxEntries) (w .store .table)) SandboxEntries < ownSandbox q w .rec .share
   -- and where kept frames leave room too, a frame is not held
   pub room : q .code ≡ Write → ownFront q (w .store) ≡ 0 → holdsIn (w .store) (q .sandbox) (ownSandbox q w) < ownSandbox q w .rec .share
       → (f : ℕ) × Unheld w f
@@ -54,7 +55,7 @@ pub record Asked (image : List ℕ) (q : Request) (w : World) : Type 0 where
 -- What is handed over of a row of sandboxes to a call on one of them: the sandbox that the request names, and for a write the marks of all kept frames.
 pub record Handed (q : Request) (b : Sandbox) (all : Together) (sandboxes : List Sandbox) : Type 0 where
   pub own : b ≡ sandboxIn sandboxes (q .sandbox)
-  pub kept : q .code ≡ Write → all .kept ≡ keptTo (λ s. row (sandboxIn sandboxes s .runs)) 4 .held
+  pub kept : q .code ≡ Write → all .kept ≡ keptTo (λ s. row (sandboxIn sandboxes s .runs)) Sandboxes .held
 
 -- a row of sandboxes of which this is handed over, and which over this store is as the parts of an accepted call ask
 abbrev pub AskedOf : List ℕ → Request → Sandbox → Together → Store → List Sandbox → Type 0

@@ -9,6 +9,7 @@ use Rattle.interface.specs.declared.page.Attributes.{Attributes}
 use Rattle.interface.specs.declared.page.Slot.{Slot}
 use Rattle.interface.specs.declared.page.Slot.the-variants.{Unmapped, Mapped}
 use Rattle.interface.specs.Slots.{Slots, advance}
+use Rattle.interface.specs.Numbers.{MostAreas}
 use Rattle.areas.specs.declared.area.Area.{Area}
 use Rattle.areas.specs.declared.area.Areas.{Areas}
 use Rattle.areas.specs.Areas.{attributesOf}
@@ -24,8 +25,8 @@ packOn b f from (suc n) = push (packOn b f from n) (from + n) (f (from + n))
 
 -- what is packed ends at this page or before
 pub record Ready (b : Packed) (page : ℕ) : Type 0 where
-  pub eight : length (b .areas .list) ≡ 8
-  pub few : b .areas .count ≤ 8
+  pub eight : length (b .areas .list) ≡ MostAreas
+  pub few : b .areas .count ≤ MostAreas
   pub end : 0 < b .areas .count → last (b .areas) .first .0 + last (b .areas) .pages ≤ page
 
 -- ---- an area pushed
@@ -46,12 +47,13 @@ extendedBy s n = record { count = s .count; list = set (s .list) (s .count - 1) 
 abbrev pub placed : Areas → Area → Areas
 placed s a = record { count = s .count + 1; list = set (s .list) (s .count) a }
 
--- an area more: one of no pages changes nothing; it goes on where the last area ends, or is put behind it, or finds no place
+-- an area more. "Areas are the longest runs of neighbouring pages that agree in rights, mark and backing (image pages running on). A sandbox has at most 8": it
+-- goes on where the last area ends and they agree, or is put behind it, or finds no place; one of no pages changes nothing.
 unfoldable pub pushArea : Packed → Area → Packed
 pushArea b a =
     b when eqb (a .pages) 0 else
     record { areas = extendedBy (b .areas) (a .pages); fits = b .fits } when continues (b .areas) (a .first .0) (attributesOf a) else
-    record { areas = placed (b .areas) a; fits = b .fits } when ltb (b .areas .count) 8 else
+    record { areas = placed (b .areas) a; fits = b .fits } when ltb (b .areas .count) MostAreas else
     record { areas = b .areas; fits = false }
 
 -- ---- a part of an area

@@ -10,7 +10,8 @@ use Rattle.lines.specs.declared.Line.the-variants.{Call as LineCall, Malformed 
 use Rattle.replying.specs.declared.Asked.{Asked}
 use Rattle.replying.specs.declared.Asked.the-variants.{Refused, Call}
 
--- rows 1 to 3, and row 4 of a sandbox past the four; else the call
+-- "When several apply, the lowest number is answered", of those that need no look at a sandbox: 1, "line malformed (player only)"; 2, a code of no call;
+-- 3, "lent length wrong, or state unsound"; 4, "sandbox above 3". Else the call is to be decided.
 unfoldable pub askedBy : Bool → Line → Asked
 askedBy sound LineMalformed = Refused Malformed
 askedBy sound (LineCall q) =

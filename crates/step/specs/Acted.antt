@@ -1,4 +1,4 @@
--- A call on one sandbox of a row of four: what is handed over of the others, and what the call leaves.
+-- A call on one sandbox of a row of four: what is handed over of the others, and what the call leaves. The words of the code's contracts: no claim cites them.
 use mathlib.Core.Path.{_≡_}
 use mathlib.Core.Bool.{true}
 use mathlib.Core.List.{List}
