@@ -34,9 +34,9 @@ use Rattle.memory.proofs.ValueLaws.{read-value, no-value}
 use Rattle.step.specs.Step.{Stepped, numberAt, viewAt}
 use Rattle.step.proofs.CallLaws.{number-rest, stepped, performed, ready, asked}
 use Rattle.step.proofs.StayLaws.{sandboxes-same}
-use Rattle.in_place.specs.Decided.{pageAt, ownEntry, Stored}
+use Rattle.byte_at.specs.Stored.{pageAt, ownEntry, Stored}
 use Rattle.in_place.specs.InPlace.{withPool, Around, Tried}
-use Rattle.in_place.proofs.QuietLaws.{Quiet}
+use Rattle.few_rows.proofs.RowLaws.{Few}
 
 module _ {image : List ℕ} {q : Request} {b : Sandbox} {pool table : List ℕ} {w : World} (A : Around image q b pool table w) where
   -- ---- what the parts ask
@@ -75,7 +75,7 @@ module _ {image : List ℕ} {q : Request} {b : Sandbox} {pool table : List ℕ} 
 
   -- ---- an accepted call that leaves every sandbox
 
-  module _ (C : Quiet q) (n : numberAt image w q ≡ 0) where
+  module _ (C : Few q) (still : (q is Rewind) ≡ false) (n : numberAt image w q ≡ 0) where
     abbrev own : Sandbox
     own = sandboxAt w (q .sandbox)
 
@@ -86,7 +86,7 @@ module _ {image : List ℕ} {q : Request} {b : Sandbox} {pool table : List ℕ} 
     row-left : w .sandboxes ≡ set (w .sandboxes) (q .sandbox) (record { rec = recordAfter q (own .rec); runs = own .runs })
     row-left =
         let unpacked : changes q ≡ false = rw (C .notMap, C .notUnmap, C .notProtect, C .notSnapshot) in
-        sym (sandboxes-same q (C .notOpen) unpacked (C .notSnapshot) (C .notRewind) w (q .sandbox) opened-here)
+        sym (sandboxes-same q (C .notOpen) unpacked (C .notSnapshot) still w (q .sandbox) opened-here)
 
     -- a value, and nothing changes
     pub looked : (q is Write) ≡ false → (value : ℕ) → ((h : Held) → value ≡ valueAt image q b (kept h pool table))
@@ -96,7 +96,7 @@ module _ {image : List ℕ} {q : Request} {b : Sandbox} {pool table : List ℕ} 
         (performed image w q value (w .sandboxes) (w .store) (own .runs)
         (stepped-none image q w (w .store) (own .runs) x
         (left-alone image q own (w .store) (eqb-false (q .code) Map (C .notMap)) (eqb-false (q .code) Unmap (C .notUnmap)) (eqb-false (q .code) Write x)
-        (eqb-false (q .code) Snapshot (C .notSnapshot)) (eqb-false (q .code) Rewind (C .notRewind))))
+        (eqb-false (q .code) Snapshot (C .notSnapshot)) (eqb-false (q .code) Rewind still)))
         (v (w .store .marks) ∙ ap (valueAt image q b) lent-store ∙ ap (λ (c : Sandbox). valueAt image q c (w .store)) (sym (A .own)))
         row-left)
 

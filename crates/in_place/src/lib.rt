@@ -2,26 +2,23 @@
 // front: of these only a byte of the pool changes. One sandbox is looked at, and the page of a read or a write is looked up once.
 // It promises: what `answer` answers is the outcome of `step` (step/specs/Step) in any sound world with this sandbox, pool and table; where it says that it
 // did not answer, nothing has changed. Which calls it answers is no part of the promise: whoever calls it performs those that it leaves.
-// It stands on `rows`, `limits` and `decision` for what is refused, on `values`, `reading` and `filling` for what is read, counted, compared and stored, and on
-// `step` for what a call is.
+// It stands on `few_rows` for what is refused, on `byte_at` and `values` for what is read, stored, counted and compared, and on `step` for what a call is.
 ghost use mathlib.Core.Path.{_≡_};
 ghost use mathlib.Core.Bool.{true, _||_};
 ghost use Prim.Native.Nat.{_<_};
 ghost use Rattle.interface.specs.Numbers.{Sandboxes};
 ghost use Rattle.interface.specs.Requests.{_is_, Read, Write, isCall};
 ghost use Rattle.in_place.specs.InPlace.{Stands, Answers};
-use crate::access::Access;
-use crate::access::decide;
-use crate::byte::read;
-use crate::byte::store;
 use crate::look::look;
+use byte_at::read;
+use byte_at::store;
+use few_rows::Access;
+use few_rows::access::decide;
 use interface::Answer;
 use interface::PageNo;
 use interface::Request;
 use state::sandbox::Sandbox;
 
-pub mod access;
-mod byte;
 mod look;
 
 // Whether the call was answered, and the answer; where it was not, the answer says nothing.

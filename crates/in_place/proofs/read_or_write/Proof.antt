@@ -17,11 +17,11 @@ use Rattle.state.specs.World.{World}
 use Rattle.rules.specs.Ready.{Fit}
 use Rattle.step.specs.Step.{numberAt}
 use Rattle.step.proofs.CallLaws.{stepped-refused, asked}
-use Rattle.in_place.specs.declared.access.Access.{Access}
-use Rattle.in_place.specs.declared.access.Access.the-variants.{Page}
-use Rattle.in_place.specs.Decided.{Decides}
+use Rattle.few_rows.specs.declared.access.Access.{Access}
+use Rattle.few_rows.specs.declared.access.Access.the-variants.{Page}
+use Rattle.few_rows.specs.Decided.{Decides}
 use Rattle.in_place.specs.InPlace.{Around}
-use Rattle.in_place.proofs.QuietLaws.{quiet-access}
+use Rattle.few_rows.proofs.RowLaws.{few-access, access-stays}
 use Rattle.in_place.proofs.WayLaws.{state, ready-here, ranged-here, number-here, tried-same, looked, tried-store, placed-here, read-here}
 use borrow.Author.Needs.{needs}
 use Rattle.in_place.proofs.read_or_write.Statement.{statement}
@@ -124,7 +124,7 @@ returns c w A =
     let q = s .args .q in
     let e = c .before .before .if1 .taken in
     tried-same A (Value (c .read .result))
-    (looked A (quiet-access q (s .pre .0)) (number found w A) (rw e) (c .read .result)
+    (looked A (few-access q (s .pre .0)) (access-stays q (s .pre .0)) (number found w A) (rw e) (c .read .result)
     (read-here A (s .pre .1 .0) (slotAt found) (slot-is found) e (c .read .result) (c .read .ensures)))
 
 store-requires : tie.Need-store-requires
@@ -149,7 +149,9 @@ returns-3 c w A =
     let stored = c .before .before in
     let found = storing (stored .before) in
     let s = paged found in
-    tried-store A (quiet-access (s .args .q) (s .pre .0)) (number found w A) (writes (stored .before)) (stored .store .result) _ (stored .store .ensures)
+    let q = s .args .q in
+    tried-store A (few-access q (s .pre .0)) (access-stays q (s .pre .0)) (number found w A) (writes (stored .before)) (stored .store .result) _
+    (stored .store .ensures)
 
 pub read-or-write-spec : {M : Type 1} → statement M
 read-or-write-spec =

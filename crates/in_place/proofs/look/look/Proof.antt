@@ -7,7 +7,7 @@ use Rattle.decision.specs.Decision.{verdictNumber}
 use Rattle.step.specs.Step.{numberAt}
 use Rattle.step.proofs.CallLaws.{stepped-refused, asked}
 use Rattle.in_place.specs.InPlace.{Around}
-use Rattle.in_place.proofs.QuietLaws.{quiet-look, no-write}
+use Rattle.few_rows.proofs.RowLaws.{few-unpaged, look-unpaged, look-stays, no-write}
 use Rattle.in_place.proofs.WayLaws.{state, ready-here, ranged-here, few-frames, number-here, looked}
 use borrow.Author.Needs.{needs}
 use Rattle.in_place.proofs.look.look.Statement.{statement}
@@ -41,7 +41,7 @@ cast-images : tie.Need-cast-images
 cast-images c = omega (arith, state (start c .pre .1 .1 .1) .images)
 
 decide-requires : tie.Need-decide-requires
-decide-requires c κs = let p = start c .pre in (p .0, (p .1 .0, ready-here (p .1 .1 .1) (p .1 .0)))
+decide-requires c κs = let p = start c .pre in (look-unpaged (start c .args .q) (p .0), (p .1 .0, ready-here (p .1 .1 .1) (p .1 .0)))
 
 enum-known-verdict : tie.Need-enum-known-verdict
 enum-known-verdict c = search needs
@@ -72,7 +72,9 @@ returns-2 c w A =
     let deciding = arm .before .before in
     let s = decided deciding in
     let q = s .args .q in
-    looked A (quiet-look q (s .pre .0)) (accepted deciding w A (arm .enum-told .given .1)) (no-write q (s .pre .0)) (c .value-of .result) (c .value-of .ensures)
+    let unpaged = look-unpaged q (s .pre .0) in
+    looked A (few-unpaged q unpaged) (look-stays q (s .pre .0)) (accepted deciding w A (arm .enum-told .given .1)) (no-write q unpaged) (c .value-of .result)
+    (c .value-of .ensures)
 
 pub look-spec : {M : Type 1} → statement M
 look-spec =

@@ -9,18 +9,18 @@ use Rattle.interface.specs.Settled.{Settled}
 use Rattle.records.specs.Record.{viewFrom}
 use Rattle.records.proofs.SettledLaws.{settled-of}
 use Rattle.decision.proofs.DecideLaws.{Behind, sound-call, limits-row}
-use Rattle.in_place.proofs.QuietLaws.{Quiet, quiet-look, number-of, past4, past6, look-accepts}
+use Rattle.few_rows.proofs.RowLaws.{Few, few-unpaged, number-of, past4, past6, unpaged-accepts}
 use borrow.Author.Needs.{needs}
-use Rattle.in_place.proofs.look.decide.Statement.{statement}
-use Rattle.in_place.proofs.look.decide.Tie as tie
+use Rattle.few_rows.proofs.unpaged.decide.Statement.{statement}
+use Rattle.few_rows.proofs.unpaged.decide.Tie as tie
 
 -- ---- what is handed in
 
 abbrev request : tie.Start → Request
 request s = s .args .q
 
-quiet : (s : tie.Start) → Quiet (request s)
-quiet s = quiet-look (request s) (s .pre .0)
+few : (s : tie.Start) → Few (request s)
+few s = few-unpaged (request s) (s .pre .0)
 
 abbrev at6 : tie.After-within-limits → tie.Start
 at6 c = c .before .before .before
@@ -42,13 +42,13 @@ module _ (frames shares : ℕ) where
   row-4 c = c .not-open .ensures (view (c .before)) refl
 
   past-4 : (c : tie.Else1) → let s = c .before .before in Behind (view s) (request s) OutsideLimits
-  past-4 c = let s = c .before .before in past4 (view s) (request s) (quiet s) refl (sym (row-4 (c .before)) ∙ c .if1 .left)
+  past-4 c = let s = c .before .before in past4 (view s) (request s) (few s) refl (sym (row-4 (c .before)) ∙ c .if1 .left)
 
   row-6 : (c : tie.After-within-limits) → not (c .within-limits .result) ≡ applies (view (at6 c)) (request (at6 c)) OutsideLimits
   row-6 c = ap not (c .within-limits .ensures) ∙ limits-row (view (at6 c)) (request (at6 c))
 
   past-6 : (c : tie.Else2) → let s = at6 (c .before) in Behind (view s) (request s) NoSnapshot
-  past-6 c = let s = at6 (c .before) in past6 (view s) (request s) (quiet s) (sym (row-6 (c .before)) ∙ c .if2 .left) (past-4 (c .before .before))
+  past-6 c = let s = at6 (c .before) in past6 (view s) (request s) (few s) (sym (row-6 (c .before)) ∙ c .if2 .left) (past-4 (c .before .before))
 
   row-8 : (c : tie.After-no-snapshot) → c .no-snapshot .result ≡ applies (view (at8 c)) (request (at8 c)) NoSnapshot
   row-8 c = c .no-snapshot .ensures (view (at8 c)) refl
@@ -61,7 +61,7 @@ not-open-requires c κs = search needs
 returns : tie.Need-returns
 returns c frames shares =
     let s = c .before .before in
-    number-of (view frames shares s) (request s) NotOpen (sound-call (view frames shares s) (request s) refl (quiet s .call))
+    number-of (view frames shares s) (request s) NotOpen (sound-call (view frames shares s) (request s) refl (few s .call))
     (sym (row-4 frames shares (c .before)) ∙ c .if1 .taken)
 
 within-limits-requires : tie.Need-within-limits-requires
@@ -85,7 +85,7 @@ returns-3 c frames shares =
 returns-4 : tie.Need-returns-4
 returns-4 c frames shares =
     let s = at8 (c .before) in
-    sym (look-accepts (view frames shares s) (request s) (s .pre .0) (settled frames shares s)
+    sym (unpaged-accepts (view frames shares s) (request s) (s .pre .0) (settled frames shares s)
     (sym (row-8 frames shares (c .before)) ∙ c .if3 .left, past-6 frames shares (c .before .before)))
 
 pub decide-spec : {M : Type 1} → statement M

@@ -1,4 +1,4 @@
--- What is decided of a read or a write with one look-up of its page, and what storing its byte leaves.
+-- The page of an address, and what storing its byte leaves.
 use mathlib.Core.Path.{_≡_}
 use mathlib.Core.Bool.{Bool, true, false}
 use mathlib.Core.List.{List}
@@ -6,20 +6,11 @@ use Prim.Native.Nat.{ℕ}
 use lib.ListN.{getD}
 use Rattle.interface.specs.declared.page.Slot.{Slot}
 use Rattle.interface.specs.declared.request.Request.{Request}
-use Rattle.interface.specs.Answers.{refusalNumber}
 use Rattle.interface.specs.Numbers.{PageBytes}
 use Rattle.interface.specs.Requests.{pageOf, offsetOf}
-use Rattle.interface.specs.Refusals.{View, refusal}
 use Rattle.frames.specs.declared.Held.{Held}
 use Rattle.table.specs.declared.page.VirtualPage.{VirtualPage}
 use Rattle.table.specs.Store.{kept, frontOf, storeByte}
-use Rattle.in_place.specs.declared.access.Access.{Access}
-use Rattle.in_place.specs.declared.access.Access.the-variants.{Refused, Page}
-
--- refused with the number of the one table of refusals, or accepted with what stands at the page
-abbrev pub Decides : View → Request → Access → Type 0
-Decides v q (Refused why) = refusalNumber why ≡ refusal v q
-Decides v q (Page slot) = (refusal v q ≡ 0) × (slot ≡ v .slots (pageOf q))
 
 -- the page of an address, with what stands there
 abbrev pub pageAt : Request → Slot → VirtualPage

@@ -17,10 +17,10 @@ use Rattle.records.proofs.SettledLaws.{settled-of}
 use Rattle.rules.specs.Ready.{Ready}
 use Rattle.rules.proofs.FitLaws.{named-address, page-small}
 use Rattle.decision.proofs.DecideLaws.{Behind, sound-call, limits-row, fit-of}
-use Rattle.in_place.proofs.QuietLaws.{Quiet, quiet-access, number-of, past4, past6, past8, past9, row9, accepts}
+use Rattle.few_rows.proofs.RowLaws.{Few, few-access, number-of, past4, past6, past8, past9, row9, access-accepts}
 use borrow.Author.Needs.{needs}
-use Rattle.in_place.proofs.access.decide.Statement.{statement}
-use Rattle.in_place.proofs.access.decide.Tie as tie
+use Rattle.few_rows.proofs.access.decide.Statement.{statement}
+use Rattle.few_rows.proofs.access.decide.Tie as tie
 
 -- ---- what is handed in
 
@@ -30,8 +30,8 @@ request s = s .args .q
 ready : (s : tie.Start) → Ready (s .args .images) (s .args .b)
 ready s = s .pre .1 .1
 
-quiet : (s : tie.Start) → Quiet (request s)
-quiet s = quiet-access (request s) (s .pre .0)
+few : (s : tie.Start) → Few (request s)
+few s = few-access (request s) (s .pre .0)
 
 abbrev at6 : tie.After-within-limits → tie.Start
 at6 c = c .before .before .before
@@ -54,7 +54,7 @@ module _ (frames shares : ℕ) where
   row-4 c = c .not-open .ensures (view (c .before)) refl
 
   past-4 : (c : tie.Else1) → Past OutsideLimits (c .before .before)
-  past-4 c = let s = c .before .before in past4 (view s) (request s) (quiet s) refl (sym (row-4 (c .before)) ∙ c .if1 .left)
+  past-4 c = let s = c .before .before in past4 (view s) (request s) (few s) refl (sym (row-4 (c .before)) ∙ c .if1 .left)
 
   row-6 : (c : tie.After-within-limits) → not (c .within-limits .result) ≡ applies (view (at6 c)) (request (at6 c)) OutsideLimits
   row-6 c = ap not (c .within-limits .ensures) ∙ limits-row (view (at6 c)) (request (at6 c))
@@ -65,7 +65,7 @@ module _ (frames shares : ℕ) where
   past-8 : (c : tie.Else2) → Past NotMapped (at6 (c .before))
   past-8 c =
       let s = at6 (c .before) in
-      past8 (view s) (request s) (s .pre .0) (past6 (view s) (request s) (quiet s) (past-6 c .0) (past-6 c .1))
+      past8 (view s) (request s) (s .pre .0) (past6 (view s) (request s) (few s) (past-6 c .0) (past-6 c .1))
 
 -- the limits place the address
 address : (c : tie.Else2) → request (at6 (c .before)) .p1 < 16384
@@ -96,7 +96,7 @@ module _ (frames shares : ℕ) where
   past-9 c =
       let looked = c .before .before in
       let s = start looked in
-      past9 (view frames shares s) (request s) (quiet s) (sym (row-9 (c .before)) ∙ c .if3 .left) (past-8 frames shares (limited looked))
+      past9 (view frames shares s) (request s) (few s) (sym (row-9 (c .before)) ∙ c .if3 .left) (past-8 frames shares (limited looked))
 
   row-12 : (c : tie.After-rights-at) → let s = start (mapped c .before .before) in
       (request s is Write && not (eqb (c .rights-at .result) 3)) ≡ applies (view frames shares s) (request s) NotWritable
@@ -113,7 +113,7 @@ not-open-requires c κs = search needs
 returns : tie.Need-returns
 returns c frames shares =
     let s = c .before .before in
-    number-of (view frames shares s) (request s) NotOpen (sound-call (view frames shares s) (request s) refl (quiet s .call))
+    number-of (view frames shares s) (request s) NotOpen (sound-call (view frames shares s) (request s) refl (few s .call))
     (sym (row-4 frames shares (c .before)) ∙ c .if1 .taken)
 
 within-limits-requires : tie.Need-within-limits-requires
@@ -158,7 +158,7 @@ returns-5 c frames shares =
     let here = mapped (c .before) in
     let looked = here .before .before in
     let s = start looked in (
-      accepts (view frames shares s) (request s) (quiet s) (settled frames shares s) (sym (row-12 frames shares (c .before)) ∙ c .if4 .left)
+      access-accepts (view frames shares s) (request s) (s .pre .0) (settled frames shares s) (sym (row-12 frames shares (c .before)) ∙ c .if4 .left)
           (past-9 frames shares here),
       slot-is looked,
     )

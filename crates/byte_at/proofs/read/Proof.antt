@@ -1,8 +1,8 @@
 -- The byte of the page at the place of the address.
 use mathlib.Core.Path.{_∙_}
 use borrow.Author.Needs.{needs}
-use Rattle.in_place.proofs.byte.read.Statement.{statement}
-use Rattle.in_place.proofs.byte.read.Tie as tie
+use Rattle.byte_at.proofs.read.Statement.{statement}
+use Rattle.byte_at.proofs.read.Tie as tie
 
 page-of-requires : tie.Need-page-of-requires
 page-of-requires c κs = search needs

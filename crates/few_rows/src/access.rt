@@ -6,7 +6,7 @@ ghost use Rattle.interface.specs.Numbers.{Sandboxes};
 ghost use Rattle.interface.specs.Requests.{_is_, Read, Write};
 ghost use Rattle.records.specs.Record.{viewFrom};
 ghost use Rattle.rules.specs.Ready.{Ready};
-ghost use Rattle.in_place.specs.Decided.{Decides};
+ghost use Rattle.few_rows.specs.Decided.{Decides};
 use interface::Attributes;
 use interface::Refusal;
 use interface::Request;

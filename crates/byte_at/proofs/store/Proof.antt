@@ -8,8 +8,8 @@ use Rattle.interface.specs.Requests.{pageOf, offsetOf}
 use Rattle.table.specs.Store.{Store, kept, frontOf, storeByte}
 use Rattle.rules.proofs.FitLaws.{page-small}
 use borrow.Author.Needs.{needs}
-use Rattle.in_place.proofs.byte.store.Statement.{statement}
-use Rattle.in_place.proofs.byte.store.Tie as tie
+use Rattle.byte_at.proofs.store.Statement.{statement}
+use Rattle.byte_at.proofs.store.Tie as tie
 
 -- the page and the place in it are those of the address
 put-at : (q : Request) (before after : Store) (page offset : ℕ) → page ≡ pageOf q → offset ≡ offsetOf q

@@ -1,4 +1,7 @@
-// The byte of an accepted read or write.
+// The byte of an accepted read or write, where it stands.
+// It promises: what is read is the byte of the page that the store and the areas say; what is stored is stored into a front that the page has, and where it has
+// none nothing changes.
+// It stands on `reading` and `filling` for the bytes, on `table` for the entries, and on `rows` for the page of an address.
 ghost use mathlib.Core.Path.{_≡_};
 ghost use Prim.Native.Nat.{_<_};
 ghost use lib.ListN.{getD};
@@ -7,7 +10,7 @@ ghost use Rattle.interface.specs.Requests.{offsetOf};
 ghost use Rattle.frames.specs.declared.Held.{Held as Words};
 ghost use Rattle.table.specs.Store.{kept, Ranged};
 ghost use Rattle.table.specs.Virtual.{bytesRead, Placed};
-ghost use Rattle.in_place.specs.Decided.{pageAt, Stored};
+ghost use Rattle.byte_at.specs.Stored.{pageAt, Stored};
 use interface::PageNo;
 use interface::Request;
 use interface::Slot;
@@ -15,7 +18,7 @@ use rows::page_of;
 use table::page::VirtualPage;
 
 // The byte that is read, of the page at which this stands.
-pub(crate) fn read(pool: &[u8], table: &[u16], image: &[u8], slot: Slot, q: Request) -> u8
+pub fn read(pool: &[u8], table: &[u16], image: &[u8], slot: Slot, q: Request) -> u8
     requires { ⌜ Placed (now image) (pageAt q slot) ⌝ }
     requires { ⌜ Ranged PageBytes (now pool) (now table) ⌝ }
     ensures { λ r. ⌜ ((h : Words) → let before = kept h (now (pool .entry)) (now (table .entry)) in
@@ -31,7 +34,7 @@ pub(crate) fn read(pool: &[u8], table: &[u16], image: &[u8], slot: Slot, q: Requ
 }
 
 // Whether the page has a front, and the byte is stored into it.
-pub(crate) fn store(pool: &mut [u8], table: &[u16], q: Request) -> bool
+pub fn store(pool: &mut [u8], table: &[u16], q: Request) -> bool
     requires { ⌜ q .sandbox < Sandboxes ⌝ }
     requires { ⌜ q .p1 < Addresses ⌝ }
     requires { ⌜ q .p2 < ByteValues ⌝ }
