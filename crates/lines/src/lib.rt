@@ -8,13 +8,13 @@ ghost use lib.ListN.{length};
 ghost use Rattle.columns.specs.Sizes.{LineBytes};
 ghost use Rattle.columns.specs.Reading.{asField};
 ghost use Rattle.lines.specs.Lines.{fieldAt, parsed, linesOf, lineAt};
+use blanks::five_blanks;
 use columns::Field;
 use columns::as_field;
-use columns::five_blanks;
-use columns::read_field;
-use columns::read_number;
-use columns::with_digit;
+use digits::with_digit;
 use interface::Request;
+use numerals::read_field;
+use numerals::read_number;
 
 // What a line of the roll says: a call, or nothing.
 pub enum Line {

@@ -5,11 +5,11 @@ use native.Mathlib.Omega.{arith}
 use native.Mathlib.Numerals.{add-one}
 use lib.ListN.{getD}
 use borrow.Author.Needs.{needs}
 use Rattle.columns.specs.declared.Field.the-variants.{Number}
 use Rattle.columns.specs.Fields.{columnsRead, fieldOf}
-use Rattle.columns.proofs.ReadLaws.{digit-read, digit-missing, zero-field, digits-none, digits-more, digits-few, next-said, next-begun, next-bad}
-use Rattle.columns.proofs.digits_from.Statement.{statement}
-use Rattle.columns.proofs.digits_from.Tie as tie
+use Rattle.digits.proofs.DigitLaws.{digit-read, digit-missing, zero-field, digits-none, digits-more, digits-few, next-said, next-begun, next-bad}
+use Rattle.digits.proofs.digits_from.Statement.{statement}
+use Rattle.digits.proofs.digits_from.Tie as tie
 
 abbrev Inv-loop : tie.InvT-loop
 Inv-loop part first n₀ i₀ n i =
@@ -78,7 +78,7 @@ loop-again c =
     let more = digits-more (l .i) (l .n) (digit .result) (omega arith) (l .inv .4) (c .if2 .left) in
     let few = digits-few (l .i + 1) m (omega arith) more in
     let said = next-said (s .args .part .now) (s .args .first) (l .i) (l .n) (l .inv .2) (l .inv .3) (s .pre .1 .1) (turn .before .if1 .left) m read
-        (omega arith) in
+    (omega arith) in
     let begun = next-begun (s .args .part .now) (s .args .first) (l .i) (l .n) (l .inv .2) (l .inv .3) (s .pre .1 .1) (turn .before .if1 .left) m read in
     (search needs, few, rw (add-one (l .i)) said, λ z. absurd (begun z), more, search needs)
 

@@ -1,8 +1,8 @@
 -- Five blanks: four bytes make the number of four blanks exactly where each is a blank (`five-blanks`).
 use borrow.Author.Needs.{needs}
-use Rattle.columns.proofs.ReadLaws.{five-blanks}
-use Rattle.columns.proofs.five_blanks.Statement.{statement}
-use Rattle.columns.proofs.five_blanks.Tie as tie
+use Rattle.blanks.proofs.BlankLaws.{five-blanks}
+use Rattle.blanks.proofs.five_blanks.Statement.{statement}
+use Rattle.blanks.proofs.five_blanks.Tie as tie
 
 shared-slice-read-wide : tie.Need-shared-slice-read-wide
 shared-slice-read-wide c = search needs

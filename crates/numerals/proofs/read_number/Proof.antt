@@ -3,11 +3,12 @@ use mathlib.Core.Path.{_≡_}
 use mathlib.Core.List.{List}
 use Prim.Native.Nat.{ℕ}
 use borrow.Author.Needs.{needs}
 use Rattle.columns.specs.declared.Field.the-variants.{Number}
 use Rattle.columns.specs.Fields.{columnsRead, fieldOf}
-use Rattle.columns.proofs.ReadLaws.{start-read, blank-read, six-field}
-use Rattle.columns.proofs.read_number.Statement.{statement}
-use Rattle.columns.proofs.read_number.Tie as tie
+use Rattle.columns.proofs.ReadLaws.{start-read, blank-read}
+use Rattle.numerals.proofs.NumeralLaws.{six-field}
+use Rattle.numerals.proofs.read_number.Statement.{statement}
+use Rattle.numerals.proofs.read_number.Tie as tie
 
 -- the columns that are known to be blanks behind each test
 abbrev text : tie.Else1 → List ℕ

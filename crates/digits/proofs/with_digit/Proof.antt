@@ -1,8 +1,8 @@
 -- One more digit: the difference to "0" is a digit, or the byte is none.
 use borrow.Author.Needs.{needs}
-use Rattle.columns.proofs.ReadLaws.{digit-read, digit-missing}
-use Rattle.columns.proofs.with_digit.Statement.{statement}
-use Rattle.columns.proofs.with_digit.Tie as tie
+use Rattle.digits.proofs.DigitLaws.{digit-read, digit-missing}
+use Rattle.digits.proofs.with_digit.Statement.{statement}
+use Rattle.digits.proofs.with_digit.Tie as tie
 
 digit-of-requires : tie.Need-digit-of-requires
 digit-of-requires c κs = search needs

@@ -1,8 +1,8 @@
 -- A field is what its number stands for.
 use mathlib.Core.Path.{_∙_}
 use borrow.Author.Needs.{needs}
-use Rattle.columns.proofs.read_field.Statement.{statement}
-use Rattle.columns.proofs.read_field.Tie as tie
+use Rattle.numerals.proofs.read_field.Statement.{statement}
+use Rattle.numerals.proofs.read_field.Tie as tie
 
 read-number-requires : tie.Need-read-number-requires
 read-number-requires c κs = search needs
