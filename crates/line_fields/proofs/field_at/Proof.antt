@@ -2,11 +2,11 @@
 use Prim.Native.Nat.{_*_}
 use mathlib.Core.Path.{sym, _∙_}
 use native.Mathlib.Nat.{add-sub-cancel-left}
 use Rattle.lines.specs.Lines.{fieldAt}
-use Rattle.lines.proofs.LineLaws.{short-at}
+use Rattle.line_fields.proofs.ShortLaws.{short-at}
 use borrow.Author.Needs.{needs}
-use Rattle.lines.proofs.field_at.Statement.{statement}
-use Rattle.lines.proofs.field_at.Tie as tie
+use Rattle.line_fields.proofs.field_at.Statement.{statement}
+use Rattle.line_fields.proofs.field_at.Tie as tie
 
 mul-at : tie.Need-mul-at
 mul-at c = search needs

@@ -7,10 +7,10 @@ use borrow.Author.Tests.{ne-eqb}
 use borrow.Author.Needs.{needs}
 use Rattle.columns.specs.declared.Field.{Field}
 use Rattle.columns.proofs.ReadLaws.{some-read}
 use Rattle.lines.specs.Lines.{fieldAt, wellFormed, parsed}
-use Rattle.lines.proofs.LineLaws.{parsed-call, feed-missing, field-missing, number-missing}
-use Rattle.lines.proofs.parse.Statement.{statement}
-use Rattle.lines.proofs.parse.Tie as tie
+use Rattle.parser.proofs.ParseLaws.{parsed-call, feed-missing, field-missing, number-missing}
+use Rattle.parser.proofs.parse.Statement.{statement}
+use Rattle.parser.proofs.parse.Tie as tie
 
 -- where the line feed has been seen, where p1 has been read, and the places behind it
 abbrev line : tie.Else2 → List ℕ

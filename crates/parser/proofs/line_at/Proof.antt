@@ -4,10 +4,10 @@ use mathlib.Core.Path.{sym}
 use native.Mathlib.Nat.{add-sub-cancel-left}
 use native.Mathlib.Omega.{arith}
 use borrow.Author.Needs.{needs}
 use Rattle.lines.proofs.LineLaws.{past-line}
 use Rattle.lines.specs.Lines.{lineAt}
-use Rattle.lines.proofs.line_at.Statement.{statement}
-use Rattle.lines.proofs.line_at.Tie as tie
+use Rattle.parser.proofs.line_at.Statement.{statement}
+use Rattle.parser.proofs.line_at.Tie as tie
 
 returns : tie.Need-returns
 returns c = sym (past-line (c .before .before .args .roll .now) (c .before .before .args .line) (omega arith))
