@@ -2,9 +2,9 @@
 use mathlib.Core.Path.{sym}
 use borrow.Author.Needs.{needs}
 use Rattle.table.proofs.FreeLaws.{empty-at}
-use Rattle.gathering.proofs.EntryLaws.{entries-none}
-use Rattle.gathering.proofs.with_group.Statement.{statement}
-use Rattle.gathering.proofs.with_group.Tie as tie
+use Rattle.front_frames.proofs.EntryLaws.{entries-none}
+use Rattle.front_frames.proofs.with_group.Statement.{statement}
+use Rattle.front_frames.proofs.with_group.Tie as tie
 
 are-empty-requires : tie.Need-are-empty-requires
 are-empty-requires c κs = search needs

@@ -3,10 +3,10 @@ use mathlib.Core.Path.{_≡_, refl, ap, _∙_}
 use Prim.Native.Nat.{_≤_, _-_}
 use native.Mathlib.Omega.{arith}
 use borrow.Author.Needs.{needs}
-use Rattle.gathering.specs.AreaRun.{withEntries}
-use Rattle.gathering.proofs.EntryLaws.{entries-more}
-use Rattle.gathering.proofs.with_each.Statement.{statement}
-use Rattle.gathering.proofs.with_each.Tie as tie
+use Rattle.front_frames.specs.Fronts.{withEntries}
+use Rattle.front_frames.proofs.EntryLaws.{entries-more}
+use Rattle.front_frames.proofs.with_each.Statement.{statement}
+use Rattle.front_frames.proofs.with_each.Tie as tie
 
 abbrev Inv-loop : tie.InvT-loop
 Inv-loop table at n run i₀ all i = (all ≡ withEntries table at run i) × (i ≤ n)

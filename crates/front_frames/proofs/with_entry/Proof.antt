@@ -1,8 +1,8 @@
 -- An entry that names a frame marks it, and an empty one changes nothing.
 use borrow.Author.Needs.{needs}
 use borrow.Author.Tests.{eq-eqb, ne-eqb}
-use Rattle.gathering.proofs.with_entry.Statement.{statement}
-use Rattle.gathering.proofs.with_entry.Tie as tie
+use Rattle.front_frames.proofs.with_entry.Statement.{statement}
+use Rattle.front_frames.proofs.with_entry.Tie as tie
 
 returns : tie.Need-returns
 returns c = rw (eq-eqb _ _ (c .if1 .taken))

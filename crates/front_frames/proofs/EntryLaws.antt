@@ -10,7 +10,7 @@ use lib.ListN.{getD}
 use Rattle.frames.specs.declared.Held.{Held}
 use Rattle.frames.specs.Frames.{noneHeld}
 use Rattle.table.specs.Store.{frontOf}
-use Rattle.gathering.specs.AreaRun.{withEntry, withEntries, frontsTo}
+use Rattle.front_frames.specs.Fronts.{withEntry, withEntries, frontsTo}
 
 module _ (table : List ℕ) (at : ℕ) (run : Held) where
   pub entries-more : (i e : ℕ) (all next : Held) → all ≡ withEntries table at run i → e ≡ getD table (at + i) 0 → next ≡ withEntry e all

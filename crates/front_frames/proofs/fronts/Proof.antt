@@ -6,10 +6,10 @@ use borrow.Author.Needs.{needs}
 use Rattle.frames.specs.declared.Held.{Held}
 use Rattle.frames.specs.Frames.{noneHeld}
 use Rattle.table.proofs.GroupLaws.{ofGroups, group-in, all-groups}
-use Rattle.gathering.specs.AreaRun.{withEntries}
-use Rattle.gathering.proofs.EntryLaws.{entries-join, entries-fronts}
-use Rattle.gathering.proofs.fronts.Statement.{statement}
-use Rattle.gathering.proofs.fronts.Tie as tie
+use Rattle.front_frames.specs.Fronts.{withEntries}
+use Rattle.front_frames.proofs.EntryLaws.{entries-join, entries-fronts}
+use Rattle.front_frames.proofs.fronts.Statement.{statement}
+use Rattle.front_frames.proofs.fronts.Tie as tie
 
 abbrev Inv-loop : tie.InvT-loop
 Inv-loop table sandbox pages groups at run₀ k₀ run k = (k ≤ pages / 8) × (run ≡ withEntries table at noneHeld (ofGroups k))
