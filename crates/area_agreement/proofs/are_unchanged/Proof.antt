@@ -8,9 +8,9 @@ use Rattle.basics.specs.Ranges.{every}
 use Rattle.basics.proofs.LoopLaws.{every-last}
 use Rattle.areas.specs.declared.area.Areas.{Areas}
 use Rattle.areas.specs.Areas.{none}
-use Rattle.agreement.specs.Unchanged.{stays, unchanged}
-use Rattle.agreement.proofs.are_unchanged.Statement.{statement}
-use Rattle.agreement.proofs.are_unchanged.Tie as tie
+use Rattle.area_agreement.specs.Unchanged.{stays, unchanged}
+use Rattle.area_agreement.proofs.are_unchanged.Statement.{statement}
+use Rattle.area_agreement.proofs.are_unchanged.Tie as tie
 
 -- the test of place k
 abbrev of : Areas → Areas → ℕ → Bool

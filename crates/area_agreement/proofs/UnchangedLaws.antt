@@ -18,7 +18,7 @@ use Rattle.areas.specs.declared.area.Area.{Area}
 use Rattle.areas.specs.declared.area.Areas.{Areas}
 use Rattle.areas.specs.Areas.{none, covers, slotIn, slots}
 use Rattle.areas.specs.Walk.{Formed}
-use Rattle.agreement.specs.Unchanged.{stays, unchanged}
+use Rattle.area_agreement.specs.Unchanged.{stays, unchanged}
 
 -- what the test of one place says
 pub record Stays (a c : Area) : Type 0 where
