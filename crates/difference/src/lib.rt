@@ -1,7 +1,8 @@
 // Request A1, "Still clean?": the lowest page at which a sandbox and its snapshot differ.
 // It promises: the page is the one that comparing all 64 pages by what they read would find (`differing` of content/specs/Content), though a committed page
 // with unchanged rights and no front is passed over. Nothing is changed.
-// It stands on `agreement` for one page compared, on `content` for what pages read, and on `rules` for what a record of a sound state is.
+// It stands on `area_agreement` for the areas compared, on `agreement` for one page, on `content` for what pages read, and on `rules` for what a record of a
+// sound state is.
 ghost use mathlib.Core.Path.{_≡_};
 ghost use Prim.Native.Nat.{_<_};
 ghost use lib.ListN.{length};
@@ -11,7 +12,7 @@ ghost use Rattle.table.specs.Store.{kept, Ranged};
 ghost use Rattle.rules.specs.Ready.{Ready};
 ghost use Rattle.content.specs.Content.{differing};
 use agreement::agrees;
-use agreement::are_unchanged;
+use area_agreement::are_unchanged;
 use areas::area::Areas;
 use interface::PageNo;
 use records::Record;

@@ -30,7 +30,8 @@ use Rattle.areas.specs.Walk.{Formed}
 use Rattle.areas.proofs.WalkLaws.{endOf, Before, before-start, before-gap, before-last, before-next, before-none}
 use Rattle.areas.proofs.FewAreas.{area-slot}
 use Rattle.areas.proofs.StartLaws.{starts-first, starts-inside}
-use Rattle.gathering.specs.AreaRun.{withEntry, frontsTo, runOf}
+use Rattle.front_frames.specs.Fronts.{withEntry, frontsTo}
+use Rattle.gathering.specs.AreaRun.{runOf}
 
 -- the runs with that of one area, by the code's ways out
 module _ (table : List ℕ) (s : ℕ) (a : Area) (r : Runs) (b : Bool) (is : b ≡ isSpared (Mapped (attributesOf a))) where

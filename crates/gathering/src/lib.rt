@@ -1,7 +1,8 @@
 // The runs that a rewind makes (A3), worked out area by area from the table before the rewind.
 // It promises: the runs are those that the definition gathers page by page (`rowRewound`); nothing is done for committed and image areas,
 // so that the work goes with the pages of the uncommitted anonymous ones.
-// It stands on `areas` for the areas, on `table` for the fronts, on `runs` for the competition of runs, and on `kept` for the definition.
+// It stands on `areas` for the areas, on `front_frames` for the frames of an area's fronts, on `runs` for the competition of runs, and on `kept` for the
+// definition.
 ghost use mathlib.Core.Path.{_≡_};
 ghost use mathlib.Core.List.{List};
 ghost use Prim.Native.Nat.{ℕ, _+_, _≤_, _<_};
@@ -15,17 +16,12 @@ ghost use Rattle.runs.specs.Row.{row, tabled, pushed};
 ghost use Rattle.kept.specs.Spare.{rowRewound};
 ghost use Rattle.areas.specs.Areas.{attributesOf, slots};
 ghost use Rattle.areas.specs.Walk.{Formed};
-ghost use Rattle.gathering.specs.AreaRun.{withEntry, withEntries, frontsTo, runOf};
+ghost use Rattle.gathering.specs.AreaRun.{runOf};
 use areas::area::Area;
 use areas::area::Areas;
-use frames::Held;
-use interface::PageNo;
+use front_frames::fronts;
 use runs::Runs;
 use slots::is_anonymous;
-use table::entry::GROUP;
-use table::entry::are_empty;
-use table::entry::frame_of;
-use table::entry::front_index;
 
 // "the frames of each uncommitted anonymous area, if any, are .. kept as one run": the runs with those of the areas, the lower page the older.
 pub fn gathered(table: &[u16], present: Areas, runs: Runs, sandbox: u8) -> Runs
@@ -68,61 +64,4 @@ fn is_spared(area: Area) -> bool
     let backing = area.backing;
     let anonymous = is_anonymous(backing);
     !area.committed & anonymous
-}
-
-// The frames of the fronts of so many pages, eight of them looked at together.
-fn fronts(table: &[u16], sandbox: u8, first: PageNo, pages: u8) -> Held
-    requires { ⌜ sandbox < Sandboxes ⌝ }
-    requires { ⌜ first .0 + pages ≤ PageCount ⌝ }
-    requires { ⌜ 0 < pages ⌝ }
-    requires { ⌜ length (now table) ≡ TableEntries ⌝ }
-    requires { ⌜ ((k : ℕ) → getD (now table) k 0 ≤ MostFrames) ⌝ }
-    ensures { λ r. ⌜ r ≡ frontsTo (now (table .entry)) sandbox (first .0) pages ⌝ }
-{
-    let groups = pages / GROUP;
-    let at = front_index(sandbox, first);
-    let mut run = Held::none();
-    for k in 0..groups {
-        let i = k * GROUP;
-        run = with_group(run, table, at + i as usize);
-    }
-    let done = groups * GROUP;
-    with_each(run, table, at + done as usize, pages - done)
-}
-
-// The frames that eight entries name come to the run. Where none names one, nothing is done.
-fn with_group(run: Held, table: &[u16], at: usize) -> Held
-    requires { ⌜ at + 8 ≤ length (now table) ⌝ }
-    requires { ⌜ ((k : ℕ) → getD (now table) k 0 ≤ MostFrames) ⌝ }
-    ensures { λ r. ⌜ r ≡ withEntries (now (table .entry)) at run 8 ⌝ }
-{
-    if are_empty(table, at) {
-        return run;
-    }
-    with_each(run, table, at, GROUP)
-}
-
-// The frames that so many entries name come to the run, one by one.
-fn with_each(run: Held, table: &[u16], at: usize, n: u8) -> Held
-    requires { ⌜ at + n ≤ length (now table) ⌝ }
-    requires { ⌜ ((k : ℕ) → getD (now table) k 0 ≤ MostFrames) ⌝ }
-    ensures { λ r. ⌜ r ≡ withEntries (now (table .entry)) at run n ⌝ }
-{
-    let mut all = run;
-    for i in 0..n {
-        let entry = table[at + i as usize];
-        all = with_entry(all, entry);
-    }
-    all
-}
-
-// The frame that an entry names, if it names one, comes to the run.
-fn with_entry(run: Held, entry: u16) -> Held
-    requires { ⌜ entry ≤ MostFrames ⌝ }
-    ensures { λ r. ⌜ r ≡ withEntry entry run ⌝ }
-{
-    if entry == 0 {
-        return run;
-    }
-    run.with(frame_of(entry))
 }

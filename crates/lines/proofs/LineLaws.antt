@@ -5,7 +5,7 @@ use mathlib.Core.Bool.{true, false, _&&_}
 use mathlib.Core.List.{List, [], _∷_, _++_}
 use native.Mathlib.Omega.{arith}
 use lib.ListN.{length, getD, take, drop, length-take, length-drop, take-append-drop}
-use lib.Seq.{take-at, drop-drop, getD-drop, getD-take, drop-append-add, getD-append-add, length-take-le}
+use lib.Seq.{take-at, drop-drop, getD-drop, drop-append-add, getD-append-add, length-take-le}
 use lib.Dec.{eqb}
 use borrow.Author.Tests.{eqb-true, eq-eqb, ne-eqb}
 use Rattle.basics.specs.Ranges.{every}
@@ -16,12 +16,10 @@ use Rattle.columns.specs.declared.Field.{Field}
 use Rattle.columns.specs.declared.Field.the-variants.{Number, Bad}
 use Rattle.lines.specs.declared.Line.the-variants.{Call, Malformed}
 use Rattle.columns.specs.Prints.{printedField, printedLine, UpTo, numbersOf, printedRequest}
-use Rattle.columns.specs.Fields.{withDigit, isNumber, numberIn}
-use Rattle.columns.specs.Reading.{asField, blanks}
+use Rattle.columns.specs.Fields.{isNumber, numberIn}
 use Rattle.lines.specs.Lines.{fieldAt, hasNumber, numeralAt, wellFormed, requestIn, parsed, bytesAt, lineAt, linesOf}
 use Rattle.columns.proofs.PrintLaws.{length-field, length-request}
 use Rattle.columns.proofs.FieldLaws.{field-said, field-small, field-says}
-use Rattle.columns.proofs.ReadLaws.{none-read, short-field}
 
 -- ---- what is read was so printed
 
@@ -64,7 +62,7 @@ module _ (line : List ℕ) (formed : wellFormed line ≡ true) where
   formed-end : (eqb (getD line 42 0) 10 ≡ true) × (every (hasNumber line) 0 7 ≡ true)
   formed-end = and-both (eqb (getD line 42 0) 10) (every (hasNumber line) 0 7) (formed-parts .1)
 
-  formed-field : (k : ℕ) → k < 7 → fieldAt line k ≡ Number (numeralAt line k)
+  pub formed-field : (k : ℕ) → k < 7 → fieldAt line k ≡ Number (numeralAt line k)
   formed-field k h = number-known (fieldAt line k) (every-at (hasNumber line) 0 7 (formed-end .1) k (omega arith) (omega arith))
 
   formed-print : line ≡ printedRequest (requestIn line)
@@ -75,40 +73,6 @@ module _ (line : List ℕ) (formed : wellFormed line ≡ true) where
   formed-small : UpTo 65535 (numbersOf (requestIn line))
   unfolding fieldAt
   formed-small = small-listed 7 (numeralAt line) (λ k h. field-small (take 6 (drop (k * 6) line)) (numeralAt line k) (formed-field k h))
-
--- a line of 43 bytes says a request where it has its line feed and each field a number
-pub parsed-call : (line : List ℕ) → length line ≡ 43 → getD line 42 0 ≡ 10 → let says = fieldAt line in
-    (code sandbox p1 p2 p3 p4 p5 : ℕ) → Number code ≡ says 0 → Number sandbox ≡ says 1 → Number p1 ≡ says 2 → Number p2 ≡ says 3 → Number p3 ≡ says 4
-    → Number p4 ≡ says 5 → Number p5 ≡ says 6
-    → Call (record { code = code; sandbox = sandbox; p1 = p1; p2 = p2; p3 = p3; p4 = p4; p5 = p5 }) ≡ parsed line
-unfolding parsed wellFormed every
-parsed-call line h feed code sandbox p1 p2 p3 p4 p5 e0 e1 e2 e3 e4 e5 e6 =
-    rw (eq-eqb (length line) 43 h, eq-eqb (getD line 42 0) 10 feed, ← e0, ← e1, ← e2, ← e3, ← e4, ← e5, ← e6)
-
--- and nothing where one of them is missing
-pub feed-missing : (line : List ℕ) → length line ≡ 43 → (getD line 42 0 ≡ 10 → ⊥) → Malformed ≡ parsed line
-unfolding parsed wellFormed
-feed-missing line h other = rw (eq-eqb (length line) 43 h, ne-eqb (getD line 42 0) 10 other)
-
-pub field-missing : (line : List ℕ) (k : ℕ) → k < 7 → Bad ≡ fieldAt line k → Malformed ≡ parsed line
-unfolding parsed
-field-missing line k h bad =
-    by-cases (wellFormed line)
-    (λ t. let z : _≡_ {A = ℕ} 0 1 = cc (formed-field line t k h) in absurd (omega arith))
-    (λ t. rw t)
-
-pub number-missing : (line : List ℕ) (k n : ℕ) → k < 7 → asField n ≡ fieldAt line k → 65535 < n → Malformed ≡ parsed line
-number-missing line k n h e l = field-missing line k h (none-read n (fieldAt line k) e l)
-
--- a field of five blanks and one digit
-pub short-at : (line : List ℕ) (k : ℕ) → blanks line (k * 6) 5 ≡ true → withDigit (Number 0) (getD line (k * 6 + 5) 0) ≡ fieldAt line k
-unfolding fieldAt
-short-at line k h =
-    let part : List ℕ = take 6 (drop (k * 6) line) in
-    let at : (i : ℕ) → i < 6 → getD part i 0 ≡ getD line (k * 6 + i) 0 = λ i l. rw (getD-take, getD-drop) in
-    let blank : (i : ℕ) → i < 5 → getD line (k * 6 + i) 0 ≡ 32
-    = λ i l. eqb-true (getD line (k * 6 + i) 0) 32 (every-at (λ j. eqb (getD line j 0) 32) (k * 6) 5 h (k * 6 + i) (omega arith) (omega arith)) in
-    rw (← at 5 (omega arith)) (short-field part (λ i l. at i (omega arith) ∙ blank i l))
 
 call-same : (p q : Request) → Call p ≡ Call q → p ≡ q
 call-same p q e = cc

@@ -1,19 +1,9 @@
-// The roll's text: what a line of the roll says, and where each line stands in the lent bytes.
-// It promises that a line has one accepted form: what `parse` takes for a request is that request's print, and every request's print is taken
-// (proofs/LineLaws).
-// It stands on `columns` for a number in 6 columns, and on `interface` for the request.
+// The roll's text: what a line of the roll says, where each line stands in the lent bytes, and how many lines they are.
+// It promises that a line has one accepted form: what is taken for a request is that request's print, and every request's print is taken (proofs/LineLaws).
+// It stands on `columns` for a number in 6 columns, and on `interface` for the request. `parser` parses a line.
 ghost use mathlib.Core.Path.{_≡_};
-ghost use Prim.Native.Nat.{_+_, _*_, _≤_, _<_};
-ghost use lib.ListN.{length};
-ghost use Rattle.columns.specs.Sizes.{LineBytes};
-ghost use Rattle.columns.specs.Reading.{asField};
-ghost use Rattle.lines.specs.Lines.{fieldAt, parsed, linesOf, lineAt};
+ghost use Rattle.lines.specs.Lines.{linesOf};
 use columns::Field;
-use columns::as_field;
-use columns::five_blanks;
-use columns::read_field;
-use columns::read_number;
-use columns::with_digit;
 use interface::Request;
 
 // What a line of the roll says: a call, or nothing.
@@ -61,56 +51,6 @@ impl Line {
     pub const REPLY_VALUE: usize = 2;
 }
 
-// The request that a line says.
-pub fn parse(line: &[u8]) -> Line
-    ensures { λ r. ⌜ r ≡ parsed (now (line .entry)) ⌝ }
-{
-    if line.len() != Line::BYTES {
-        return Line::Malformed;
-    }
-    if line[Line::FEED] != b'\n' {
-        return Line::Malformed;
-    }
-    let code = number_at(line, Line::CODE);
-    if code > Field::MOST {
-        return Line::Malformed;
-    }
-    let sandbox = number_at(line, Line::SANDBOX);
-    if sandbox > Field::MOST {
-        return Line::Malformed;
-    }
-    // p1 is read as a field, so that `read_number` has two callers: then it is compiled apart from both, and not into each.
-    let address = field_at(line, Line::P1);
-    let Field::Number(p1) = address else {
-        return Line::Malformed;
-    };
-    let p2 = number_at(line, Line::P2);
-    if p2 > Field::MOST {
-        return Line::Malformed;
-    }
-    let p3 = number_at(line, Line::P3);
-    if p3 > Field::MOST {
-        return Line::Malformed;
-    }
-    let p4 = number_at(line, Line::P4);
-    if p4 > Field::MOST {
-        return Line::Malformed;
-    }
-    let p5 = number_at(line, Line::P5);
-    if p5 > Field::MOST {
-        return Line::Malformed;
-    }
-    Line::Call(Request {
-        code: code as u16,
-        sandbox: sandbox as u16,
-        p1: p1,
-        p2: p2 as u16,
-        p3: p3 as u16,
-        p4: p4 as u16,
-        p5: p5 as u16,
-    })
-}
-
 // How many lines a roll of so many bytes has: the whole ones, one for a short rest, and none after the 65,535th.
 pub fn lines_of(bytes: usize) -> usize
     ensures { λ r. ⌜ r ≡ linesOf bytes ⌝ }
@@ -119,42 +59,4 @@ pub fn lines_of(bytes: usize) -> usize
         return Line::MOST;
     }
     (bytes + Line::BYTES - 1) / Line::BYTES
-}
-
-// What the roll's line of that number says, from 0 on. "A short last line is malformed."
-pub fn line_at(roll: &[u8], line: usize) -> Line
-    ensures { λ r. ⌜ r ≡ lineAt (now (roll .entry)) line ⌝ }
-{
-    if roll.len() / Line::BYTES <= line {
-        return Line::Malformed;
-    }
-    let at = line * Line::BYTES;
-    let end = at + Line::BYTES;
-    parse(&roll[at..end])
-}
-
-// What a field of the line says, from 0 on. Most often it has one digit, behind five blanks.
-fn field_at(line: &[u8], k: usize) -> Field
-    requires { ⌜ (length (now line) ≡ LineBytes) × (k < 7) ⌝ }
-    ensures { λ r. ⌜ r ≡ fieldAt (now (line .entry)) k ⌝ }
-{
-    let at = k * Line::FIELD;
-    let end = at + Line::FIELD;
-    if five_blanks(line, at) {
-        return as_field(with_digit(0, line[at + Line::LAST_COLUMN]));
-    }
-    read_field(&line[at..end])
-}
-
-// The same as a number, above 65,535 where the field says none.
-fn number_at(line: &[u8], k: usize) -> u32
-    requires { ⌜ (length (now line) ≡ LineBytes) × (k < 7) ⌝ }
-    ensures { λ r. ⌜ asField r ≡ fieldAt (now (line .entry)) k ⌝ }
-{
-    let at = k * Line::FIELD;
-    let end = at + Line::FIELD;
-    if five_blanks(line, at) {
-        return with_digit(0, line[at + Line::LAST_COLUMN]);
-    }
-    read_number(&line[at..end])
 }

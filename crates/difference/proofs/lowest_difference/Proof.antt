@@ -19,10 +19,10 @@ use Rattle.areas.specs.Areas.{slots}
 use Rattle.areas.specs.Walk.{Formed}
 use Rattle.areas.proofs.WalkLaws.{settled, near-formed}
 use Rattle.content.specs.Content.{pageUnder, pageRead, copyRead, differing}
-use Rattle.agreement.specs.Unchanged.{unchanged}
+use Rattle.area_agreement.specs.Unchanged.{unchanged}
 use Rattle.content.proofs.ReadingLaws.{backing-there}
 use Rattle.agreement.proofs.CompareLaws.{readsNow, readsCopied, passed-over, agree-as}
-use Rattle.agreement.proofs.UnchangedLaws.{alike-slots, stays-alike}
+use Rattle.area_agreement.proofs.UnchangedLaws.{alike-slots, stays-alike}
 use Rattle.difference.proofs.lowest_difference.Statement.{statement}
 use Rattle.difference.proofs.lowest_difference.Tie as tie
 
