@@ -2,10 +2,10 @@
 use mathlib.Core.Bool.{true}
 use Rattle.areas.proofs.WalkLaws.{settled}
 use Rattle.records.proofs.SettledLaws.{settled-of}
-use Rattle.rows.proofs.ShareLaws.{exceeds-open, exceeds-map, exceeds-snapshot, exceeds-not}
+use Rattle.share_row.proofs.ShareLaws.{exceeds-open, exceeds-map, exceeds-snapshot, exceeds-not}
 use borrow.Author.Needs.{needs}
-use Rattle.rows.proofs.share_exceeded.Statement.{statement}
-use Rattle.rows.proofs.share_exceeded.Tie as tie
+use Rattle.share_row.proofs.share_exceeded.Statement.{statement}
+use Rattle.share_row.proofs.share_exceeded.Tie as tie
 
 cast-result : tie.Need-cast-result
 cast-result c = search needs

@@ -9,8 +9,8 @@ use Rattle.basics.proofs.TestLaws.{by-cases, or-left, or-right}
 use Rattle.interface.specs.Requests.{Map}
 use Rattle.interface.specs.Refusals.{applies}
 use borrow.Author.Needs.{needs}
-use Rattle.rows.proofs.already_mapped.Statement.{statement}
-use Rattle.rows.proofs.already_mapped.Tie as tie
+use Rattle.page_rows.proofs.already_mapped.Statement.{statement}
+use Rattle.page_rows.proofs.already_mapped.Tie as tie
 
 -- the code is a map's, and a page is named
 a-map : (c : tie.Else1) → eqb (c .before .before .before .args .q .code) Map ≡ true

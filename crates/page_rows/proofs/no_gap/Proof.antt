@@ -8,8 +8,8 @@ use Rattle.basics.proofs.TestLaws.{by-cases, or-left, or-right}
 use Rattle.interface.specs.Requests.{Map}
 use Rattle.interface.specs.Refusals.{applies}
 use borrow.Author.Needs.{needs}
-use Rattle.rows.proofs.no_gap.Statement.{statement}
-use Rattle.rows.proofs.no_gap.Tie as tie
+use Rattle.page_rows.proofs.no_gap.Statement.{statement}
+use Rattle.page_rows.proofs.no_gap.Tie as tie
 
 -- the code is a map's, and no page is named
 a-map : (c : tie.Else1) → eqb (c .before .before .before .args .q .code) Map ≡ true

@@ -7,8 +7,8 @@ use Rattle.interface.specs.Refusals.{allMapped, applies}
 use Rattle.areas.proofs.WalkLaws.{near-formed}
 use Rattle.rules.proofs.FitLaws.{named-address, page-small}
 use borrow.Author.Needs.{needs}
-use Rattle.rows.proofs.not_mapped.Statement.{statement}
-use Rattle.rows.proofs.not_mapped.Tie as tie
+use Rattle.page_rows.proofs.not_mapped.Statement.{statement}
+use Rattle.page_rows.proofs.not_mapped.Tie as tie
 
 -- a protect's pages
 pages : (c : tie.Then1) → c .before .args .q .p1 + c .before .args .q .p2 ≤ 64

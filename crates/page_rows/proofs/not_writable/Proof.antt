@@ -4,8 +4,8 @@ use Rattle.interface.specs.Requests.{Write}
 use Rattle.interface.specs.Refusals.{applies}
 use Rattle.rules.proofs.FitLaws.{page-small}
 use borrow.Author.Needs.{needs}
-use Rattle.rows.proofs.not_writable.Statement.{statement}
-use Rattle.rows.proofs.not_writable.Tie as tie
+use Rattle.page_rows.proofs.not_writable.Statement.{statement}
+use Rattle.page_rows.proofs.not_writable.Tie as tie
 
 returns : tie.Need-returns
 unfolding applies
