@@ -11,10 +11,10 @@ use Rattle.basics.specs.Ranges.{every}
 use Rattle.basics.proofs.LoopLaws.{every-next, every-stop, every-end}
 use Rattle.areas.specs.declared.area.Areas.{Areas}
 use Rattle.areas.specs.Areas.{none}
-use Rattle.page_soundness.proofs.AreaLaws.{backedArea, backed-areas}
-use Rattle.page_soundness.proofs.BackedLaws.{lies-passes}
-use Rattle.page_soundness.proofs.all_backed.Statement.{statement}
-use Rattle.page_soundness.proofs.all_backed.Tie as tie
+use Rattle.committed_pages.proofs.AreaLaws.{backedArea, backed-areas}
+use Rattle.committed_pages.proofs.BackedLaws.{lies-passes}
+use Rattle.committed_pages.proofs.all_backed.Statement.{statement}
+use Rattle.committed_pages.proofs.all_backed.Tie as tie
 
 -- the test of the area in place k
 abbrev of : Areas → Areas → ℕ → Bool

@@ -19,8 +19,8 @@ use Rattle.areas.specs.Areas.{none, covers, slotOf, slots}
 use Rattle.areas.specs.Walk.{Formed}
 use Rattle.areas.proofs.SlotLaws.{covers-none, slot-hit, found}
 use Rattle.areas.proofs.WalkLaws.{order}
-use Rattle.page_soundness.specs.Parts.{markOk, backingOk}
-use Rattle.page_soundness.proofs.RestLaws.{every-alike, every-const}
+use Rattle.committed_pages.specs.Parts.{markOk, backingOk}
+use Rattle.committed_pages.proofs.RestLaws.{every-alike, every-const}
 
 -- the pages of one area agree with the snapshot in backing
 abbrev pub backedArea : Areas → Area → Bool

@@ -1,10 +1,10 @@
 -- The page lies before the area, or behind it, or in it, with another backing or the same.
 use mathlib.Core.Path.{sym, _∙_}
 use borrow.Author.Tests.{not-true, not-false}
-use Rattle.page_soundness.proofs.BackedLaws.{reach-below, reach-past, reach-not, reach-end}
+use Rattle.area_backing.proofs.ReachLaws.{reach-below, reach-past, reach-not, reach-end}
 use borrow.Author.Needs.{needs}
-use Rattle.page_soundness.proofs.reached.Statement.{statement}
-use Rattle.page_soundness.proofs.reached.Tie as tie
+use Rattle.area_backing.proofs.reached.Statement.{statement}
+use Rattle.area_backing.proofs.reached.Tie as tie
 
 cast-start : tie.Need-cast-start
 cast-start c = search needs

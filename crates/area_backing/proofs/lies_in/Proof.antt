@@ -4,8 +4,8 @@ use mathlib.Core.Path.{ap}
 use lib.Dec.{leb}
 use borrow.Author.Tests.{not-false}
 use borrow.Author.Needs.{needs}
-use Rattle.page_soundness.proofs.lies_in.Statement.{statement}
-use Rattle.page_soundness.proofs.lies_in.Tie as tie
+use Rattle.area_backing.proofs.lies_in.Statement.{statement}
+use Rattle.area_backing.proofs.lies_in.Tie as tie
 
 returns : tie.Need-returns
 returns c = search needs

@@ -1,10 +1,10 @@
 -- By the kind of each backing; two images agree where their first pages are as far apart as those of the areas.
 use mathlib.Core.Path.{_∙_}
 use Prim.Native.Nat.{_-_}
-use Rattle.page_soundness.proofs.BackedLaws.{agree-none, agree-not, agree-both}
+use Rattle.area_backing.proofs.ReachLaws.{agree-none, agree-not, agree-both}
 use borrow.Author.Needs.{needs}
-use Rattle.page_soundness.proofs.agrees.Statement.{statement}
-use Rattle.page_soundness.proofs.agrees.Tie as tie
+use Rattle.area_backing.proofs.agrees.Statement.{statement}
+use Rattle.area_backing.proofs.agrees.Tie as tie
 
 enum-told : tie.Need-enum-told
 enum-told c = search needs

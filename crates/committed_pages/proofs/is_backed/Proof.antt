@@ -5,9 +5,9 @@ use native.Mathlib.Omega.{arith}
 use borrow.Author.Needs.{needs}
 use borrow.Author.Tests.{not-true, not-false}
 use Rattle.areas.specs.Areas.{slots}
-use Rattle.page_soundness.proofs.BackedLaws.{Come, come-start, come-next, come-all, uncommitted-passes, committed-is}
-use Rattle.page_soundness.proofs.is_backed.Statement.{statement}
-use Rattle.page_soundness.proofs.is_backed.Tie as tie
+use Rattle.committed_pages.proofs.BackedLaws.{Come, come-start, come-next, come-all, uncommitted-passes, committed-is}
+use Rattle.committed_pages.proofs.is_backed.Statement.{statement}
+use Rattle.committed_pages.proofs.is_backed.Tie as tie
 
 abbrev Inv-loop : tie.InvT-loop
 Inv-loop area snapshot count page₀ k₀ page k = (k ≤ count) × Come snapshot area k page

@@ -10,9 +10,9 @@ use Rattle.basics.specs.Ranges.{every}
 use Rattle.basics.proofs.LoopLaws.{every-next, every-stop, every-end}
 use Rattle.areas.specs.declared.area.Areas.{Areas}
 use Rattle.areas.specs.Areas.{none}
-use Rattle.page_soundness.proofs.AreaLaws.{committed-areas}
-use Rattle.page_soundness.proofs.all_committed.Statement.{statement}
-use Rattle.page_soundness.proofs.all_committed.Tie as tie
+use Rattle.committed_pages.proofs.AreaLaws.{committed-areas}
+use Rattle.committed_pages.proofs.all_committed.Statement.{statement}
+use Rattle.committed_pages.proofs.all_committed.Tie as tie
 
 -- the mark of the area in each place
 abbrev marks : Areas → ℕ → Bool
