@@ -1,8 +1,8 @@
 -- By the backing: an anonymous one asks nothing, an image one that the last page is in the image.
 use native.Mathlib.Omega.{arith}
 use borrow.Author.Needs.{needs}
-use Rattle.area_soundness.proofs.images_exist.Statement.{statement}
-use Rattle.area_soundness.proofs.images_exist.Tie as tie
+use Rattle.area_form.proofs.images_exist.Statement.{statement}
+use Rattle.area_form.proofs.images_exist.Tie as tie
 
 enum-told : tie.Need-enum-told
 enum-told c = c .match .keys1

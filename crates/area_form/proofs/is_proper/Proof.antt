@@ -4,8 +4,8 @@ use mathlib.Core.Bool.{not, _&&_}
 use native.Mathlib.Omega.{arith}
 use lib.Dec.{eqb, leb}
 use Rattle.areas.specs.Formed.{proper}
-use Rattle.area_soundness.proofs.is_proper.Statement.{statement}
-use Rattle.area_soundness.proofs.is_proper.Tie as tie
+use Rattle.area_form.proofs.is_proper.Statement.{statement}
+use Rattle.area_form.proofs.is_proper.Tie as tie
 
 -- the way back from where a fact is needed to where it was learned
 abbrev at-images-exist : tie.After-struct-known3 → tie.After-images-exist

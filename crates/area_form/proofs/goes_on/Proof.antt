@@ -2,8 +2,8 @@
 use mathlib.Core.Path.{ap, _∙_}
 use borrow.Author.Needs.{needs}
 use Rattle.areas.specs.Formed.{goesOn}
-use Rattle.area_soundness.proofs.goes_on.Statement.{statement}
-use Rattle.area_soundness.proofs.goes_on.Tie as tie
+use Rattle.area_form.proofs.goes_on.Statement.{statement}
+use Rattle.area_form.proofs.goes_on.Tie as tie
 
 attributes-requires : tie.Need-attributes-requires
 attributes-requires c κs = search needs

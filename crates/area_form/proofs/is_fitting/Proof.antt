@@ -3,8 +3,8 @@ use mathlib.Core.Path.{ap}
 use mathlib.Core.Bool.{Bool, _&&_}
 use lib.Dec.{leb}
 use borrow.Author.Needs.{needs}
-use Rattle.area_soundness.proofs.is_fitting.Statement.{statement}
-use Rattle.area_soundness.proofs.is_fitting.Tie as tie
+use Rattle.area_form.proofs.is_fitting.Statement.{statement}
+use Rattle.area_form.proofs.is_fitting.Tie as tie
 
 is-proper-requires : tie.Need-is-proper-requires
 is-proper-requires c κs = search needs
