@@ -1,6 +1,6 @@
--- The tests of the code beside the definitions: of no area, of a place in use or behind the last; and what that of all comes to where one fails, or none does.
+-- The tests of the code beside the definitions: of a place in use or behind the last; and what that of all comes to where one fails, or none does.
 use Prim.Native.Nat.{ℕ, _+_, _-_, _≤_, _<_}
-use mathlib.Core.Path.{_≡_, refl, sym, ap, _∙_}
+use mathlib.Core.Path.{_≡_, sym, ap, _∙_}
 use mathlib.Core.Bool.{Bool, true, false, not, _&&_}
 use lib.Dec.{leb, ltb, eqb}
 use lib.ListN.{length, getD}
@@ -9,20 +9,12 @@ use native.Mathlib.Omega.{arith}
 use native.Mathlib.Decide.{decLt, ℕ-discrete}
 use Rattle.basics.specs.Choice.{implies}
 use Rattle.basics.specs.Ranges.{every}
-use Rattle.basics.proofs.TestLaws.{by-cases, never, and-true, and-false, and-both, and-right, and-of, implies-of}
+use Rattle.basics.proofs.TestLaws.{by-cases, never, and-false, and-both, and-right, and-of, implies-of}
 use Rattle.basics.proofs.LoopLaws.{every-next, every-stop, every-end}
 use Rattle.areas.specs.declared.area.Area.{Area}
 use Rattle.areas.specs.declared.area.Areas.{Areas}
 use Rattle.areas.specs.Areas.{none, attributesOf}
 use Rattle.areas.specs.Formed.{goesOn, proper, isApart, isNone, placeOk, wellFormed}
-
--- the fields of no area, in another order
-pub none-order : (a b c d e : Bool) → (((a && b) && (c && e)) && d) ≡ (a && (b && (c && (d && e))))
-none-order false b c d e = refl
-none-order true false c d e = refl
-none-order true true false d e = refl
-none-order true true true true e = and-true e
-none-order true true true false e = and-false e
 
 module _ (images : ℕ) (s : Areas) where
   abbrev at : ℕ → Area

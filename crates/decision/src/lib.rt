@@ -1,6 +1,6 @@
 // The decision: the rows of "Turned back" from 4 on, in their order. No lent memory is touched here.
 // It promises: `decide` gives the number of `interface`'s one table of refusals, for any call on a sandbox with a sound record, and the areas afterwards.
-// It stands on `rows` for the tests of the rows, on `rules` for what results, and on `limits` for row 6.
+// It stands on `rows`, `page_rows` and `share_row` for the tests of the rows, on `rules` for what results, and on `limits` for row 6.
 ghost use mathlib.Core.Path.{_≡_};
 ghost use mathlib.Core.Bool.{true, false};
 ghost use Prim.Native.Nat.{_<_};
@@ -16,17 +16,17 @@ use areas::area::Areas;
 use interface::Refusal;
 use interface::Request;
 use limits::within_limits;
+use page_rows::already_mapped;
+use page_rows::no_gap;
+use page_rows::not_mapped;
+use page_rows::not_writable;
 use records::Record;
-use rows::already_mapped;
 use rows::already_open;
-use rows::no_gap;
 use rows::no_snapshot;
-use rows::not_mapped;
 use rows::not_open;
-use rows::not_writable;
-use rows::share_exceeded;
 use rows::snapshot_taken;
 use rules::packed_after;
+use share_row::share_exceeded;
 
 // Whether a request is accepted, or why it is refused.
 pub enum Verdict {

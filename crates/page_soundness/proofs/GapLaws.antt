@@ -15,9 +15,9 @@ use Rattle.areas.specs.declared.area.Areas.{Areas}
 use Rattle.areas.specs.Areas.{none, slots}
 use Rattle.areas.specs.Walk.{Formed}
 use Rattle.areas.proofs.WalkLaws.{endOf, Before, before-gap, before-last}
-use Rattle.page_soundness.specs.Parts.{entryOk}
-use Rattle.page_soundness.proofs.RestLaws.{every-over, every-not, every-alike}
-use Rattle.page_soundness.proofs.AreaLaws.{area-says}
+use Rattle.committed_pages.proofs.RestLaws.{every-over, every-not, every-alike}
+use Rattle.committed_pages.proofs.AreaLaws.{area-says}
+use Rattle.page_soundness.specs.Entries.{entryOk}
 
 module _ (s : Areas) (F : Formed s) (entry : ℕ → ℕ) where
   abbrev at : ℕ → Area

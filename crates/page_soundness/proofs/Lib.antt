@@ -1,5 +1,2 @@
-pub mod RestLaws
-pub mod AreaLaws
 pub mod GapLaws
-pub mod BackedLaws
 pub mod SplitLaws

@@ -14,8 +14,9 @@ use Rattle.table.specs.Store.{kept, frontOf, backOf}
 use Rattle.areas.specs.declared.area.Areas.{Areas}
 use Rattle.areas.specs.Areas.{slots}
 use Rattle.page_test.specs.Pages.{pageOk, pagesOk}
-use Rattle.page_soundness.specs.Parts.{entryOk, markOk, backingOk}
-use Rattle.page_soundness.proofs.RestLaws.{every-alike, every-and, and-assoc}
+use Rattle.committed_pages.specs.Parts.{markOk, backingOk}
+use Rattle.committed_pages.proofs.RestLaws.{every-alike, every-and, and-assoc}
+use Rattle.page_soundness.specs.Entries.{entryOk}
 
 page-split : (p c : Slot) (front back : ℕ) → pageOk p c front back ≡ (markOk c && (backingOk p c && (entryOk p front && entryOk c back)))
 unfolding pageOk

@@ -1,2 +1,2 @@
 -- The one file.
-pub mod Parts
+pub mod Entries

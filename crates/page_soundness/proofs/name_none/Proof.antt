@@ -10,7 +10,7 @@ use borrow.Author.Needs.{needs}
 use Rattle.basics.specs.Ranges.{every}
 use Rattle.basics.proofs.LoopLaws.{every-end}
 use Rattle.basics.proofs.TestLaws.{and-true}
-use Rattle.page_soundness.proofs.RestLaws.{every-first, and-assoc}
+use Rattle.committed_pages.proofs.RestLaws.{every-first, and-assoc}
 use Rattle.page_soundness.proofs.name_none.Statement.{statement}
 use Rattle.page_soundness.proofs.name_none.Tie as tie
 

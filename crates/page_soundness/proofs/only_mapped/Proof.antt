@@ -11,7 +11,7 @@ use Rattle.basics.specs.Ranges.{every}
 use Rattle.areas.specs.declared.area.Areas.{Areas}
 use Rattle.areas.specs.Areas.{slots}
 use Rattle.areas.proofs.WalkLaws.{Before, before-start, before-next}
-use Rattle.page_soundness.specs.Parts.{entryOk}
+use Rattle.page_soundness.specs.Entries.{entryOk}
 use Rattle.page_soundness.proofs.GapLaws.{gap-passes, gap-fails, gap-last}
 use Rattle.page_soundness.proofs.only_mapped.Statement.{statement}
 use Rattle.page_soundness.proofs.only_mapped.Tie as tie

@@ -4,7 +4,7 @@ use mathlib.Core.Bool.{true}
 use borrow.Author.Tests.{not-true, not-false}
 use Rattle.basics.specs.Ranges.{every}
 use Rattle.areas.specs.Areas.{slots}
-use Rattle.page_soundness.specs.Parts.{markOk, backingOk}
+use Rattle.committed_pages.specs.Parts.{markOk, backingOk}
 use Rattle.page_soundness.proofs.SplitLaws.{marks-fail, backing-fails, fronts-fail, backs-decide}
 use borrow.Author.Needs.{needs}
 use Rattle.page_soundness.proofs.pages_ok.Statement.{statement}

@@ -1,0 +1,3 @@
+pub mod RestLaws
+pub mod AreaLaws
+pub mod BackedLaws
