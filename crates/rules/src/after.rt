@@ -16,8 +16,8 @@ use interface::PageNo;
 use interface::Request;
 use packing::pack::Change;
 use packing::pack::Packed;
-use packing::pack::repack;
 use records::Record;
+use repacking::repack;
 
 // The areas that result, and whether they fit.
 pub fn packed_after(b: Record, q: Request) -> Packed

@@ -1,8 +1,8 @@
 -- The ends of the part, and the backing of its first page.
 use native.Mathlib.Omega.{arith}
 use borrow.Author.Needs.{needs}
-use Rattle.packing.proofs.part.part.Statement.{statement}
-use Rattle.packing.proofs.part.part.Tie as tie
+use Rattle.area_parts.proofs.part.Statement.{statement}
+use Rattle.area_parts.proofs.part.Tie as tie
 
 most-requires : tie.Need-most-requires
 most-requires c κs = search needs

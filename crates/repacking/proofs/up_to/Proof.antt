@@ -3,9 +3,9 @@ use Prim.Native.Nat.{_-_, _≤_}
 use native.Mathlib.Omega.{arith}
 use borrow.Author.Needs.{needs}
 use Rattle.areas.proofs.WalkLaws.{end-small, near-formed}
-use Rattle.packing.proofs.BeforeLaws.{Kept, kept-start, kept-eight, kept-next, kept-stop, kept-all}
-use Rattle.packing.proofs.pack.Packed.up_to.Statement.{statement}
-use Rattle.packing.proofs.pack.Packed.up_to.Tie as tie
+use Rattle.repacking.proofs.BeforeLaws.{Kept, kept-start, kept-eight, kept-next, kept-stop, kept-all}
+use Rattle.repacking.proofs.up_to.Statement.{statement}
+use Rattle.repacking.proofs.up_to.Tie as tie
 
 abbrev Inv-loop : tie.InvT-loop
 Inv-loop to areas kept₀ k₀ k-end kept k = (k ≤ areas .count) × Kept areas to k kept

@@ -19,11 +19,12 @@ use Rattle.areas.specs.Areas.{none, attributesOf, slotOf, slots}
 use Rattle.areas.specs.Walk.{Formed}
 use Rattle.areas.proofs.WalkLaws.{Before, endOf, before-start, before-gap, before-last, before-next}
 use Rattle.areas.proofs.FewAreas.{area-slot}
+use Rattle.area_parts.specs.declared.Update.{Update}
+use Rattle.area_parts.specs.declared.Update.the-variants.{Keep, Rights, Commit}
+use Rattle.area_parts.specs.Parts.{areaFrom, partOf, updatedTo, updated, updatedArea}
 use Rattle.packing.specs.declared.pack.Packed.{Packed}
-use Rattle.packing.specs.declared.part.Update.{Update}
-use Rattle.packing.specs.declared.part.Update.the-variants.{Keep, Rights, Commit}
-use Rattle.packing.specs.Parts.{packOn, Ready, areaFrom, pushArea, partOf, updatedTo, updated, updatedArea}
+use Rattle.packing.specs.ByAreas.{packOn, Ready, pushArea}
 use Rattle.packing.proofs.RunLaws.{pack-split, pack-gap, ready-on, advance-more, run, push-nothing}
 
 -- ---- pages that are not mapped, and a run behind them
 

@@ -1,21 +1,16 @@
 -- Packing by areas in place of pages: the words of the code's contracts. No claim cites them, and proofs/RunLaws says that they come to the same.
-use Prim.Native.Nat.{ℕ, zero, suc, _+_, _-_, _≤_, _<_, min, max}
+use Prim.Native.Nat.{ℕ, zero, suc, _+_, _-_, _≤_, _<_}
 use mathlib.Core.Path.{_≡_}
-use mathlib.Core.Bool.{true, false}
+use mathlib.Core.Bool.{false}
 use lib.Dec.{ltb, eqb}
 use lib.ListN.{length, set}
 use Rattle.basics.specs.Choice.{_when_else_}
-use Rattle.interface.specs.declared.page.Attributes.{Attributes}
-use Rattle.interface.specs.declared.page.Slot.{Slot}
-use Rattle.interface.specs.declared.page.Slot.the-variants.{Unmapped, Mapped}
-use Rattle.interface.specs.Slots.{Slots, advance}
+use Rattle.interface.specs.Slots.{Slots}
 use Rattle.interface.specs.Numbers.{MostAreas}
 use Rattle.areas.specs.declared.area.Area.{Area}
 use Rattle.areas.specs.declared.area.Areas.{Areas}
 use Rattle.areas.specs.Areas.{attributesOf}
 use Rattle.packing.specs.declared.pack.Packed.{Packed}
-use Rattle.packing.specs.declared.part.Update.{Update}
-use Rattle.packing.specs.declared.part.Update.the-variants.{Keep, Rights, Commit}
 use Rattle.packing.specs.Pack.{last, continues, push}
 
 -- n pages from a page on pushed from left to right
@@ -30,10 +25,6 @@ pub record Ready (b : Packed) (page : ℕ) : Type 0 where
   pub end : 0 < b .areas .count → last (b .areas) .first .0 + last (b .areas) .pages ≤ page
 
 -- ---- an area pushed
-
--- the area of n pages from this page on, the first of them with these attributes
-abbrev pub areaFrom : ℕ → ℕ → Attributes → Area
-areaFrom page n t = record { first = record { 0 = page }; pages = n; rights = t .rights; committed = t .committed; backing = t .backing }
 
 -- the area with n pages more at its end
 abbrev pub longerBy : Area → ℕ → Area
@@ -55,32 +46,3 @@ pushArea b a =
     record { areas = extendedBy (b .areas) (a .pages); fits = b .fits } when continues (b .areas) (a .first .0) (attributesOf a) else
     record { areas = placed (b .areas) a; fits = b .fits } when ltb (b .areas .count) MostAreas else
     record { areas = b .areas; fits = false }
-
--- ---- a part of an area
-
--- the part of an area between two pages: it may have no page
-abbrev pub partOf : Area → ℕ → ℕ → Area
-partOf a from to =
-    let page = max (a .first .0) from in
-    record {
-      first = record { 0 = page };
-      pages = min (a .first .0 + a .pages) to - page;
-      rights = a .rights;
-      committed = a .committed;
-      backing = advance (a .backing) (page - a .first .0);
-    }
-
--- what becomes of a mapped page
-abbrev pub updatedTo : Update → Attributes → Attributes
-updatedTo Keep t = t
-updatedTo (Rights r) t = record { rights = r; committed = t .committed; backing = t .backing }
-updatedTo Commit t = record { rights = t .rights; committed = true; backing = t .backing }
-
--- what becomes of a page
-abbrev pub updated : Update → Slot → Slot
-updated update Unmapped = Unmapped
-updated update (Mapped t) = Mapped (updatedTo update t)
-
--- what becomes of an area
-abbrev pub updatedArea : Update → Area → Area
-updatedArea update a = areaFrom (a .first .0) (a .pages) (updatedTo update (attributesOf a))

@@ -1,11 +1,11 @@
 -- The pages before the changed ones, these, and those behind them are packed one stretch behind the other.
 use native.Mathlib.Omega.{arith}
 use Rattle.areas.specs.Areas.{slots}
-use Rattle.packing.specs.Parts.{Ready}
-use Rattle.packing.proofs.RepackLaws.{ready-up-to, ready-reached, repack-all}
+use Rattle.packing.specs.ByAreas.{Ready}
+use Rattle.repacking.proofs.RepackLaws.{ready-up-to, ready-reached, repack-all}
 use borrow.Author.Needs.{needs}
-use Rattle.packing.proofs.pack.repack.Statement.{statement}
-use Rattle.packing.proofs.pack.repack.Tie as tie
+use Rattle.repacking.proofs.repack.Statement.{statement}
+use Rattle.repacking.proofs.repack.Tie as tie
 
 -- the way back from where a fact is needed to where it was learned
 abbrev at-start : tie.After-within2 → tie.Start

@@ -7,13 +7,14 @@ use Rattle.interface.specs.declared.page.Attributes.{Attributes}
 use Rattle.interface.specs.declared.page.Slot.{Slot}
 use Rattle.interface.specs.declared.page.Slot.the-variants.{Unmapped, Mapped}
 use Rattle.interface.specs.Slots.{Slots, withRights, withCommitted}
+use Rattle.area_parts.specs.declared.Update.the-variants.{Keep, Rights, Commit as Committed}
+use Rattle.area_parts.specs.Parts.{areaFrom, updated}
 use Rattle.packing.specs.declared.pack.Packed.{Packed}
 use Rattle.packing.specs.declared.pack.Change.{Change}
 use Rattle.packing.specs.declared.pack.Change.the-variants.{Map, Unmap, Protect, Commit}
-use Rattle.packing.specs.declared.part.Update.the-variants.{Keep, Rights, Commit as Committed}
 use Rattle.packing.specs.Pack.{start, pack, changeAt, changed}
-use Rattle.packing.specs.Parts.{packOn, Ready, areaFrom, pushArea, updated}
+use Rattle.packing.specs.ByAreas.{packOn, Ready, pushArea}
 use Rattle.packing.proofs.RunLaws.{pack-start, pack-split, pack-alike, pack-gap, ready-start, ready-on, run}
 
 -- ---- what becomes of a slot
 

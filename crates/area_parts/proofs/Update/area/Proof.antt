@@ -1,7 +1,7 @@
 -- By what becomes of the area: each arm is the definition of its own.
 use borrow.Author.Needs.{needs}
-use Rattle.packing.proofs.part.Update.area.Statement.{statement}
-use Rattle.packing.proofs.part.Update.area.Tie as tie
+use Rattle.area_parts.proofs.Update.area.Statement.{statement}
+use Rattle.area_parts.proofs.Update.area.Tie as tie
 
 enum-told : tie.Need-enum-told
 enum-told c = search needs

@@ -1,11 +1,14 @@
 // Parts of areas: what of an area lies from one page to another, and what becomes of it there.
+// It promises: the part of an area, an area from a page on and an area kept, given rights or committed are those of specs/Parts, of which areas are packed
+// anew in `repacking`.
+// It stands on `areas`, whose runs it cuts, and on `interface` and `slots`.
 ghost use mathlib.Core.Path.{_≡_};
 ghost use mathlib.Core.Bool.{_&&_};
 ghost use Prim.Native.Nat.{_+_, _-_, _≤_, min, max};
 ghost use lib.Dec.{ltb};
 ghost use Rattle.interface.specs.Numbers.{PageCount};
 ghost use Rattle.interface.specs.Slots.{startOf};
-ghost use Rattle.packing.specs.Parts.{areaFrom, partOf, updatedArea};
+ghost use Rattle.area_parts.specs.Parts.{areaFrom, partOf, updatedArea};
 use areas::area::Area;
 use interface::Attributes;
 use interface::PageNo;
@@ -13,7 +16,7 @@ use slots::backing_at;
 use slots::page_on;
 
 // What becomes of an area: it is kept as it is, gets rights, or becomes committed.
-pub(crate) enum Update {
+pub enum Update {
     Keep,
     Rights(u8),
     Commit,
@@ -21,7 +24,7 @@ pub(crate) enum Update {
 
 impl Update {
     // What becomes of the area.
-    pub(crate) fn area(self, area: Area) -> Area
+    pub fn area(self, area: Area) -> Area
         ensures { λ r. ⌜ r ≡ updatedArea self area ⌝ }
     {
         let first = area.first;
@@ -47,7 +50,7 @@ impl Update {
 }
 
 // Whether the area has a page from one page to another.
-pub(crate) fn reaches(area: Area, from: u8, to: u8) -> bool
+pub fn reaches(area: Area, from: u8, to: u8) -> bool
     requires { ⌜ area .first .0 + area .pages ≤ PageCount ⌝ }
     ensures { λ r. ⌜ r ≡ (ltb (area .first .0) to && ltb from (area .first .0 + area .pages)) ⌝ }
 {
@@ -55,7 +58,7 @@ pub(crate) fn reaches(area: Area, from: u8, to: u8) -> bool
 }
 
 // The part of an area from one page to another; it may have no page.
-pub(crate) fn part(area: Area, from: u8, to: u8) -> Area
+pub fn part(area: Area, from: u8, to: u8) -> Area
     requires { ⌜ startOf (area .backing) ≤ PageCount ⌝ }
     requires { ⌜ area .first .0 + area .pages ≤ PageCount ⌝ }
     requires { ⌜ from ≤ PageCount ⌝ }
@@ -75,7 +78,7 @@ pub(crate) fn part(area: Area, from: u8, to: u8) -> Area
 }
 
 // The area of so many pages from this page on, the first of them with these attributes.
-pub(crate) fn area_from(page: u8, pages: u8, t: Attributes) -> Area
+pub fn area_from(page: u8, pages: u8, t: Attributes) -> Area
     ensures { λ r. ⌜ r ≡ areaFrom page pages t ⌝ }
 {
     let backing = t.backing;
@@ -89,7 +92,7 @@ pub(crate) fn area_from(page: u8, pages: u8, t: Attributes) -> Area
 }
 
 // The page, or 64 where it lies behind the last.
-pub(crate) fn within(page: usize) -> u8
+pub fn within(page: usize) -> u8
     ensures { λ r. ⌜ r ≡ min page PageCount ⌝ }
 {
     if page < PageNo::COUNT {

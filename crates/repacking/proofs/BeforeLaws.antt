@@ -14,12 +14,13 @@ use Rattle.areas.specs.Areas.{none, empty, attributesOf, slots}
 use Rattle.areas.specs.Walk.{Formed}
 use Rattle.areas.proofs.SlotLaws.{advance-zero}
 use Rattle.areas.proofs.WalkLaws.{endOf, order}
+use Rattle.area_parts.specs.declared.Update.the-variants.{Keep}
+use Rattle.area_parts.specs.Parts.{partOf, updated}
 use Rattle.packing.specs.declared.pack.Packed.{Packed}
-use Rattle.packing.specs.declared.part.Update.the-variants.{Keep}
 use Rattle.packing.specs.Pack.{start, last, continues}
-use Rattle.packing.specs.Parts.{packOn, placed, pushArea, partOf, updated}
+use Rattle.packing.specs.ByAreas.{packOn, placed, pushArea}
 use Rattle.packing.proofs.RunLaws.{ready-start, ready-on, push-places}
-use Rattle.packing.proofs.PartLaws.{Parts, parts-start, parts-more, parts-stop, parts-all}
+use Rattle.repacking.proofs.PartLaws.{Parts, parts-start, parts-more, parts-stop, parts-all}
 
 -- ---- the part of an area before a page
 

@@ -6,10 +6,11 @@ use native.Mathlib.Omega.{arith}
 use borrow.Author.Needs.{needs}
 use Rattle.areas.specs.Areas.{slots}
 use Rattle.areas.proofs.WalkLaws.{end-small, near-formed}
-use Rattle.packing.specs.Parts.{pushArea, updated, updatedArea}
-use Rattle.packing.proofs.PartLaws.{Parts, parts-start, parts-few, parts-next, parts-all}
-use Rattle.packing.proofs.pack.Packed.with_parts.Statement.{statement}
-use Rattle.packing.proofs.pack.Packed.with_parts.Tie as tie
+use Rattle.area_parts.specs.Parts.{updated, updatedArea}
+use Rattle.packing.specs.ByAreas.{pushArea}
+use Rattle.repacking.proofs.PartLaws.{Parts, parts-start, parts-few, parts-next, parts-all}
+use Rattle.repacking.proofs.with_parts.Statement.{statement}
+use Rattle.repacking.proofs.with_parts.Tie as tie
 
 abbrev Inv-loop : tie.InvT-loop
 Inv-loop from to update areas packed₀ k₀ k-end packed k =
@@ -21,7 +22,7 @@ abbrev μ-loop : tie.MeasureT-loop
 loop-holds : tie.Need-loop-holds Inv-loop μ-loop
 loop-holds c = (
   omega arith,
-  parts-start (c .args .t2) (c .pre .0) (c .args .update) (c .args .self) (c .args .from) (c .args .to) (c .pre .1 .1 .0) (c .pre .1 .0),
+  parts-start (c .args .t2) (c .pre .0) (c .args .update) (c .args .before) (c .args .from) (c .args .to) (c .pre .1 .1 .0) (c .pre .1 .0),
 )
 
 cast-area : tie.Need-cast-area Inv-loop μ-loop
@@ -56,7 +57,7 @@ with-area-requires : tie.Need-with-area-requires Inv-loop μ-loop
 with-area-requires c κs =
     let s = start-of-area (c .before .before .before .before) in
     let l = loop-of-area (c .before .before .before .before) .loop in (
-      parts-few (s .args .t2) (s .pre .0) (s .args .update) (s .args .self) (s .args .from) (s .args .to) (s .pre .1 .1 .0) (s .pre .1 .0) (l .k) (l .packed)
+      parts-few (s .args .t2) (s .pre .0) (s .args .update) (s .args .before) (s .args .from) (s .args .to) (s .pre .1 .1 .0) (s .pre .1 .0) (l .k) (l .packed)
           (l .inv .1),
       rw (c .area2 .ensures, c .before .part .ensures) (omega (arith, end-small (s .args .t2) (s .pre .0) (l .k))),
     )
@@ -72,7 +73,7 @@ loop-again c =
     let s = start-of-area (c .before .before) in
     let l = loop-of-area (c .before .before) .loop in (
       omega arith,
-      parts-next (s .args .t2) (s .pre .0) (s .args .update) (s .args .self) (s .args .from) (s .args .to) (s .pre .1 .1 .0) (s .pre .1 .0) (l .k) (l .packed)
+      parts-next (s .args .t2) (s .pre .0) (s .args .update) (s .args .before) (s .args .from) (s .args .to) (s .pre .1 .1 .0) (s .pre .1 .0) (l .k) (l .packed)
           (l .inv .1) (c .before .before .before .loop-test .taken) (c .before .reaches .result) (c .if1 .packed) (c .before .reaches .ensures)
           (⊎-elim
           (λ w. inl (w .0 .taken, w .4 ∙ w .3 .ensures ∙ ap (pushArea (l .packed)) (w .2 .ensures ∙ ap (updatedArea (s .args .update)) (w .1 .ensures))))
@@ -83,7 +84,7 @@ returns : tie.Need-returns Inv-loop μ-loop
 returns c =
     let s = c .before .before in
     let l = c .before .loop in
-    parts-all (s .args .t2) (s .pre .0) (s .args .update) (s .args .self) (s .args .from) (s .args .to) (s .pre .1 .1 .0) (s .pre .1 .0) (l .k) (l .packed)
+    parts-all (s .args .t2) (s .pre .0) (s .args .update) (s .args .before) (s .args .from) (s .args .to) (s .pre .1 .1 .0) (s .pre .1 .0) (l .k) (l .packed)
     (l .inv .1) (omega arith)
 
 pub with-parts-spec : {M : Type 1} → statement M
