@@ -1,6 +1,6 @@
 // The rows of "Turned back" from 4 on, as tests: each says of a sandbox's record whether the row of the one table applies.
 // It promises: each test is its row's condition in `interface`'s one table of refusals. No lent memory is touched here.
-// It stands on `records` for the record, on `areas` for the pages, and on `rules` for what a request within its limits is.
+// It stands on `records` for the record, on `areas`, `area_counts` and `area_gaps` for the pages, and on `rules` for what a request within its limits is.
 ghost use mathlib.Core.Path.{_≡_};
 ghost use mathlib.Core.Bool.{true};
 ghost use Prim.Native.Nat.{ℕ, _<_};
@@ -14,6 +14,9 @@ ghost use Rattle.areas.specs.Areas.{slots, Near};
 ghost use Rattle.areas.specs.Walk.{Formed};
 ghost use Rattle.records.specs.Record.{copyOf, viewFrom};
 ghost use Rattle.rules.specs.Ready.{Fit, Ready, Passed};
+use area_counts::all_are;
+use area_counts::mapped_pages;
+use area_gaps::lowest_gap;
 use areas::area::Areas;
 use interface::Attributes;
 use interface::PageNo;
@@ -59,7 +62,7 @@ pub fn not_mapped(present: Areas, q: Request) -> bool
 {
     let code = q.code;
     if code == Request::PROTECT {
-        return !present.all_are(true, PageNo(q.p1 as u8), q.p2 as u8);
+        return !all_are(present, true, PageNo(q.p1 as u8), q.p2 as u8);
     }
     if (code == Request::READ) | (code == Request::WRITE) {
         return !is_mapped(present.slot(page_of(q)));
@@ -76,7 +79,7 @@ pub fn already_mapped(present: Areas, q: Request) -> bool
     if (q.code != Request::MAP) | (q.p1 == Request::ANY_PAGE) {
         return false;
     }
-    !present.all_are(false, PageNo(q.p1 as u8), q.p2 as u8)
+    !all_are(present, false, PageNo(q.p1 as u8), q.p2 as u8)
 }
 
 // Row 11: "map at 64 and no run of p2 unmapped pages exists".
@@ -88,7 +91,7 @@ pub fn no_gap(present: Areas, q: Request) -> bool
     if (q.code != Request::MAP) | (q.p1 != Request::ANY_PAGE) {
         return false;
     }
-    present.lowest_gap(q.p2 as u8) == Areas::PAGES
+    lowest_gap(present, q.p2 as u8) == Areas::PAGES
 }
 
 // Row 12: "write without the write right".
@@ -124,7 +127,7 @@ pub fn share_exceeded(b: Record, frames: u8, shares: u16, q: Request) -> bool
         Request::MAP => (b.share as u32) < b.charge() as u32 + q.p2 as u32,
         Request::SNAPSHOT => {
             let present = b.present;
-            (b.share as u32) < 2 * present.mapped_pages() as u32
+            (b.share as u32) < 2 * mapped_pages(present) as u32
         }
         _ => false,
     }
