@@ -40,7 +40,8 @@ returns : tie.Need-returns
 returns c =
     let s = c .before .before .before .before .before in
     change-map (s .args .before) (slots (s .args .areas)) (s .args .from) (s .args .to - s .args .from) (s .args .change) (s .pre .1 .0) _
-    (c .before .before .before .change .given .1) (c .with-area .result) (c .with-area .ensures ∙ ap (pushArea (s .args .before)) (c .before .area-from .ensures))
+    (c .before .before .before .change .given .1) (c .with-area .result)
+    (c .with-area .ensures ∙ ap (pushArea (s .args .before)) (c .before .area-from .ensures))
 
 returns-2 : tie.Need-returns-2
 returns-2 c =
