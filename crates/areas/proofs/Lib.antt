@@ -2,9 +2,6 @@ pub mod SlotLaws
 pub mod FormedLaws
 pub mod OrderLaws
 pub mod WalkLaws
-pub mod CountedLaws
-pub mod MappedLaws
-pub mod GapLaws
 pub mod FewAreas
 pub mod ToldLaws
 pub mod StartLaws

@@ -1,7 +1,7 @@
 -- What stands at each page of a sandbox, as its areas say it.
 use Prim.Native.Nat.{ℕ, _-_, _≤_, _<_}
 use mathlib.Core.Path.{_≡_}
-use mathlib.Core.Bool.{Bool, true, false}
+use mathlib.Core.Bool.{Bool, false}
 use mathlib.Core.List.{List, [], _∷_}
 use lib.ListN.{getD, replicate}
 use Rattle.basics.specs.Choice.{_when_else_}
@@ -11,7 +11,7 @@ use Rattle.interface.specs.declared.page.Backing.the-variants.{Anonymous}
 use Rattle.interface.specs.declared.page.Attributes.{Attributes}
 use Rattle.interface.specs.declared.page.Slot.{Slot}
 use Rattle.interface.specs.declared.page.Slot.the-variants.{Unmapped}
-use Rattle.interface.specs.Slots.{Slots, isMapped, isUncommitted, startOf}
+use Rattle.interface.specs.Slots.{Slots, startOf}
 use Rattle.interface.specs.Outcome.{pageOn}
 use Rattle.areas.specs.declared.area.Area.{Area}
 use Rattle.areas.specs.declared.area.Areas.{Areas}
@@ -52,8 +52,3 @@ Bounded f = (page : ℕ) → 64 ≤ page → f page ≡ Unmapped
 -- every area's first image page is at most 64, so that the image page of each of 64 pages is a byte
 pub record Near (l : List Area) : Type 0 where
   pub at : (k : ℕ) → k < 8 → startOf (getD l k none .backing) ≤ 64
-
--- whether a page counts: it is mapped, and not committed unless those count too
-abbrev pub counts : Bool → Slot → Bool
-counts true s = isMapped s
-counts false s = isUncommitted s

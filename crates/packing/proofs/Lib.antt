@@ -1,8 +1,5 @@
 pub mod PushLaws
 pub mod RunLaws
-pub mod PartLaws
-pub mod BeforeLaws
-pub mod RepackLaws
 pub mod PackLaws
 pub mod KeptLaws
 pub mod ChangeLaws

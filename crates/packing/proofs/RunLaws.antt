@@ -21,9 +21,10 @@ use Rattle.areas.specs.Areas.{none, attributesOf}
 use Rattle.areas.specs.Formed.{goesOn}
 use Rattle.areas.proofs.SlotLaws.{advance-zero}
 use Rattle.areas.proofs.ToldLaws.{follows-advance}
+use Rattle.area_parts.specs.Parts.{areaFrom}
 use Rattle.packing.specs.declared.pack.Packed.{Packed}
 use Rattle.packing.specs.Pack.{start, single, longer, last, continues, extended, push, packTo}
-use Rattle.packing.specs.Parts.{packOn, Ready, areaFrom, longerBy, extendedBy, placed, pushArea}
+use Rattle.packing.specs.ByAreas.{packOn, Ready, longerBy, extendedBy, placed, pushArea}
 use Rattle.packing.proofs.PushLaws.{GoesOn, continues-some, continues-last, push-cases}
 
 -- ---- stretches of pages

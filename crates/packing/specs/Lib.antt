@@ -1,4 +1,4 @@
 -- In reading order.
 pub mod Pack
 pub mod Order
-pub mod Parts
+pub mod ByAreas

@@ -1,12 +1,14 @@
 // The rows of "Turned back" that look at the mapped pages of a sandbox, as tests: 9 to 12.
 // It promises: each test is its row's condition in `interface`'s one table of refusals. No lent memory is touched here.
-// It stands on `areas` for the pages, on `rules` for what a request within its limits is, and on `rows` for the page that an address names.
+// It stands on `areas`, `area_counts` and `area_gaps` for the pages, on `rules` for what a request within its limits is, and on `rows` for the page that an address names.
 ghost use mathlib.Core.Path.{_≡_};
 ghost use Rattle.interface.specs.declared.answer.Refusal.the-variants.{NotMapped, AlreadyMapped, NoGap, NotWritable};
 ghost use Rattle.interface.specs.Refusals.{View, applies};
 ghost use Rattle.areas.specs.Areas.{slots, Near};
 ghost use Rattle.areas.specs.Walk.{Formed};
 ghost use Rattle.rules.specs.Ready.{Fit};
+use area_counts::all_are;
+use area_gaps::lowest_gap;
 use areas::area::Areas;
 use interface::Attributes;
 use interface::PageNo;
@@ -23,7 +25,7 @@ pub fn not_mapped(present: Areas, q: Request) -> bool
 {
     let code = q.code;
     if code == Request::PROTECT {
-        return !present.all_are(true, PageNo(q.p1 as u8), q.p2 as u8);
+        return !all_are(present, true, PageNo(q.p1 as u8), q.p2 as u8);
     }
     if (code == Request::READ) | (code == Request::WRITE) {
         return !is_mapped(present.slot(page_of(q)));
@@ -40,7 +42,7 @@ pub fn already_mapped(present: Areas, q: Request) -> bool
     if (q.code != Request::MAP) | (q.p1 == Request::ANY_PAGE) {
         return false;
     }
-    !present.all_are(false, PageNo(q.p1 as u8), q.p2 as u8)
+    !all_are(present, false, PageNo(q.p1 as u8), q.p2 as u8)
 }
 
 // Row 11: "map at 64 and no run of p2 unmapped pages exists".
@@ -52,7 +54,7 @@ pub fn no_gap(present: Areas, q: Request) -> bool
     if (q.code != Request::MAP) | (q.p1 != Request::ANY_PAGE) {
         return false;
     }
-    present.lowest_gap(q.p2 as u8) == Areas::PAGES
+    lowest_gap(present, q.p2 as u8) == Areas::PAGES
 }
 
 // Row 12: "write without the write right".

@@ -1,13 +1,15 @@
 // A sandbox's record: whether it is open, its share, its areas, and the snapshot's areas. Whatever a machine does with frames, it keeps this for a sandbox, and
 // refusals and areas are decided from it alone.
 // It promises: the charge, computed; what a sound record is (specs/Sound), and that what refusals are decided from is settled of one (proofs/SettledLaws).
-// It stands on `areas` for the mappings.
+// It stands on `areas` for the mappings, and on `area_counts` for the pages that are charged.
 ghost use mathlib.Core.Path.{_≡_};
 ghost use Rattle.interface.specs.Slots.{chargeOf};
 ghost use Rattle.areas.specs.Areas.{slots};
 ghost use Rattle.areas.specs.Walk.{Formed};
 ghost use Rattle.records.specs.Record.{closedRecord, copyOf};
 ghost use Rattle.records.specs.Record.{withOpened, withShare, withPresent, withTaken, withSnapshot};
+use area_counts::mapped_pages;
+use area_counts::uncommitted_pages;
 use areas::area::Areas;
 use interface::Request;
 
@@ -92,8 +94,8 @@ impl Record {
         let present = self.present;
         let snapshot = self.snapshot;
         if !self.taken {
-            return present.mapped_pages();
+            return mapped_pages(present);
         }
-        Record::FRAMES_A_COPY * snapshot.mapped_pages() + present.uncommitted_pages()
+        Record::FRAMES_A_COPY * mapped_pages(snapshot) + uncommitted_pages(present)
     }
 }

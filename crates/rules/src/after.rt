@@ -8,6 +8,7 @@ ghost use Rattle.areas.specs.Areas.{slots};
 ghost use Rattle.areas.specs.Walk.{Formed};
 ghost use Rattle.rules.specs.After.{packedAfter, takenAfter, snapshotAfter, recordWith};
 ghost use Rattle.rules.specs.Ready.{Fit, Ready};
+use area_gaps::lowest_gap;
 use areas::area::Areas;
 use interface::Attributes;
 use interface::Backing;
@@ -16,8 +17,8 @@ use interface::PageNo;
 use interface::Request;
 use packing::pack::Change;
 use packing::pack::Packed;
-use packing::pack::repack;
 use records::Record;
+use repacking::repack;
 
 // The areas that result, and whether they fit.
 pub fn packed_after(b: Record, q: Request) -> Packed
@@ -64,7 +65,7 @@ pub fn first_of(present: Areas, q: Request) -> u8
     ensures { λ r. ⌜ r ≡ firstOf (slots present) q ⌝ }
 {
     if q.p1 == Request::ANY_PAGE {
-        return present.lowest_gap(q.p2 as u8);
+        return lowest_gap(present, q.p2 as u8);
     }
     q.p1 as u8
 }

@@ -8,6 +8,7 @@ ghost use Rattle.interface.specs.declared.answer.Refusal.the-variants.{ShareExc
 ghost use Rattle.interface.specs.Refusals.{applies};
 ghost use Rattle.records.specs.Record.{viewFrom};
 ghost use Rattle.rules.specs.Ready.{Ready, Passed};
+use area_counts::mapped_pages;
 use interface::Request;
 use records::Record;
 
@@ -24,7 +25,7 @@ pub fn share_exceeded(b: Record, frames: u8, shares: u16, q: Request) -> bool
         Request::MAP => (b.share as u32) < b.charge() as u32 + q.p2 as u32,
         Request::SNAPSHOT => {
             let present = b.present;
-            (b.share as u32) < 2 * present.mapped_pages() as u32
+            (b.share as u32) < 2 * mapped_pages(present) as u32
         }
         _ => false,
     }

@@ -1,6 +1,7 @@
 // The value of an accepted request, computed.
 // It promises: the value is the one stated in memory/specs/Memory (`valueAt`). Nothing is changed.
-// It stands on `memory` for the definition and its laws, on `content` for what is read and compared, and on `marks` for the frames that are counted.
+// It stands on `memory` for the definition and its laws, on `content` for what is read and compared, and on `area_counts` and `marks` for the pages and frames
+// that are counted.
 ghost use mathlib.Core.Path.{_≡_};
 ghost use Prim.Native.Nat.{_≤_, _<_};
 ghost use lib.ListN.{length};
@@ -9,6 +10,7 @@ ghost use Rattle.frames.specs.declared.Held.{Held as Words};
 ghost use Rattle.table.specs.Store.{kept, Ranged};
 ghost use Rattle.rules.specs.Ready.{Fit, Ready};
 ghost use Rattle.memory.specs.Memory.{valueAt};
+use area_counts::mapped_pages;
 use content::read;
 use difference::lowest_difference;
 use interface::Request;
@@ -33,7 +35,7 @@ pub fn value_of(pool: &[u8], table: &[u16], image: &[u8], b: Sandbox, q: Request
     match code {
         Request::MAP => first_of(present, q) as u32,
         Request::READ => read(pool, table, image, rec, q) as u32,
-        Request::SNAPSHOT => present.mapped_pages() as u32,
+        Request::SNAPSHOT => mapped_pages(present) as u32,
         Request::REPORT => {
             let runs = b.runs;
             let frames = (pool.len() / Page::SIZE) as u8;

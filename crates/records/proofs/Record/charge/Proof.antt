@@ -9,8 +9,8 @@ use Rattle.records.proofs.Record.charge.Statement.{statement}
 use Rattle.records.proofs.Record.charge.Tie as tie
 use Rattle.records.proofs.Record.charge.Reads as reads
 use Rattle.records.proofs.Record.charge.Lts as lts
-use Rattle.areas.proofs.area.Areas.mapped_pages.Reads as mapped-pages-reads
-use Rattle.areas.proofs.area.Areas.uncommitted_pages.Reads as uncommitted-pages-reads
+use Rattle.area_counts.proofs.mapped_pages.Reads as mapped-pages-reads
+use Rattle.area_counts.proofs.uncommitted_pages.Reads as uncommitted-pages-reads
 
 mapped-pages-requires : tie.Need-mapped-pages-requires
 mapped-pages-requires c κs = search needs

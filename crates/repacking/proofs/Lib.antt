@@ -1,0 +1,4 @@
+-- In reading order.
+pub mod PartLaws
+pub mod BeforeLaws
+pub mod RepackLaws
