@@ -17,21 +17,14 @@ ghost use Rattle.step.specs.Acted.{worldFrom, Stands, putBack};
 use decision::Verdict;
 use decision::decide;
 use effects::store_after;
-use frames::Held;
 use interface::Answer;
 use interface::PageNo;
 use interface::Request;
 use rules::record_after;
 use state::sandbox::Sandbox;
+use step::Acted;
 use totals::Together;
 use values::value_of;
-
-// What a call leaves and answers: the sandbox, the marks of the frames that entries name, and the answer.
-pub struct Acted {
-    pub sandbox: Sandbox,
-    pub held: Held,
-    pub answer: Answer,
-}
 
 // A call on a sandbox of a sound state. An accepted one has its value worked out first, then the store and the runs, then the sandbox's record.
 pub fn act(

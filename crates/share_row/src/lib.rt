@@ -1,6 +1,6 @@
 // Row 13 of "Turned back" as a test: whether the shares would exceed the pool, or the charge the share.
 // It promises: the test is the row's condition in `interface`'s one table of refusals. No lent memory is touched here.
-// It stands on `records` for the record and its charge, on `areas` for the pages counted, and on `rules` for what the rows before it have let pass.
+// It stands on `records` for the record and its charge, on `area_counts` for the pages counted, and on `rules` for what the rows before it have let pass.
 ghost use mathlib.Core.Path.{_≡_};
 ghost use mathlib.Core.Bool.{true};
 ghost use Prim.Native.Nat.{ℕ};
