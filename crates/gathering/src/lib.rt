@@ -1,7 +1,7 @@
 // The runs that a rewind makes (A3), worked out area by area from the table before the rewind.
 // It promises: the runs are those that the definition gathers page by page (`rowRewound`); nothing is done for committed and image areas,
 // so that the work goes with the pages of the uncommitted anonymous ones.
-// It stands on `areas` for the areas, on `table` for the fronts, on `runs` for the competition of runs, and on `kept` for the definition.
+// It stands on `areas` for the areas, on `table` for the fronts, on `run_push` for the competition of runs, and on `kept` for the definition.
 ghost use mathlib.Core.Path.{_≡_};
 ghost use mathlib.Core.List.{List};
 ghost use Prim.Native.Nat.{ℕ, _+_, _≤_, _<_};
@@ -20,6 +20,7 @@ use areas::area::Area;
 use areas::area::Areas;
 use frames::Held;
 use interface::PageNo;
+use run_push::push;
 use runs::Runs;
 use slots::is_anonymous;
 use table::entry::GROUP;
@@ -58,7 +59,7 @@ fn push_area(table: &[u16], area: Area, runs: Runs, sandbox: u8) -> Runs
         return runs;
     }
     let run = fronts(table, sandbox, area.first, area.pages);
-    runs.push(run)
+    push(runs, run)
 }
 
 // Whether the area is uncommitted and anonymous.

@@ -1,9 +1,9 @@
 -- The longest run is the best by its rule.
 use borrow.Author.Needs.{needs}
 use Rattle.run_choice.specs.Runs.{longestRun}
-use Rattle.runs.specs.Row.{betterBy}
-use Rattle.runs.proofs.Runs.longest.Statement.{statement}
-use Rattle.runs.proofs.Runs.longest.Tie as tie
+use Rattle.run_search.specs.Search.{betterBy}
+use Rattle.run_search.proofs.longest.Statement.{statement}
+use Rattle.run_search.proofs.longest.Tie as tie
 
 best-requires : tie.Need-best-requires
 best-requires c κs = search needs

@@ -1,7 +1,7 @@
 -- Which of the two it is, by the test of their lengths.
 use borrow.Author.Needs.{needs}
-use Rattle.runs.proofs.Choice.or_better.Statement.{statement}
-use Rattle.runs.proofs.Choice.or_better.Tie as tie
+use Rattle.run_search.proofs.Choice.or_better.Statement.{statement}
+use Rattle.run_search.proofs.Choice.or_better.Tie as tie
 
 is-better-requires : tie.Need-is-better-requires
 is-better-requires c κs = search needs

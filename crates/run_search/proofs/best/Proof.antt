@@ -4,16 +4,17 @@ use Prim.Native.Nat.{_≤_, _-_}
 use native.Mathlib.Omega.{arith}
 use borrow.Author.Needs.{needs}
 use Rattle.basics.specs.Rows.{best}
-use Rattle.runs.specs.Row.{lengthsOf, betterBy}
-use Rattle.runs.proofs.RowLaws.{BestOf, best-first, best-more}
-use Rattle.runs.proofs.Runs.best.Statement.{statement}
-use Rattle.runs.proofs.Runs.best.Tie as tie
+use Rattle.runs.specs.Row.{lengthsOf}
+use Rattle.run_search.specs.Search.{betterBy}
+use Rattle.run_search.proofs.SearchLaws.{BestOf, best-first, best-more}
+use Rattle.run_search.proofs.best.Statement.{statement}
+use Rattle.run_search.proofs.best.Tie as tie
 
 abbrev Inv-loop : tie.InvT-loop
-Inv-loop rule self found₀ i₀ found i = (i ≤ 8) × BestOf (betterBy rule) (lengthsOf self) i found
+Inv-loop rule runs found₀ i₀ found i = (i ≤ 8) × BestOf (betterBy rule) (lengthsOf runs) i found
 
 abbrev μ-loop : tie.MeasureT-loop
-μ-loop rule self found₀ i₀ found i = 8 - i
+μ-loop rule runs found₀ i₀ found i = 8 - i
 
 element-copy-out-first : tie.Need-element-copy-out-first Inv-loop μ-loop
 element-copy-out-first c = search needs

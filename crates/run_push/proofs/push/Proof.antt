@@ -1,9 +1,10 @@
 -- A law for each way out: no frame, an empty last place, no longer than the shortest, or in its place.
 use mathlib.Core.Path.{sym, _∙_}
 use borrow.Author.Needs.{needs}
-use Rattle.runs.proofs.RowLaws.{pushed-empty, push-last, push-stays, push-moves}
-use Rattle.runs.proofs.Runs.push.Statement.{statement}
-use Rattle.runs.proofs.Runs.push.Tie as tie
+use Rattle.runs.proofs.RowLaws.{pushed-empty}
+use Rattle.run_push.proofs.PushLaws.{push-last, push-stays, push-moves}
+use Rattle.run_push.proofs.push.Statement.{statement}
+use Rattle.run_push.proofs.push.Tie as tie
 
 -- the way back from where a fact is needed to where it was learned
 abbrev count-of-empty : tie.After-is-empty → tie.After-count

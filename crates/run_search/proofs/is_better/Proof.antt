@@ -1,9 +1,9 @@
 -- Each rule's test is the one that the definition has for it.
 use mathlib.Core.Path.{_∙_}
 use borrow.Author.Needs.{needs}
-use Rattle.runs.specs.Row.{betterBy}
-use Rattle.runs.proofs.is_better.Statement.{statement}
-use Rattle.runs.proofs.is_better.Tie as tie
+use Rattle.run_search.specs.Search.{betterBy}
+use Rattle.run_search.proofs.is_better.Statement.{statement}
+use Rattle.run_search.proofs.is_better.Tie as tie
 
 enum-told : tie.Need-enum-told
 enum-told c = search needs

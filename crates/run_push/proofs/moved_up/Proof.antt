@@ -3,10 +3,10 @@ use mathlib.Core.Path.{_≡_, ap, _∙_}
 use Prim.Native.Nat.{_≤_, _-_}
 use native.Mathlib.Omega.{arith}
 use borrow.Author.Needs.{needs}
 use Rattle.runs.specs.Row.{withRunAt, shiftTo, movedRuns}
-use Rattle.runs.proofs.RowLaws.{shift-more}
-use Rattle.runs.proofs.Runs.moved_up.Statement.{statement}
-use Rattle.runs.proofs.Runs.moved_up.Tie as tie
+use Rattle.run_push.proofs.PushLaws.{shift-more}
+use Rattle.run_push.proofs.moved_up.Statement.{statement}
+use Rattle.run_push.proofs.moved_up.Tie as tie
 
 abbrev Inv-loop : tie.InvT-loop
 Inv-loop place run r₀ i₀ r i = (place ≤ i) × (i ≤ 7) × (r ≡ shiftTo place r₀ (i - place))
@@ -46,7 +46,7 @@ loop-again c =
     let a = start-of-with c .args in (
       omega (arith, l .inv .0),
       omega (arith, c .before .before .loop-test .taken),
-      shift-more (a .place) (a .self) (l .i) (l .r) _ _ (l .inv .0) (l .inv .2) (c .before .at .ensures) (c .with .ensures),
+      shift-more (a .place) (a .runs) (l .i) (l .r) _ _ (l .inv .0) (l .inv .2) (c .before .at .ensures) (c .with .ensures),
     )
 
 with-requires-2 : tie.Need-with-requires-2 Inv-loop μ-loop
@@ -61,7 +61,7 @@ returns c =
     let l = c .before .before .loop in
     let a = start-of-with2 c .args in
     let end : l .i - a .place ≡ 7 - a .place = omega (arith, l .inv .0, l .inv .1, c .before .loop-test .left) in
-    c .with2 .ensures ∙ ap (withRunAt 7 (a .run)) (l .inv .2 ∙ ap (shiftTo (a .place) (a .self)) end)
+    c .with2 .ensures ∙ ap (withRunAt 7 (a .run)) (l .inv .2 ∙ ap (shiftTo (a .place) (a .runs)) end)
 
 pub moved-up-spec : {M : Type 1} → statement M
 moved-up-spec = tie.close (tie.spec Inv-loop μ-loop loop-holds add-at at-requires with-requires add-i loop-less loop-again with-requires-2 returns)

@@ -1,8 +1,8 @@
 -- The shortest run is the best by its rule.
 use borrow.Author.Needs.{needs}
-use Rattle.runs.specs.Row.{betterBy}
-use Rattle.runs.proofs.Runs.shortest.Statement.{statement}
-use Rattle.runs.proofs.Runs.shortest.Tie as tie
+use Rattle.run_search.specs.Search.{betterBy}
+use Rattle.run_search.proofs.shortest.Statement.{statement}
+use Rattle.run_search.proofs.shortest.Tie as tie
 
 best-requires : tie.Need-best-requires
 best-requires c κs = search needs

@@ -1,8 +1,8 @@
 -- The test by cases: long enough for the pages, or not.
 use mathlib.Core.Path.{sym}
 use borrow.Author.Tests.{le-leb, lt-leb}
-use Rattle.runs.proofs.is_fitter.Statement.{statement}
-use Rattle.runs.proofs.is_fitter.Tie as tie
+use Rattle.run_search.proofs.is_fitter.Statement.{statement}
+use Rattle.run_search.proofs.is_fitter.Tie as tie
 
 returns : tie.Need-returns
 returns c = sym (rw (le-leb (c .before .args .pages) (c .before .args .new) (c .if1 .taken)))
