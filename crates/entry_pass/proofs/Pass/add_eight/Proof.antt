@@ -3,12 +3,12 @@ use mathlib.Core.Path.{_≡_, refl, ap, _∙_}
 use Prim.Native.Nat.{_+_, _≤_, _-_}
 use native.Mathlib.Omega.{arith}
 use borrow.Author.Needs.{needs}
-use Rattle.marks.specs.declared.Pass.{Pass}
+use Rattle.entry_pass.specs.declared.Pass.{Pass}
 use Rattle.marks.specs.Marks.{from}
-use Rattle.marks.specs.Pass.{passTo}
-use Rattle.marks.proofs.PassLaws.{pass-more, pass-small}
-use Rattle.marks.proofs.Pass.add_eight.Statement.{statement}
-use Rattle.marks.proofs.Pass.add_eight.Tie as tie
+use Rattle.entry_pass.specs.Pass.{passTo}
+use Rattle.entry_pass.proofs.PassLaws.{pass-more, pass-small}
+use Rattle.entry_pass.proofs.Pass.add_eight.Statement.{statement}
+use Rattle.entry_pass.proofs.Pass.add_eight.Tie as tie
 
 abbrev Inv-loop : tie.InvT-loop
 Inv-loop table first i frames found₀ j₀ j-end found j = (i ≤ j) × (j ≤ i + 8) × (j-end ≡ i + 8) × (found ≡ passTo frames (from first table) j)

@@ -7,12 +7,12 @@ use native.Mathlib.Omega.{arith}
 use mathlib.Core.Logic.{⊎-elim}
 use borrow.Author.Needs.{needs}
 use borrow.Author.Tests.{not-false}
-use Rattle.marks.specs.declared.Pass.{Pass}
+use Rattle.entry_pass.specs.declared.Pass.{Pass}
 use Rattle.marks.specs.Marks.{marksTo, from}
-use Rattle.marks.specs.Pass.{passTo}
-use Rattle.marks.proofs.PassLaws.{pass-more, pass-none, pass-small, pass-marks, found as foundBy, eight-none}
-use Rattle.marks.proofs.marks_of.Statement.{statement}
-use Rattle.marks.proofs.marks_of.Tie as tie
+use Rattle.entry_pass.specs.Pass.{passTo}
+use Rattle.entry_pass.proofs.PassLaws.{pass-more, pass-none, pass-small, pass-marks, found as foundBy, eight-none}
+use Rattle.entry_pass.proofs.marks_of.Statement.{statement}
+use Rattle.entry_pass.proofs.marks_of.Tie as tie
 
 abbrev Inv-loop : tie.InvT-loop
 Inv-loop table first entries frames found₀ i₀ found i = (i ≤ entries) × (found ≡ passTo frames (from first table) i)

@@ -4,7 +4,7 @@ use Prim.Native.Nat.{ℕ, zero, suc, _+_, _-_}
 use lib.Dec.{eqb, ltb}
 use Rattle.basics.specs.Choice.{_when_else_}
 use Rattle.frames.specs.Frames.{mark, noneHeld}
-use Rattle.marks.specs.declared.Pass.{Pass}
+use Rattle.entry_pass.specs.declared.Pass.{Pass}
 
 -- one more entry e, for a pool of n frames: it names none, or a frame past the pool, or a frame of it
 unfoldable pub passEntry : ℕ → Pass → ℕ → Pass

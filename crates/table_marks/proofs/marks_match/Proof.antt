@@ -1,8 +1,8 @@
 -- The pass over the whole table is good, and its marks are those held.
 use borrow.Author.Needs.{needs}
 use Rattle.marks.specs.Marks.{marksb}
-use Rattle.marks.proofs.marks_match.Statement.{statement}
-use Rattle.marks.proofs.marks_match.Tie as tie
+use Rattle.table_marks.proofs.marks_match.Statement.{statement}
+use Rattle.table_marks.proofs.marks_match.Tie as tie
 
 -- the way back from where a fact is needed to where it was learned
 abbrev at-marks-of : tie.After-struct-known → tie.After-marks-of

@@ -2,9 +2,9 @@
 use mathlib.Core.Path.{ap, _∙_}
 use borrow.Author.Needs.{needs}
 use Rattle.frames.specs.Frames.{countHeld}
 use Rattle.marks.specs.declared.Marks.{Marks}
-use Rattle.marks.proofs.frames_held.Statement.{statement}
-use Rattle.marks.proofs.frames_held.Tie as tie
+use Rattle.table_marks.proofs.frames_held.Statement.{statement}
+use Rattle.table_marks.proofs.frames_held.Tie as tie
 
 mul-first : tie.Need-mul-first
 mul-first c = search needs

@@ -1,9 +1,9 @@
 -- The tests of the code are the lines of `passEntry`, in its order.
 use borrow.Author.Tests.{eq-eqb, ne-eqb, lt-ltb, le-ltb}
-use Rattle.marks.specs.Pass.{passEntry}
+use Rattle.entry_pass.specs.Pass.{passEntry}
 use borrow.Author.Needs.{needs}
-use Rattle.marks.proofs.Pass.add.Statement.{statement}
-use Rattle.marks.proofs.Pass.add.Tie as tie
+use Rattle.entry_pass.proofs.Pass.add.Statement.{statement}
+use Rattle.entry_pass.proofs.Pass.add.Tie as tie
 
 returns : tie.Need-returns
 unfolding passEntry

@@ -17,11 +17,11 @@ use Rattle.frames.specs.declared.Held.{Held}
 use Rattle.frames.specs.Frames.{held, mark, noneHeld, countHeld}
 use Rattle.words.proofs.SumLaws.{sum-same}
 use Rattle.frames.proofs.FrameLaws.{lt-or-ge, held-or, held-zero, held-mark-same, held-mark-other, count-with, none-count}
 use Rattle.marks.specs.declared.Marks.{Marks}
-use Rattle.marks.specs.declared.Pass.{Pass}
+use Rattle.entry_pass.specs.declared.Pass.{Pass}
 use Rattle.marks.specs.Marks.{addEntry, marksTo, from}
-use Rattle.marks.specs.Pass.{passEntry, passTo}
+use Rattle.entry_pass.specs.Pass.{passEntry, passTo}
 use Rattle.marks.proofs.NamedLaws.{same-or}
 
 -- a frame that is marked already
 count-again : (h : Held) (f : ℕ) → held h f ≡ 1 → countHeld (mark h f 1) ≡ countHeld h
