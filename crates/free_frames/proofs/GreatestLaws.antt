@@ -9,13 +9,14 @@ use borrow.Author.Tests.{eq-eqb, ne-eqb, eqb-true, eqb-false}
 use lib.Dec.{eqb}
 use Rattle.basics.specs.Choice.{_when_else_}
 use Rattle.words.specs.Word.{bit}
-use Rattle.frames.specs.Frames.{held, countHeld, greatest, Within}
+use Rattle.frames.specs.Frames.{held, countHeld, Within}
+use Rattle.free_frames.specs.Greatest.{greatest}
 use Rattle.frames.specs.declared.Held.{Held}
 use Rattle.frames.specs.declared.FrameNo.{FrameNo}
-use Rattle.frames.specs.declared.Free.{Free}
-use Rattle.frames.specs.declared.Free.the-variants.{Frame, None}
+use Rattle.free_frames.specs.declared.Free.{Free}
+use Rattle.free_frames.specs.declared.Free.the-variants.{Frame, None}
 use Rattle.words.proofs.SumLaws.{sum-all, all-of-sum}
 use Rattle.frames.proofs.FrameLaws.{held-lt, held-low, held-high, count-within, count-le}
 
 -- ---- there is none just where no mark is 0
 

@@ -8,12 +8,12 @@ use lib.Pow.{pow-pos, pow-mono, high, ones-split, ones-lt}
 use lib.Bits.{bitAnd, and-mask}
 use lib.Count.{leadingZeros, leading-top}
 use Rattle.words.specs.Word.{bit}
-use Rattle.frames.specs.Frames.{greatest}
-use Rattle.frames.specs.declared.Free.the-variants.{Frame, None}
+use Rattle.free_frames.specs.Greatest.{greatest}
+use Rattle.free_frames.specs.declared.Free.the-variants.{Frame, None}
 use Rattle.words.proofs.WordLaws.{bit-top, bit-above}
 use Rattle.words.proofs.OperatorLaws.{bit-not, bit-mod}
 use Rattle.frames.proofs.FrameLaws.{lt-or-ge}
-use Rattle.frames.proofs.GreatestLaws.{greatest-none, greatest-is}
+use Rattle.free_frames.proofs.GreatestLaws.{greatest-none, greatest-is}
 
 -- the n low bits set
 mask : (n : ℕ) → n ≤ 64 → 0xffff_ffff_ffff_ffff / 2 ^ (64 - n) ≡ 2 ^ n - 1

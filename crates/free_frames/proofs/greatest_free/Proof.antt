@@ -5,9 +5,9 @@ use native.Mathlib.Nat.{le-of-lt}
 use Prim.Native.Nat.{_-_}
 use borrow.Author.Needs.{needs}
 use Rattle.words.specs.Word.{bit}
-use Rattle.frames.proofs.GreatestLaws.{greatest-found, free-low, free-found, free-rest}
-use Rattle.frames.proofs.Held.greatest_free.Statement.{statement}
-use Rattle.frames.proofs.Held.greatest_free.Tie as tie
+use Rattle.free_frames.proofs.GreatestLaws.{greatest-found, free-low, free-found, free-rest}
+use Rattle.free_frames.proofs.greatest_free.Statement.{statement}
+use Rattle.free_frames.proofs.greatest_free.Tie as tie
 
 greatest-unset-requires : tie.Need-greatest-unset-requires
 greatest-unset-requires c κs = search needs
@@ -32,7 +32,7 @@ add-t8 : tie.Need-add-t8
 add-t8 c =
     let arm = c .before .before in
     let start = at-start arm in
-    let found = greatest-found (bit (start .args .self .high)) (start .args .frames - 64) (arm .high .given .0 .0)
+    let found = greatest-found (bit (start .args .marks .high)) (start .args .frames - 64) (arm .high .given .0 .0)
     (sym (arm .before .before .greatest-unset2 .ensures) ∙ arm .high .given .1) in
     omega (arith, found .within, start .pre)
 
@@ -49,7 +49,7 @@ returns-2 : tie.Need-returns-2
 returns-2 c =
     let arm = c .before .before in
     let test = else1-of-high arm in
-    free-found (test .before .args .self) _ _ (le-of-lt (test .if1 .left)) (sym (arm .before .before .greatest-unset2 .ensures) ∙ arm .high .given .1)
+    free-found (test .before .args .marks) _ _ (le-of-lt (test .if1 .left)) (sym (arm .before .before .greatest-unset2 .ensures) ∙ arm .high .given .1)
 
 abbrev else1-of-enum-told : tie.After-enum-told → tie.Else1
 else1-of-enum-told c = c .before .before .before
@@ -58,7 +58,7 @@ returns-3 : tie.Need-returns-3
 returns-3 c =
     let arm = c .before in
     let test = else1-of-enum-told arm in
-    c .greatest-unset3 .ensures ∙ free-rest (test .before .args .self) _ (le-of-lt (test .if1 .left))
+    c .greatest-unset3 .ensures ∙ free-rest (test .before .args .marks) _ (le-of-lt (test .if1 .left))
     (sym (arm .before .before .greatest-unset2 .ensures) ∙ arm .enum-told .given .1)
 
 pub greatest-free-spec : {M : Type 1} → statement M

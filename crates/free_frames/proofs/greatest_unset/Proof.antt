@@ -4,10 +4,10 @@ use native.Mathlib.Nat.{lt-of-le-of-lt}
 use lib.Dec.{lit<}
 use lib.Count.{leading-le}
 use borrow.Author.Needs.{needs}
-use Rattle.frames.specs.Frames.{greatest}
-use Rattle.frames.proofs.ComplementLaws.{unset-none, unset-is, zeros-le}
-use Rattle.frames.proofs.greatest_unset.Statement.{statement}
-use Rattle.frames.proofs.greatest_unset.Tie as tie
+use Rattle.free_frames.specs.Greatest.{greatest}
+use Rattle.free_frames.proofs.ComplementLaws.{unset-none, unset-is, zeros-le}
+use Rattle.free_frames.proofs.greatest_unset.Statement.{statement}
+use Rattle.free_frames.proofs.greatest_unset.Tie as tie
 
 returns : tie.Need-returns
 unfolding greatest
