@@ -1,10 +1,9 @@
--- An example, computed: frames 3 and 100 held of 101, then of 4.
+-- An example, computed: frames 3 and 100 held.
 use mathlib.Core.Path.{_≡_, refl}
 use Rattle.basics.specs.Ranges.{sum}
 use Rattle.frames.specs.declared.Held.{Held}
-use Rattle.frames.specs.declared.Free.the-variants.{Frame}
 use Rattle.words.specs.Word.{bit, putBit}
-use Rattle.frames.specs.Frames.{held, mark, noneHeld, countHeld, greatest}
+use Rattle.frames.specs.Frames.{held, mark, noneHeld, countHeld}
 
 two : Held
 unfolding mark putBit bit
@@ -13,11 +12,3 @@ two = mark (mark noneHeld 3 1) 100 1
 two-held : countHeld two ≡ 2
 unfolding two countHeld sum held mark putBit bit
 two-held = refl
-
-below : greatest (held two) 101 ≡ Frame (record { 0 = 99 })
-unfolding two greatest held mark putBit bit
-below = refl
-
-lower : greatest (held two) 4 ≡ Frame (record { 0 = 2 })
-unfolding two greatest held mark putBit bit
-lower = refl

@@ -1,5 +1,5 @@
--- The frames that two words mark as held, how many they are, and the greatest that is not held.
-use Prim.Native.Nat.{ℕ, zero, suc, _-_, _≤_, _<_}
+-- The frames that two words mark as held, how many they are, and the smallest of them.
+use Prim.Native.Nat.{ℕ, _-_, _≤_, _<_}
 use mathlib.Core.Path.{_≡_}
 use mathlib.Core.Bool.{Bool, _&&_}
 use lib.Dec.{ltb, eqb}
@@ -8,8 +8,6 @@ use lib.Bits.{bitAnd, bitOr}
 use Rattle.basics.specs.Ranges.{sum, lowest}
 use Rattle.words.specs.Word.{bit, putBit}
 use Rattle.frames.specs.declared.Held.{Held}
-use Rattle.frames.specs.declared.Free.{Free}
-use Rattle.frames.specs.declared.Free.the-variants.{Frame, None}
 
 -- 'Held frames are marked one bit a frame': 1 where frame f is held, 0 where it is not
 unfoldable pub held : Held → ℕ → ℕ
@@ -30,11 +28,6 @@ sameHeld h j = eqb (h .low) (j .low) && eqb (h .high) (j .high)
 -- 'counts the marks': how many of the 128 frames are held
 unfoldable pub countHeld : Held → ℕ
 countHeld h = sum (held h) 128
-
--- the greatest number below n at which the mark is 0
-unfoldable pub greatest : (ℕ → ℕ) → ℕ → Free
-greatest marks zero = None
-greatest marks (suc n) = Frame (record { 0 = n }) when eqb (marks n) 0 else greatest marks n
 
 -- the smallest held frame; 128 where none is held
 unfoldable pub leastHeld : Held → ℕ

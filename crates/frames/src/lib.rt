@@ -1,15 +1,14 @@
 // Held frames, 'marked one bit a frame', in two 64-bit words.
 // It promises: each method's outcome is a definition of specs/Frames.antt, which speaks of the mark of a frame by the frame's number.
-// Callers use the laws of these definitions, proofs/FrameLaws.antt (marks, counts) and proofs/GreatestLaws.antt, and never the bits.
+// Callers use the laws of these definitions, proofs/FrameLaws.antt (marks, counts) and proofs/PairLaws.antt (two marks, the smallest held frame), and never
+// the bits. The greatest frame that is not held is found in `free_frames`.
 // It stands on `words` for the bits of a word.
 ghost use mathlib.Core.Path.{_≡_};
-ghost use Prim.Native.Nat.{_≤_, _<_};
+ghost use Prim.Native.Nat.{_<_};
 ghost use lib.Dec.{eqb};
 ghost use Rattle.basics.specs.Ranges.{one};
 ghost use Rattle.interface.specs.Numbers.{MostFrames};
-ghost use Rattle.words.specs.Word.{bit, WordBits};
-ghost use Rattle.frames.specs.Frames.{held, mark, noneHeld, sameHeld, countHeld, greatest};
-ghost use Rattle.frames.specs.Frames.{leastHeld, bothHeld, apartHeld};
+ghost use Rattle.frames.specs.Frames.{held, mark, noneHeld, sameHeld, countHeld, leastHeld, bothHeld, apartHeld};
 use words::has;
 use words::lowest_set;
 use words::put;
@@ -28,21 +27,9 @@ pub struct Held {
     pub high: u64,
 }
 
-// A frame that is not held, where there is one.
-pub enum Free {
-    Frame(FrameNo),
-    None,
-}
-
 impl Held {
     // The frames that one of the two words marks.
-    const WORD: u8 = 64;
-
-    // The last place of a word.
-    const LAST: u8 = Held::WORD - 1;
-
-    // A word that marks each of them.
-    const ALL: u64 = 0xffff_ffff_ffff_ffff;
+    pub const WORD: u8 = 64;
 
     // No held frame.
     pub fn none() -> Held
@@ -85,21 +72,6 @@ impl Held {
         ensures { λ r. ⌜ r ≡ countHeld self ⌝ }
     {
         u64::count_ones(self.low) as u8 + u64::count_ones(self.high) as u8
-    }
-
-    // The greatest frame of a pool of so many frames that is not held.
-    pub fn greatest_free(self, frames: u8) -> Free
-        requires { ⌜ frames ≤ MostFrames ⌝ }
-        ensures { λ r. ⌜ r ≡ greatest (held self) frames ⌝ }
-    {
-        if frames <= Held::WORD {
-            return greatest_unset(self.low, frames);
-        }
-        let high = greatest_unset(self.high, frames - Held::WORD);
-        match high {
-            Free::Frame(f) => Free::Frame(FrameNo(Held::WORD + f.0)),
-            Free::None => greatest_unset(self.low, Held::WORD),
-        }
     }
 
     // Whether two have the same marks.
@@ -155,20 +127,4 @@ fn marked(marks: Held, frame: FrameNo, on: bool) -> Held
             high: put(marks.high, n - Held::WORD, on),
         }
     }
-}
-
-// The greatest of the low places, so many of them, whose bit is not set.
-fn greatest_unset(word: u64, places: u8) -> Free
-    requires { ⌜ places ≤ WordBits ⌝ }
-    ensures { λ r. ⌜ r ≡ greatest (bit word) places ⌝ }
-{
-    if places == 0 {
-        return Free::None;
-    }
-    let free = !word & (Held::ALL >> (Held::WORD - places));
-    if free == 0 {
-        return Free::None;
-    }
-    let zeros = u64::leading_zeros(free) as u8;
-    Free::Frame(FrameNo(Held::LAST - zeros))
 }

@@ -1,7 +1,7 @@
 // The runs that a rewind makes (A3), worked out area by area from the table before the rewind.
 // It promises: the runs are those that the definition gathers page by page (`rowRewound`); nothing is done for committed and image areas,
 // so that the work goes with the pages of the uncommitted anonymous ones.
-// It stands on `areas` for the areas, on `front_frames` for the frames of an area's fronts, on `runs` for the competition of runs, and on `kept` for the
+// It stands on `areas` for the areas, on `front_frames` for the frames of an area's fronts, on `run_push` for the competition of runs, and on `kept` for the
 // definition.
 ghost use mathlib.Core.Path.{_≡_};
 ghost use mathlib.Core.List.{List};
@@ -20,6 +20,7 @@ ghost use Rattle.gathering.specs.AreaRun.{runOf};
 use areas::area::Area;
 use areas::area::Areas;
 use front_frames::fronts;
+use run_push::push;
 use runs::Runs;
 use slots::is_anonymous;
 
@@ -54,7 +55,7 @@ fn push_area(table: &[u16], area: Area, runs: Runs, sandbox: u8) -> Runs
         return runs;
     }
     let run = fronts(table, sandbox, area.first, area.pages);
-    runs.push(run)
+    push(runs, run)
 }
 
 // Whether the area is uncommitted and anonymous.

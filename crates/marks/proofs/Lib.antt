@@ -1,5 +1,4 @@
 pub mod NamedLaws
 pub mod MarkLaws
-pub mod PassLaws
 pub mod UsedLaws
 pub mod Examples

@@ -1,4 +1,3 @@
 -- In reading order.
 pub mod Named
 pub mod Marks
-pub mod Pass

@@ -1,7 +1,8 @@
 // Kept frames used again (A3): what a map takes of a sandbox's runs, what a write gives up of them, and a frame that is not held.
 // It promises: a map that takes a run gives its smallest frames to the first new pages without a byte of the pool, and no other map takes any; a write gives
 // up a frame of the longest run exactly where the share would be exceeded; the frame found is one that no entry names and no run keeps.
-// It stands on `kept` and `runs` for the runs, on `marks` for the entries that name a frame, and on `rules` for a map's first page.
+// It stands on `kept`, `runs` and `run_search` for the runs, on `marks` for the entries that name a frame, on `free_frames` for one that is not held,
+// and on `rules` for a map's first page.
 ghost use mathlib.Core.Path.{_≡_};
 ghost use mathlib.Core.List.{List};
 ghost use Prim.Native.Nat.{ℕ, _+_, _*_, _≤_, _<_};
@@ -21,12 +22,15 @@ ghost use Rattle.areas.specs.Areas.{slots};
 ghost use Rattle.rules.specs.Ready.{Fit, Ready};
 ghost use Rattle.reuse.specs.Reuse.{mapAdopts, mapRuns, GaveUp};
 use frames::FrameNo;
-use frames::Free;
 use frames::Held;
+use free_frames::Free;
+use free_frames::greatest_free;
 use granting::grant;
 use interface::Request;
 use marks::Marks;
 use rules::first_of;
+use run_search::fitting;
+use run_search::longest;
 use runs::Runs;
 use state::sandbox::Sandbox;
 
@@ -63,7 +67,7 @@ pub fn map(held: Held, table: &mut [u16], b: Sandbox, q: Request) -> Left
         };
     }
     let pages = q.p2 as u8;
-    let place = runs.fitting(pages);
+    let place = fitting(runs, pages);
     let run = runs.at(place);
     let present = b.rec.present;
     let first = first_of(present, q);
@@ -112,7 +116,7 @@ pub fn give_up(table: &[u16], runs: Runs, kept: Held, share: u8, sandbox: u8) ->
             kept: kept,
         };
     }
-    let place = runs.longest();
+    let place = longest(runs);
     let run = runs.at(place);
     let f = FrameNo(run.least());
     Given {
@@ -130,7 +134,7 @@ pub fn unheld_frame(named: Held, kept: Held, frames: u8) -> FrameNo
     ensures unkept { λ r. ⌜ held kept (r .0) ≡ 0 ⌝ }
 {
     let both = named.both(kept);
-    let found = both.greatest_free(frames);
+    let found = greatest_free(both, frames);
     match found {
         Free::Frame(f) => f,
         Free::None => FrameNo(0),

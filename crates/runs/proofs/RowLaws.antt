@@ -6,7 +6,7 @@ use mathlib.Core.Bool.{Bool, true}
 use mathlib.Core.List.{List, [], _∷_}
 use native.Mathlib.Omega.{arith}
 use lib.Dec.{eqb, ltb, leb}
-use borrow.Author.Tests.{eqb-true, eqb-false, lt-ltb, le-ltb, ltb-true, ltb-false, le-leb, lt-leb}
+use borrow.Author.Tests.{eqb-true, eqb-false, lt-ltb, le-ltb, ltb-true, ltb-false, le-leb}
 use lib.ListN.{length, getD, length-set, replicate}
 use lib.Seq.{getD-set-same, getD-set-other}
 use Rattle.basics.specs.Choice.{_when_else_}
@@ -18,9 +18,8 @@ use Rattle.basics.specs.Ranges.{sum}
 use Rattle.frames.specs.Frames.{held, noneHeld, sameHeld, countHeld}
 use Rattle.words.proofs.SumLaws.{sum-le}
 use Rattle.frames.proofs.FrameLaws.{held-lt, held-zero, none-count, same-held-true}
-use Rattle.runs.specs.declared.Choice.{Choice}
 use Rattle.runs.specs.declared.Runs.{Runs}
-use Rattle.runs.specs.Row.{row, lengthsOf, noRuns, withRunAt, rowTo, tabled, orBetter, shiftTo, movedRuns, pushed}
+use Rattle.runs.specs.Row.{row, lengthsOf, noRuns, withRunAt, rowTo, tabled, shiftTo, movedRuns, pushed}
 
 to-length : (n : ℕ) (f : ℕ → Held) → length (rowTo n f) ≡ n
 unfolding rowTo
@@ -58,29 +57,7 @@ all-none (x ∷ l) (suc n) e h = rw (h 0 (omega arith), all-none l n (omega (ari
 pub no-runs : (r : Runs) → length (r .list) ≡ 8 → ((i : ℕ) → i < 8 → row r i ≡ noneHeld) → r ≡ noRuns
 no-runs r e h = let z = all-none (r .list) 8 e h in λ i. record { list = z i }
 
--- ---- the best run, by the code's loops
-
--- of the first i places, the best with its length is found
-pub record BestOf (better : ℕ → ℕ → Bool) (l : ℕ → ℕ) (i : ℕ) (found : Choice) : Type 0 where
-  pub low : found .place < 8
-  pub place : found .place ≡ best better l i
-  pub length : found .length ≡ l (found .place)
-
-module _ (better : ℕ → ℕ → Bool) (l : ℕ → ℕ) where
-  pub best-first : (n : ℕ) → n ≡ l 0 → BestOf better l 0 (record { place = 0; length = n })
-  unfolding best
-  best-first n e = record { low = omega arith; place = refl; length = e }
-
-  pub best-more : (i n : ℕ) (found next : Choice) → i < 8 → n ≡ l i → BestOf better l i found → next ≡ orBetter better i n found
-      → BestOf better l (i + 1) next
-  unfolding best
-  best-more i n found next low e b d =
-      let same : better (l i) (l (best better l i)) ≡ better n (found .length) = rw (e, b .length, b .place) in
-      by-cases (better n (found .length))
-      (λ t. rw (d, t) (record { low = low; place = rw (add-one i, same, t); length = e }))
-      (λ t. rw (d, t) (record { low = b .low; place = rw (add-one i, same, t) (b .place); length = b .length }))
-
--- ---- the other loops
+-- ---- the code's loops
 
 pub count-small : (h : Held) → countHeld h ≤ 128
 unfolding countHeld
@@ -96,33 +73,7 @@ pub sum-more : (l : ℕ → ℕ) (i n x : ℕ) → n ≡ sum l i → x ≡ l i �
 unfolding sum
 sum-more l i n x a b = rw (add-one i) (rw (a, b))
 
-pub shift-more : (c : ℕ) (r₀ : Runs) (i : ℕ) (r : Runs) (h : Held) (q : Runs) → c ≤ i → r ≡ shiftTo c r₀ (i - c) → h ≡ row r (i + 1) → q ≡ withRunAt i h r
-    → q ≡ shiftTo c r₀ (i + 1 - c)
-unfolding shiftTo
-shift-more c r₀ i r h q l a b d =
-    let z : i + 1 - c ≡ suc (i - c) = omega arith in
-    let y : c + (i - c) ≡ i = omega arith in
-    d ∙ rw (z, y) (rw (b, a))
-
--- ---- a push, by the code's ways out
-
-module _ (r : Runs) (run : Held) (c n m : ℕ) (place : c ≡ best noLonger (lengthsOf r) 8) (size : n ≡ countHeld run) (old : m ≡ lengthsOf r c) where
-  pub push-stays : n ≤ m → r ≡ pushed r run
-  unfolding pushed
-  push-stays h = rw (← place, ← size, ← old, le-leb n m h)
-
-pub push-moves : (r : Runs) (run : Held) (c n m : ℕ) (q : Runs) → c ≡ best noLonger (lengthsOf r) 8 → n ≡ countHeld run → m ≡ lengthsOf r c → m < n
-    → q ≡ movedRuns c run r → q ≡ pushed r run
-unfolding pushed
-push-moves r run c n m q place size old h d = rw (← place, ← size, ← old, lt-leb n m h) d
-
--- a last place without a frame is the shortest, and the newest of those
-pub push-last : (r : Runs) (run : Held) (n : ℕ) (e : Bool) (q : Runs) → n ≡ countHeld run → (n ≡ 0 → ⊥) → e ≡ sameHeld (row r 7) noneHeld → e ≡ true
-    → q ≡ withRunAt 7 run r → q ≡ pushed r run
-unfolding pushed best movedRuns shiftTo
-push-last r run n e q size some same t d =
-    let none : lengthsOf r 7 ≡ 0 = rw (same-held-true (row r 7) noneHeld (sym same ∙ t)) (none-count noneHeld (λ f l. held-zero f)) in
-    d ∙ rw (none, le-leb 0 (lengthsOf r (best noLonger (lengthsOf r) 7)) (omega arith), none, ← size, lt-leb n 0 (omega (arith, some)))
+-- ---- a push
 
 -- a run of none changes nothing
 pub pushed-empty : (r : Runs) (run : Held) → countHeld run ≡ 0 → pushed r run ≡ r

@@ -1,19 +1,15 @@
 -- The runs of a sandbox by their places.
 use Prim.Native.Nat.{ℕ, zero, suc, _+_, _-_, _<_}
 use mathlib.Core.Path.{_≡_}
-use mathlib.Core.Bool.{Bool}
 use lib.Dec.{leb}
 use mathlib.Core.List.{List, [], _∷_}
 use lib.ListN.{getD, set, replicate}
 use Rattle.basics.specs.Choice.{_when_else_}
-use Rattle.basics.specs.Rows.{best, longer, noLonger, fitter}
+use Rattle.basics.specs.Rows.{best, noLonger}
 use Rattle.run_choice.specs.Runs.{longestRun}
 use Rattle.frames.specs.declared.Held.{Held}
 use Rattle.frames.specs.Frames.{held, noneHeld, countHeld}
 use Rattle.runs.specs.declared.Runs.{Runs}
-use Rattle.runs.specs.declared.Choice.{Choice}
-use Rattle.runs.specs.declared.Rule.{Rule}
-use Rattle.runs.specs.declared.Rule.the-variants.{Longest, Shortest, Fitting}
 
 -- the run in each place; none past the end
 abbrev pub row : Runs → ℕ → Held
@@ -37,16 +33,6 @@ rowTo (suc n) f = f 0 ∷ rowTo n (λ i. f (suc i))
 
 abbrev pub tabled : (ℕ → Held) → Runs
 tabled f = record { list = rowTo 8 f }
-
--- whether a length is better than another, by each rule
-unfoldable pub betterBy : Rule → ℕ → ℕ → Bool
-betterBy Longest new old = longer new old
-betterBy Shortest new old = noLonger new old
-betterBy (Fitting pages) new old = fitter pages new old
-
--- another place with its length where that is better, else the one that was found
-abbrev pub orBetter : (ℕ → ℕ → Bool) → ℕ → ℕ → Choice → Choice
-orBetter better place length found = record { place = place; length = length } when better length (found .length) else found
 
 -- the first j runs after place c have moved up by one
 unfoldable pub shiftTo : ℕ → Runs → ℕ → Runs

@@ -10,10 +10,11 @@ use Rattle.interface.specs.Slots.{follows, joins, areas, mappedPages, uncommitt
 use Rattle.interface.specs.Limits.{within}
 use Rattle.interface.specs.Outcome.{firstOf, slotsAfter, copyAfter}
 use Rattle.interface.specs.Refusals.{allMapped, applies, refusal}
-use Rattle.frames.specs.declared.Free.{Free}
-use Rattle.frames.specs.declared.Free.the-variants.{Frame, None}
 use Rattle.words.specs.Word.{bit, putBit}
-use Rattle.frames.specs.Frames.{held, mark, countHeld, greatest, leastHeld, bothHeld, apartHeld}
+use Rattle.frames.specs.Frames.{held, mark, countHeld, leastHeld, bothHeld, apartHeld}
+use Rattle.free_frames.specs.declared.Free.{Free}
+use Rattle.free_frames.specs.declared.Free.the-variants.{Frame, None}
+use Rattle.free_frames.specs.Greatest.{greatest}
 use Rattle.basics.specs.Rows.{best, movedUp, walkTo, walked}
 use Rattle.basics.specs.Rows as rows
 use Rattle.run_choice.specs.Runs.{runFor, granted, longestRun}

@@ -33,7 +33,7 @@ pub fn sound(m: Machine, pool: &[u8], table: &[u16], image: &[u8]) -> bool
     let frames = (pool.len() / Page::SIZE) as u8;
     let images = (image.len() / Page::SIZE) as u8;
     let held = m.held;
-    if !marks::marks_match(held, table, frames) {
+    if !table_marks::marks_match(held, table, frames) {
         return false;
     }
     let sandboxes = m.sandboxes;

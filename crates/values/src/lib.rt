@@ -1,6 +1,6 @@
 // The value of an accepted request, computed.
 // It promises: the value is the one stated in memory/specs/Memory (`valueAt`). Nothing is changed.
-// It stands on `memory` for the definition and its laws, on `content` for what is read and compared, and on `area_counts` and `marks` for the pages and frames
+// It stands on `memory` for the definition and its laws, on `content` for what is read and compared, and on `area_counts` and `table_marks` for the pages and frames
 // that are counted.
 ghost use mathlib.Core.Path.{_≡_};
 ghost use Prim.Native.Nat.{_≤_, _<_};
@@ -39,7 +39,7 @@ pub fn value_of(pool: &[u8], table: &[u16], image: &[u8], b: Sandbox, q: Request
         Request::REPORT => {
             let runs = b.runs;
             let frames = (pool.len() / Page::SIZE) as u8;
-            marks::frames_held(table, q.sandbox as u8, frames) as u32 + runs.kept() as u32
+            table_marks::frames_held(table, q.sandbox as u8, frames) as u32 + runs.kept() as u32
         }
         Request::COMPARE => lowest_difference(pool, table, image, rec, q.sandbox as u8) as u32,
         _ => 0,

@@ -4,7 +4,7 @@ use native.Mathlib.Omega.{arith}
 use borrow.Author.Needs.{needs}
 use Rattle.frames.specs.declared.Held.{Held}
 use Rattle.frames.specs.Frames.{held}
-use Rattle.frames.proofs.GreatestLaws.{greatest-found, greatest-all}
+use Rattle.free_frames.proofs.GreatestLaws.{greatest-found, greatest-all}
 use Rattle.reuse.proofs.ReuseLaws.{both-free, free-both}
 use Rattle.reuse.proofs.unheld_frame.Statement.{statement}
 use Rattle.reuse.proofs.unheld_frame.Tie as tie
