@@ -49,7 +49,8 @@ unpaged-cases q P h x y z =
 
 pub few-access : (q : Request) → (q is Read || q is Write) ≡ true → Few q
 few-access q h =
-    access-cases q (λ c. q .code ≡ c → Few q) h (λ e. by-code q Read e refl refl refl refl refl refl) (λ e. by-code q Write e refl refl refl refl refl refl) refl
+    access-cases q (λ c. q .code ≡ c → Few q) h (λ e. by-code q Read e refl refl refl refl refl refl)
+    (λ e. by-code q Write e refl refl refl refl refl refl) refl
 
 pub few-unpaged : (q : Request) → namesNoPage q ≡ true → Few q
 few-unpaged q h =

@@ -1,6 +1,7 @@
 // The rows of "Turned back" that look at the mapped pages of a sandbox, as tests: 9 to 12.
 // It promises: each test is its row's condition in `interface`'s one table of refusals. No lent memory is touched here.
-// It stands on `areas`, `area_counts` and `area_gaps` for the pages, on `rules` for what a request within its limits is, and on `rows` for the page that an address names.
+// It stands on `areas`, `area_counts` and `area_gaps` for the pages, on `rules` for what a request within its limits is, and on `rows` for the page that an
+// address names.
 ghost use mathlib.Core.Path.{_≡_};
 ghost use Rattle.interface.specs.declared.answer.Refusal.the-variants.{NotMapped, AlreadyMapped, NoGap, NotWritable};
 ghost use Rattle.interface.specs.Refusals.{View, applies};

@@ -1,8 +1,8 @@
 // One line of a roll answered: its request is called, and the reply is printed at its place.
 // It promises that the reply is that of the machine's step, or refusal 1 where the line is malformed, and that nothing else of the output changes
 // (`Turned` and `Replied` of `roll`).
-// It stands on `in_place` and `performing` for a call on one sandbox, on `totals` for what the sandboxes have together, on `reply_text` for the reply printed
-// and on `roll` for what a reply is and for what is known of a state.
+// It stands on `rewind_call`, `in_place` and `performing` for a call on one sandbox, on `totals` for what the sandboxes have together, on `reply_text` for the
+// reply printed, and on `roll` for what a reply is and for what is known of a state.
 ghost use mathlib.Core.Path.{_≡_};
 ghost use Prim.Native.Nat.{_+_, _*_, _≤_};
 ghost use lib.ListN.{length};
@@ -18,6 +18,7 @@ use interface::Request;
 use lines::Line;
 use performing::act;
 use reply_text::print_answer;
+use rewind_call::rewind_sandbox;
 use state::sandbox::Machine;
 use state::sandbox::Sandbox;
 use totals::put_together;
@@ -62,19 +63,29 @@ pub fn reply<'a, 'b>(
         Asked::Call(q) => {
             let k = q.sandbox as usize;
             let b = playing.sandboxes[k];
-            let tried = in_place::answer(b, pool, table, image, q);
-            if tried.done {
-                answer = tried.answer;
-            } else {
-                let sandboxes = playing.sandboxes;
+            if q.code == Request::REWIND {
                 let held = playing.held;
-                let all = put_together(sandboxes, held, q.code == Request::WRITE);
-                let acted = act(b, all, pool, table, image, q);
-                let after = acted.sandbox;
-                let marks = acted.held;
+                let rewound = rewind_sandbox(b, held, pool, table, image, q);
+                let after = rewound.sandbox;
+                let marks = rewound.held;
                 playing.sandboxes[k] = after;
                 playing.held = marks;
-                answer = acted.answer;
+                answer = rewound.answer;
+            } else {
+                let tried = in_place::answer(b, pool, table, image, q);
+                if tried.done {
+                    answer = tried.answer;
+                } else {
+                    let sandboxes = playing.sandboxes;
+                    let held = playing.held;
+                    let all = put_together(sandboxes, held, q.code == Request::WRITE);
+                    let acted = act(b, all, pool, table, image, q);
+                    let after = acted.sandbox;
+                    let marks = acted.held;
+                    playing.sandboxes[k] = after;
+                    playing.held = marks;
+                    answer = acted.answer;
+                }
             }
         }
     }

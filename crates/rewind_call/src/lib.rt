@@ -1,7 +1,8 @@
 // A rewind on one sandbox: decided by the few rows that it can meet, and performed without a look at the other sandboxes.
-// It promises: with the sandbox put back in its place, what `rewind_sandbox` leaves and answers is the step of any sound state of which it was handed a sandbox.
-// It stands on `few_rows` for what is refused, on `gathering` for the runs, on `rewinding` for the lent memory, on `records` and `rules` for the sandbox's record,
-// and on `step` for what a call is.
+// It promises: with the sandbox put back in its place, what `rewind_sandbox` leaves and answers is the step of any sound state of which it was handed a
+// sandbox.
+// It stands on `few_rows` for what is refused, on `gathering` for the runs, on `rewinding` for the lent memory, on `records` and `rules` for the sandbox's
+// record, and on `step` for what a call is.
 ghost use mathlib.Core.Path.{_≡_};
 ghost use mathlib.Core.List.{List};
 ghost use Prim.Native.Nat.{_<_};
@@ -54,10 +55,9 @@ pub fn rewind_sandbox(
         },
         Verdict::Accepted => {
             let s = q.sandbox as u8;
-            let present = rec.present;
             let snapshot = rec.snapshot;
             let runs = b.runs;
-            let left = gathered(table, present, runs, s);
+            let left = gathered(table, rec.present, runs, s);
             let marks = rewind(held, pool, table, image, rec, s);
             let after = rec.with_present(snapshot);
             Acted {

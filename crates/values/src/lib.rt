@@ -1,7 +1,7 @@
 // The value of an accepted request, computed.
 // It promises: the value is the one stated in memory/specs/Memory (`valueAt`). Nothing is changed.
-// It stands on `memory` for the definition and its laws, on `content` for what is read and compared, and on `area_counts` and `table_marks` for the pages and frames
-// that are counted.
+// It stands on `memory` for the definition and its laws, on `content` for what is read and compared, and on `area_counts` and `table_marks` for the
+// pages and frames that are counted.
 ghost use mathlib.Core.Path.{_≡_};
 ghost use Prim.Native.Nat.{_≤_, _<_};
 ghost use lib.ListN.{length};

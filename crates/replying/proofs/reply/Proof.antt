@@ -1,4 +1,4 @@
--- The next line answered. Its three ways meet before the reply is printed (`Proof/Ways.antt`), and from what is said there follows what `Replied` asks.
+-- The next line answered. Its four ways meet before the reply is printed (`Proof/Ways.antt`), and from what is said there follows what `Replied` asks.
 mod Ways
 use mathlib.Core.Path.{refl}
 use Prim.Native.Nat.{_+_}
@@ -8,6 +8,7 @@ use borrow.Author.Needs.{needs}
 use Rattle.replying.proofs.reply.Statement.{statement}
 use Rattle.replying.proofs.reply.Tie as tie
 use Rattle.replying.proofs.reply.Proof.Ways.{worldIn, startOf, four, calls, asking, around, stands, told-at, left-at, acted-at, met}
+use Rattle.replying.proofs.reply.Proof.Ways.{rewinding, rewound-at, unasked, stands-alone}
 
 -- ---- the needs
 
@@ -35,9 +36,25 @@ mul-b c = let low = calls (c .before) .low in search needs
 element-copy-out-b : tie.Need-element-copy-out-b
 element-copy-out-b c = let low = calls (c .before) .low in search needs
 
+rewind-sandbox-requires : tie.Need-rewind-sandbox-requires
+rewind-sandbox-requires c κs =
+    let told = rewinding c in
+    let s = asking told in
+    (c .before .before .before .if1 .taken, (calls told .low, (s .args .t1 .sandboxes, (unasked s, stands-alone c))))
+
+mul-after : tie.Need-mul-after
+mul-after c = let low = calls (rewinding (rewound-at c .before)) .low in search needs
+
+element-set-from-after : tie.Need-element-set-from-after
+element-set-from-after c =
+    let told = rewinding (rewound-at c .before) in
+    let low = calls told .low in
+    let all = four (asking told) in
+    search needs
+
 answer-requires : tie.Need-answer-requires
 answer-requires c κs =
-    let told = c .before .before .before .before in
+    let told = c .before .before .before .before .before .before in
     (calls told .coded, (calls told .low, (worldIn (asking told), around told)))
 
 put-together-requires : tie.Need-put-together-requires
@@ -49,11 +66,11 @@ act-requires c κs =
     let told = told-at (left-at found) in
     (calls told .coded, (calls told .low, (asking told .args .t1 .sandboxes, stands found)))
 
-mul-after : tie.Need-mul-after
-mul-after c = let low = calls (told-at (left-at (acted-at c .before .before .before))) .low in search needs
+mul-after-2 : tie.Need-mul-after-2
+mul-after-2 c = let low = calls (told-at (left-at (acted-at c .before .before .before))) .low in search needs
 
-element-set-from-after : tie.Need-element-set-from-after
-element-set-from-after c =
+element-set-from-after-2 : tie.Need-element-set-from-after-2
+element-set-from-after-2 c =
     let told = told-at (left-at (acted-at c .before .before .before)) in
     let low = calls told .low in
     let all = four (asking told) in
@@ -67,7 +84,7 @@ print-answer-requires c κs =
 add-playing : tie.Need-add-playing
 add-playing c = search needs
 
-abbrev shown : tie.After-slice-known7 → tie.After-print-answer
+abbrev shown : tie.After-slice-known9 → tie.After-print-answer
 shown c = c .before .before
 
 same-length : tie.Need-same-length
@@ -108,11 +125,14 @@ reply-spec =
     cast-k
     mul-b
     element-copy-out-b
+    rewind-sandbox-requires
+    mul-after
+    element-set-from-after
     answer-requires
     put-together-requires
     act-requires
-    mul-after
-    element-set-from-after
+    mul-after-2
+    element-set-from-after-2
     print-answer-requires
     add-playing
     same-length

@@ -97,7 +97,7 @@ ranged s =
 -- ---- where the runs are gathered
 
 abbrev told-at : tie.After-gathered-arg → tie.After-enum-told
-told-at c = c .before .before .before .before .before
+told-at c = c .before .before .before .before
 
 abbrev gathering : tie.After-gathered-arg → tie.Start
 gathering c = decided (told-at c .before .before)
