@@ -1,19 +1,19 @@
 // One line of a roll answered: its request is called, and the reply is printed at its place.
 // It promises that the reply is that of the machine's step, or refusal 1 where the line is malformed, and that nothing else of the output changes
 // (`Turned` and `Replied` of `roll`).
-// It stands on `rewind_call`, `in_place` and `performing` for a call on one sandbox, on `totals` for what the sandboxes have together, on `reply_text` for the
-// reply printed, and on `roll` for what a reply is and for what is known of a state.
+// It stands on `asking` for what a line asks, on `rewind_call`, `in_place` and `performing` for a call on one sandbox, on `totals` for what the sandboxes have
+// together, on `reply_text` for the reply printed, and on `roll` for what a reply is and for what is known of a state.
 ghost use mathlib.Core.Path.{_≡_};
 ghost use Prim.Native.Nat.{_+_, _*_, _≤_};
 ghost use lib.ListN.{length};
 ghost use Rattle.columns.specs.Sizes.{MostPrinted, ReplyBytes};
 ghost use Rattle.roll.specs.Known.{Known};
 ghost use Rattle.roll.specs.Play.{Replied};
-ghost use Rattle.replying.specs.Asked.{askedBy};
 ghost use Rattle.replying.specs.Playing.{playedBy};
+use asking::Asked;
+use asking::ask;
 use frames::Held;
 use interface::Answer;
-use interface::Refusal;
 use interface::Request;
 use lines::Line;
 use performing::act;
@@ -92,29 +92,4 @@ pub fn reply<'a, 'b>(
     print_answer(out, at, number, answer);
     playing.answered = at + 1;
     playing
-}
-
-// What a line asks: a call on one of the four sandboxes of a sound state, or nothing that can be performed, and why.
-enum Asked {
-    Refused(Refusal),
-    Call(Request),
-}
-
-// Rows 1 to 3, and row 4 of a sandbox past the four: what is refused without a look at a sandbox. Whether the state is sound is known.
-fn ask(sound: bool, line: Line) -> Asked
-    ensures { λ r. ⌜ r ≡ askedBy sound line ⌝ }
-{
-    let Line::Call(q) = line else {
-        return Asked::Refused(Refusal::Malformed);
-    };
-    if !codes::is_call(q) {
-        return Asked::Refused(Refusal::NoSuchCall);
-    }
-    if !sound {
-        return Asked::Refused(Refusal::Unsound);
-    }
-    if q.sandbox as usize >= Machine::SANDBOXES {
-        return Asked::Refused(Refusal::NotOpen);
-    }
-    Asked::Call(q)
 }

@@ -35,7 +35,7 @@ use Rattle.roll.proofs.KnownLaws.{known-is}
 use Rattle.roll.proofs.SmallLaws.{value-small}
 use Rattle.replying.specs.declared.Playing.{Playing}
 use Rattle.replying.specs.Playing.{playedBy}
-use Rattle.replying.proofs.AskedLaws.{refused-line, Calls, call-line}
+use Rattle.asking.proofs.AskedLaws.{refused-line, Calls, call-line}
 use Rattle.replying.proofs.reply.Tie as tie
 
 -- ---- what is handed in

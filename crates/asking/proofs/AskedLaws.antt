@@ -19,9 +19,9 @@ use Rattle.step.proofs.CallLaws.{stepped-refused, number-two, number-three, num
 use Rattle.roll.specs.Known.{Known}
 use Rattle.roll.specs.Play.{Turned}
 use Rattle.roll.proofs.KnownLaws.{known-is}
-use Rattle.replying.specs.declared.Asked.{Asked}
-use Rattle.replying.specs.declared.Asked.the-variants.{Refused, Call}
-use Rattle.replying.specs.Asked.{askedBy}
+use Rattle.asking.specs.declared.Asked.{Asked}
+use Rattle.asking.specs.declared.Asked.the-variants.{Refused, Call}
+use Rattle.asking.specs.Asked.{askedBy}
 
 -- what an answer asks: the refusal, and whether there is one
 abbrev whyOf : Asked → Refusal

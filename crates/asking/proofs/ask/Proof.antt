@@ -6,11 +6,11 @@ use native.Mathlib.Omega.{arith}
 use borrow.Author.Tests.{not-true, not-false, le-ltb, lt-ltb}
 use Rattle.interface.specs.declared.request.Request.{Request}
 use Rattle.interface.specs.Requests.{isCall}
-use Rattle.replying.specs.Asked.{askedBy}
-use Rattle.replying.proofs.AskedLaws.{asks-no-call, asks-unsound, asks-past, asks-call}
+use Rattle.asking.specs.Asked.{askedBy}
+use Rattle.asking.proofs.AskedLaws.{asks-no-call, asks-unsound, asks-past, asks-call}
 use borrow.Author.Needs.{needs}
-use Rattle.replying.proofs.ask.Statement.{statement}
-use Rattle.replying.proofs.ask.Tie as tie
+use Rattle.asking.proofs.ask.Statement.{statement}
+use Rattle.asking.proofs.ask.Tie as tie
 
 -- the request that the line says, and what is known behind each test
 abbrev said : tie.After-is-call → Request

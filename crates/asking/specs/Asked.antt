@@ -7,8 +7,8 @@ use Rattle.interface.specs.Numbers.{Sandboxes}
 use Rattle.interface.specs.Requests.{isCall}
 use Rattle.lines.specs.declared.Line.{Line}
 use Rattle.lines.specs.declared.Line.the-variants.{Call as LineCall, Malformed as LineMalformed}
-use Rattle.replying.specs.declared.Asked.{Asked}
-use Rattle.replying.specs.declared.Asked.the-variants.{Refused, Call}
+use Rattle.asking.specs.declared.Asked.{Asked}
+use Rattle.asking.specs.declared.Asked.the-variants.{Refused, Call}
 
 -- "When several apply, the lowest number is answered", of those that need no look at a sandbox: 1, "line malformed (player only)"; 2, a code of no call;
 -- 3, "lent length wrong, or state unsound"; 4, "sandbox above 3". Else the call is to be decided.
