@@ -4,7 +4,7 @@ use bench::{same_steps, unproved};
 use model::{parse_line, Fault};
 use rolls::Case;
 
-const ROLLS: u64 = 1_000;
+const ROLLS: u64 = 3_000;
 
 type Play = fn(&[u8], &[u8], &mut [u8], &mut [u16], &mut [u8]) -> usize;
 
