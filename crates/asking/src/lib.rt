@@ -1,6 +1,6 @@
 // What a line of a roll asks of a state of which it is known whether it is sound.
-// It promises: rows 1 to 3, and row 4 of a sandbox past the four, are told without a look at a sandbox (`askedBy`); of a line that is turned back by one of them,
-// and of one that is not, proofs/AskedLaws says what is known.
+// It promises: rows 1 to 3, and row 4 of a sandbox past the four, are told without a look at a sandbox (`askedBy`); of a line that is turned back by one of
+// them, and of one that is not, proofs/AskedLaws says what is known.
 // It stands on `lines` for what a line says, on `codes` for which codes are calls, and on `roll` for what a line is turned into.
 ghost use mathlib.Core.Path.{_≡_};
 ghost use Rattle.asking.specs.Asked.{askedBy};

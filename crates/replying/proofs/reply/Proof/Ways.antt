@@ -278,8 +278,8 @@ met c =
     (λ rest. ⊎-elim
     (λ w.
     let told : tie.After-known-told2 = record { before = record { before = record { before = ask; match = w .0 }; asked2 = w .1 }; known-told2 = w .2 } in
-    let here : tie.After-struct-known2 = record { before = record { before = record { before = told; struct-known = w .3 }; b = w .4 }; struct-known2 = w .5 } in
-    let held : tie.After-held = record { before = record { before = here; if1 = w .6 }; held = w .7 } in
+    let it : tie.After-struct-known2 = record { before = record { before = record { before = told; struct-known = w .3 }; b = w .4 }; struct-known2 = w .5 } in
+    let held : tie.After-held = record { before = record { before = it; if1 = w .6 }; held = w .7 } in
     let lent : tie.After-rewind-sandbox-arg2 = record { before = record { before = held; rewind-sandbox-arg = w .8 }; rewind-sandbox-arg2 = w .9 } in
     let did : tie.After-rewind-sandbox = record { before = lent; rewind-sandbox = w .10 } in
     let pooled : tie.After-slice-known4 = record { before = record { before = did; pool = w .11 }; slice-known4 = w .12 } in
@@ -289,15 +289,15 @@ met c =
     (λ others. ⊎-elim
     (λ w.
     let told : tie.After-known-told2 = record { before = record { before = record { before = ask; match = w .0 }; asked2 = w .1 }; known-told2 = w .2 } in
-    let here : tie.After-struct-known2 = record { before = record { before = record { before = told; struct-known = w .3 }; b = w .4 }; struct-known2 = w .5 } in
-    let lent : tie.After-answer-arg = record { before = record { before = here; if1 = w .6 }; answer-arg = w .7 } in
+    let it : tie.After-struct-known2 = record { before = record { before = record { before = told; struct-known = w .3 }; b = w .4 }; struct-known2 = w .5 } in
+    let lent : tie.After-answer-arg = record { before = record { before = it; if1 = w .6 }; answer-arg = w .7 } in
     let answer : tie.After-answer = record { before = record { before = lent; answer-arg2 = w .8 }; answer = w .9 } in
     let at : tie.Then2 = record { before = record { before = record { before = answer; pool2 = w .10 }; slice-known6 = w .11 }; if2 = w .12 } in
     in-place-met at (m .pool) (m .table) (m .playing) (m .answer) (w .13) (w .14) (w .15) (w .16))
     (λ w.
     let told : tie.After-known-told2 = record { before = record { before = record { before = ask; match = w .0 }; asked2 = w .1 }; known-told2 = w .2 } in
-    let here : tie.After-struct-known2 = record { before = record { before = record { before = told; struct-known = w .3 }; b = w .4 }; struct-known2 = w .5 } in
-    let lent : tie.After-answer-arg = record { before = record { before = here; if1 = w .6 }; answer-arg = w .7 } in
+    let it : tie.After-struct-known2 = record { before = record { before = record { before = told; struct-known = w .3 }; b = w .4 }; struct-known2 = w .5 } in
+    let lent : tie.After-answer-arg = record { before = record { before = it; if1 = w .6 }; answer-arg = w .7 } in
     let answer : tie.After-answer = record { before = record { before = lent; answer-arg2 = w .8 }; answer = w .9 } in
     let at : tie.Else2 = record { before = record { before = record { before = answer; pool2 = w .10 }; slice-known6 = w .11 }; if2 = w .12 } in
     let held : tie.After-held2 = record { before = record { before = at; sandboxes = w .13 }; held2 = w .14 } in
