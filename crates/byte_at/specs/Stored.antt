@@ -20,8 +20,8 @@ pageAt q slot = record { sandbox = q .sandbox; number = record { 0 = pageOf q };
 abbrev pub ownEntry : Request → List ℕ → ℕ
 ownEntry q table = getD table (frontOf (q .sandbox) (pageOf q)) 0
 
--- "A write changes one byte inside one frame's 256 bytes of the pool; a page without a front first takes an unheld frame": whether the byte was stored. Of a page
--- with a front it is, whatever the marks are; of another nothing changes, and the write is left to what takes a frame
+-- "A write changes one byte inside one frame's 256 bytes of the pool; a page without a front first takes an unheld frame": whether the byte was stored. Of a
+-- page with a front it is, whatever the marks are; of another nothing changes, and the write is left to what takes a frame
 pub record Stored (q : Request) (before table : List ℕ) (stored : Bool) (after : List ℕ) : Type 0 where
   pub front : stored ≡ true → ownEntry q table ≡ 0 → ⊥
   pub byte : stored ≡ true → (h : Held) → kept h after table
