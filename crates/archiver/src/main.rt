@@ -3,8 +3,9 @@
 // It promises that what it reads, one line after the other, is one roll played from a start, and that answer and output are those of the archive roll of what
 // that roll left (`Performed`); so what it hands on to be written is the plain machine's archive roll, or nothing where that is refused (specs/Prints of
 // `archive_program`).
-// It stands on `starting` for the start, on `roll_input` for the roll played, on `archiving` for the archive roll, on `archive_program` for what is promised,
-// on `image_file` for the image, and on the kit's `io`, `os` and `libc`; which bytes these read and write nothing proves.
+// It stands on `starting` for the start, on `playing` for the roll played (src/roll_input), on `input` for when another line is read, on `archiving` for the
+// archive roll, on `archive_program` for what is promised, on `image_file` for the image, and on the kit's `io`, `os` and `libc`; which bytes these read and
+// write nothing proves.
 ghost use mathlib.Core.Path.{_≡_};
 ghost use Prim.Native.Nat.{_*_, _≤_};
 ghost use lib.ListN.{length};
@@ -24,6 +25,8 @@ use playing::Player;
 use roll_input::play_input;
 use starting::accepted;
 use starting::start;
+
+mod roll_input;
 
 fn main() {
     let mut image = [0u8; Found::BYTES];

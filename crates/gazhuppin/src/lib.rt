@@ -1,15 +1,20 @@
-// The library for hosts in C, Rust and Python: its exports, each one call of what stands below. A roll is played from a start over lent memory, and pool and
+// The library for hosts in C, Rust and Python: its exports. A roll is played from a start over lent memory, and pool and
 // table are left for the host to look at; or a host starts a machine and makes one call at a time, with the state as bytes in its own memory, and may ask for
 // the archive roll of a sandbox (src/calls).
 // It promises that whatever is lent, a call ends. Of a roll: `FromStart`, from which follows all that the C header says (specs/Promised of `host_rolls`). Of
 // calls one at a time: the demands (specs/HostClaims of `host_calls`). Of an archive roll: it is the plain machine's, and its calls rebuild the snapshot
 // (specs/HostArchive of `filing`).
-// It stands on `from_start` for a roll, on `stepwise` and `layout` for a call and on `filing` for an archive roll. Nothing that holds an enum crosses to C.
+// It stands on `starting`, `playing` and `room` for a roll, on `stepwise` and `layout` for a call and on `filing` for an archive roll. Nothing that holds an
+// enum crosses to C.
 ghost use mathlib.Core.Path.{_≡_};
 ghost use Rattle.lines.specs.Lines.{linesOf};
 ghost use Rattle.host_rolls.specs.FromStart.{regions, FromStart};
-use from_start::play_from_start;
 use lines::lines_of;
+use playing::Player;
+use playing::play;
+use room::room_for;
+use starting::accepted;
+use starting::start;
 
 pub mod calls;
 
@@ -34,5 +39,19 @@ pub extern "C" fn gazhuppin_play(
         (regions (now (pool .entry)) (now (table .entry)) (now (out .entry)))
         (regions (now (pool .exit)) (now (table .exit)) (now (out .exit))) r ⌝ }
 {
-    play_from_start(pool, table, out, image, roll)
+    let room = room_for(roll.len(), out.len());
+    if !room.fits {
+        return room.lines;
+    }
+    let begun = start(pool, table, image);
+    let answer = begun.answer;
+    let sound = accepted(answer);
+    let machine = begun.machine;
+    let player = Player {
+        machine: machine,
+        sound: sound,
+        line: 1,
+    };
+    play(player, pool, table, image, roll, out);
+    room.lines
 }

@@ -28,11 +28,9 @@ opened = call₁ Open 128 gives ok 0 ∷ []
 abbrev filled : List Line
 filled = call₁ Open 128 gives ok 0 ∷ mapAt 0 64 gives ok 0 ∷ []
 
--- all tables at once, so that what they unfold is said once
+-- All tables at once, so that what they unfold is said once; the short ones first, so that a wrong machine is refused soon.
 all-computed :
-    (allPlayed noImage cases ≡ true)
-    × (allPlayed noImage turnedBack ≡ true)
-    × (allPlayed small smallCases ≡ true)
+    (allPlayed small smallCases ≡ true)
     × (played twoPages fresh [] ≡ true)
     × (eachPlayed twoPages (reached twoPages fresh []) closedEdges ≡ true)
     × (played twoPages fresh opened ≡ true)
@@ -41,38 +39,40 @@ all-computed :
     × (eachPlayed twoPages (reached twoPages fresh filled) fullEdges ≡ true)
     × (played twoPages fresh eightAreas ≡ true)
     × (eachPlayed twoPages (reached twoPages fresh eightAreas) eightEdges ≡ true)
-    × (allPlayed twoPages stillCleanRolls ≡ true)
+    × (allPlayed noImage cases ≡ true)
+    × (allPlayed twoPages keptRunsImage ≡ true)
     × (allPlayed lastSeven stillCleanImage ≡ true)
     × (allPlayed noImage overGapsRolls ≡ true)
+    × (allPlayed noImage turnedBack ≡ true)
+    × (allPlayed twoPages stillCleanRolls ≡ true)
     × (allPlayed noImage keptRunsRolls ≡ true)
-    × (allPlayed twoPages keptRunsImage ≡ true)
 unfolding played allPlayed reached eachPlayed count sum every lowest inside over alike follows joins areas mappedPages uncommittedPages lowestGap chargeOf agree
     lowestDifference within firstOf slotsAfter copyAfter allMapped applies refusal bytesAfter frontAfter backAfter copiedBackAfter
     best movedUp push walkTo walked runFor granted longestRun runsRewound runsAfter framesHeld differing coreValue answer
 all-computed = (refl, refl, refl, refl, refl, refl, refl, refl, refl, refl, refl, refl, refl, refl, refl, refl)
 
 pub starred-cases : allGiven (casesOver noImage cases) ≡ true
-starred-cases = played-given noImage cases (all-computed .0)
+starred-cases = played-given noImage cases (all-computed .9)
 
 pub turned-back : allGiven turnedBackCases ≡ true
 turned-back =
     let c = all-computed in
-    given-append (casesOver noImage turnedBack) _ (played-given noImage turnedBack (c .1))
-    (given-append (casesOver small smallCases) _ (played-given small smallCases (c .2))
-    (given-append (eachAfter twoPages [] closedEdges) _ (each-given twoPages [] closedEdges (c .3) (c .4))
-    (given-append (eachAfter twoPages opened bareEdges) _ (each-given twoPages opened bareEdges (c .5) (c .6))
-    (given-append (eachAfter twoPages filled fullEdges) _ (each-given twoPages filled fullEdges (c .7) (c .8))
-    (each-given twoPages eightAreas eightEdges (c .9) (c .10))))))
+    given-append (casesOver noImage turnedBack) _ (played-given noImage turnedBack (c .13))
+    (given-append (casesOver small smallCases) _ (played-given small smallCases (c .0))
+    (given-append (eachAfter twoPages [] closedEdges) _ (each-given twoPages [] closedEdges (c .1) (c .2))
+    (given-append (eachAfter twoPages opened bareEdges) _ (each-given twoPages opened bareEdges (c .3) (c .4))
+    (given-append (eachAfter twoPages filled fullEdges) _ (each-given twoPages filled fullEdges (c .5) (c .6))
+    (each-given twoPages eightAreas eightEdges (c .7) (c .8))))))
 
 pub still-clean : allGiven stillClean ≡ true
 still-clean =
-    given-append (casesOver twoPages stillCleanRolls) (casesOver lastSeven stillCleanImage) (played-given twoPages stillCleanRolls (all-computed .11))
-    (played-given lastSeven stillCleanImage (all-computed .12))
+    given-append (casesOver twoPages stillCleanRolls) (casesOver lastSeven stillCleanImage) (played-given twoPages stillCleanRolls (all-computed .14))
+    (played-given lastSeven stillCleanImage (all-computed .11))
 
 pub over-gaps : allGiven overGaps ≡ true
-over-gaps = played-given noImage overGapsRolls (all-computed .13)
+over-gaps = played-given noImage overGapsRolls (all-computed .12)
 
 pub kept-runs : allGiven keptRuns ≡ true
 kept-runs =
-    given-append (casesOver noImage keptRunsRolls) (casesOver twoPages keptRunsImage) (played-given noImage keptRunsRolls (all-computed .14))
-    (played-given twoPages keptRunsImage (all-computed .15))
+    given-append (casesOver noImage keptRunsRolls) (casesOver twoPages keptRunsImage) (played-given noImage keptRunsRolls (all-computed .15))
+    (played-given twoPages keptRunsImage (all-computed .10))

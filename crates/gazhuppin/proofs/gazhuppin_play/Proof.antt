@@ -7,9 +7,9 @@ use Rattle.roll.proofs.KnownLaws.{known-start}
 use Rattle.room.proofs.RoomLaws.{few-lines, none-answered, all-answered}
 use borrow.Author.Needs.{needs}
 use Rattle.host_rolls.specs.FromStart.{Regions, regions, Room}
-use Rattle.from_start.proofs.RoomLaws.{no-room, room-for-all}
-use Rattle.from_start.proofs.play_from_start.Statement.{statement}
-use Rattle.from_start.proofs.play_from_start.Tie as tie
+use Rattle.gazhuppin.proofs.RoomLaws.{no-room, room-for-all}
+use Rattle.gazhuppin.proofs.gazhuppin_play.Statement.{statement}
+use Rattle.gazhuppin.proofs.gazhuppin_play.Tie as tie
 
 -- ---- the start, and what is lent
 
@@ -86,8 +86,8 @@ returns-2 c =
     room-for-all (first .args .image .now) (first .args .roll .now) (lent first) _ (branch .before .before .room-for .result .lines) _ _
     (has-room branch .0) (has-room branch .1) (starting .start .ensures .1) (playing .play .ensures)
 
-pub play-from-start-spec : {M : Type 1} → statement M
-play-from-start-spec =
+pub gazhuppin-play-spec : {M : Type 1} → statement M
+gazhuppin-play-spec =
     tie.close
     (tie.spec
     room-for-requires

@@ -7,9 +7,9 @@ use lib.ListN.{length}
 use borrow.Author.Needs.{needs}
 use Rattle.state.specs.World.{World, worldOf}
 use Rattle.playing.proofs.PrefixLaws.{few-lines}
-use Rattle.roll_input.proofs.InputLaws.{SoFar, none-so-far, known-so-far, short-line, whole-line, ended, one-more, full}
-use Rattle.roll_input.proofs.play_input.Statement.{statement}
-use Rattle.roll_input.proofs.play_input.Tie as tie
+use Rattle.archiver.proofs.InputLaws.{SoFar, none-so-far, known-so-far, short-line, whole-line, ended, one-more, full}
+use Rattle.archiver.proofs.roll_input.play_input.Statement.{statement}
+use Rattle.archiver.proofs.roll_input.play_input.Tie as tie
 
 abbrev Inv-loop : tie.InvT-loop
 Inv-loop sound pool₀ table₀ image state₀ number₀ pool table state number =

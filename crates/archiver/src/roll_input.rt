@@ -1,6 +1,5 @@
-// A roll on standard input, played line by line; its replies are not printed.
-// It promises that what it reads, one line after the other until a short one or the 65,535th, is one roll played (`RollPlayed`).
-// It stands on `playing`, on `input` for when another line is read, and on the kit's `io` and `libc`; which bytes these read nothing proves.
+// A roll on standard input, played line by line; its replies are not printed. What is read, one line after the other until a short one or the 65,535th, is one
+// roll played (`RollPlayed`).
 ghost use Rattle.state.specs.World.{worldOf};
 ghost use Rattle.roll.specs.Known.{Known};
 ghost use Rattle.roll.specs.Input.{RollPlayed};
