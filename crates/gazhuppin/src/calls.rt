@@ -8,8 +8,8 @@ ghost use Rattle.filing.specs.Filed.{left, filed};
 use filing::archive_over;
 use host_calls::Asked;
 use host_calls::Told;
+use host_calls::state_bytes;
 use host_start::start_over;
-use layout::size::Size;
 use stepwise::call_over;
 
 // How many bytes a host lends for the state.
@@ -17,7 +17,7 @@ use stepwise::call_over;
 pub extern "C" fn gazhuppin_state_bytes() -> usize
     ensures { λ r. ⌜ r ≡ stateSize ⌝ }
 {
-    Size::STATE
+    state_bytes()
 }
 
 // Starts a machine: writes a fresh state and clears pool and table. Answers 0, or 3 where a length is wrong: then pool and table stay as they are, and so does

@@ -3,10 +3,19 @@
 // It promises (specs/HostClaims) that calls in turn are a run of the machine, so that each demand is true of them, in bytes.
 // It stands on `step` for the step, on `layout` for the bytes, on `codes` for numbers, and on `claims` and `consequences` for what is promised.
 ghost use mathlib.Core.Path.{_≡_};
+ghost use Rattle.layout.specs.Layout.{stateSize};
 ghost use Rattle.host_calls.specs.Calls.{toldBy, answerTold, requestIn, noState};
 use interface::Answer;
 use interface::Refusal;
 use interface::Request;
+use layout::size::Size;
+
+// How many bytes a host lends for the state.
+pub fn state_bytes() -> usize
+    ensures { λ r. ⌜ r ≡ stateSize ⌝ }
+{
+    Size::STATE
+}
 
 // What a host asks: the seven numbers of a line.
 #[repr(C)]

@@ -78,7 +78,7 @@ pub fn reply<'a, 'b>(
                 } else {
                     let sandboxes = playing.sandboxes;
                     let held = playing.held;
-                    let all = put_together(sandboxes, held, q.code == Request::WRITE);
+                    let all = put_together(sandboxes, held, q);
                     let acted = act(b, all, pool, table, image, q);
                     let after = acted.sandbox;
                     let marks = acted.held;

@@ -8,13 +8,11 @@ use mathlib.Core.Bool.{true}
 use Prim.Native.Nat.{ℕ, _≤_}
 use native.Mathlib.Omega.{arith}
 use lib.ListN.{length, getD, set}
-use borrow.Author.Tests.{eq-eqb}
 use Rattle.basics.proofs.TestLaws.{length-mapped}
 use Rattle.interface.specs.declared.answer.Answer.{Answer}
 use Rattle.interface.specs.declared.answer.Answer.the-variants.{Refused}
 use Rattle.interface.specs.declared.request.Request.{Request}
 use Rattle.interface.specs.Answers.{answered, valueOf}
-use Rattle.interface.specs.Requests.{Write}
 use Rattle.lines.specs.declared.Line.{Line}
 use Rattle.frames.specs.declared.Held.{Held}
 use Rattle.frames.specs.Frames.{noneHeld}
@@ -174,13 +172,13 @@ in-place c =
 
 -- or left there, and the pool is as it was
 abbrev pub left-at : tie.After-put-together → tie.After-answer
-left-at c = c .before .before .before .before .before .before .before
+left-at c = c .before .before .before .before .before .before
 
 pool-stays : (c : tie.After-put-together) → left-at c .answer .last .1 .0 ≡ asking (told-at (left-at c)) .args .pool .now
 pool-stays c =
     let behind = left-at c in
     let told = told-at behind in
-    behind .answer .ensures (worldIn (asking told)) (around told) .left (c .before .before .before .before .if2 .left)
+    behind .answer .ensures (worldIn (asking told)) (around told) .left (c .before .before .before .if2 .left)
 
 pub stands : (c : tie.After-put-together) → let told = told-at (left-at c) in let s = asking told in let all = c .put-together .result in
     Stands (imageIn s) (asked told) (own told) all (kept (all .held) (left-at c .answer .last .1 .0) (s .args .table .now)) (s .args .t1 .sandboxes)
@@ -189,7 +187,7 @@ stands c =
     let s = asking told in
     let found = c .put-together in
     standing (imageIn s) (asked told) (machineIn s) (s .args .pool .now) _ (s .args .table .now) (found .result) (found .ensures .0) (pool-stays c)
-    (four s) (calls told .low) (passes told) (found .ensures .1 .0) (λ e. found .ensures .1 .1 (eq-eqb (asked told .code) Write e))
+    (four s) (calls told .low) (passes told) (found .ensures .1 .0) (found .ensures .1 .1)
 
 -- acted on, and put back
 abbrev pub acted-at : tie.After-marks2 → tie.After-act
@@ -301,12 +299,12 @@ met c =
     let answer : tie.After-answer = record { before = record { before = lent; answer-arg2 = w .8 }; answer = w .9 } in
     let at : tie.Else2 = record { before = record { before = record { before = answer; pool2 = w .10 }; slice-known6 = w .11 }; if2 = w .12 } in
     let held : tie.After-held2 = record { before = record { before = at; sandboxes = w .13 }; held2 = w .14 } in
-    let found : tie.After-put-together = record { before = record { before = held; struct-known3 = w .15 }; put-together = w .16 } in
-    let did : tie.After-act = record { before = record { before = record { before = found; act-arg = w .17 }; act-arg2 = w .18 }; act = w .19 } in
-    let pooled : tie.After-slice-known7 = record { before = record { before = did; pool3 = w .20 }; slice-known7 = w .21 } in
-    let tabled : tie.After-slice-known8 = record { before = record { before = pooled; table2 = w .22 }; slice-known8 = w .23 } in
-    let marked : tie.After-marks2 = record { before = record { before = tabled; after2 = w .24 }; marks2 = w .25 } in
-    acted-met marked (m .pool) (m .table) (m .playing) (m .answer) (w .26) (w .27) (w .28) (w .29))
+    let found : tie.After-put-together = record { before = held; put-together = w .15 } in
+    let did : tie.After-act = record { before = record { before = record { before = found; act-arg = w .16 }; act-arg2 = w .17 }; act = w .18 } in
+    let pooled : tie.After-slice-known7 = record { before = record { before = did; pool3 = w .19 }; slice-known7 = w .20 } in
+    let tabled : tie.After-slice-known8 = record { before = record { before = pooled; table2 = w .21 }; slice-known8 = w .22 } in
+    let marked : tie.After-marks2 = record { before = record { before = tabled; after2 = w .23 }; marks2 = w .24 } in
+    acted-met marked (m .pool) (m .table) (m .playing) (m .answer) (w .25) (w .26) (w .27) (w .28))
     others)
     rest)
     (m .came)

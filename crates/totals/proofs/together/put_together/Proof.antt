@@ -1,7 +1,6 @@
 -- What the sandboxes have together: the shares as they are counted, and the marks of kept frames where they are asked for.
-use mathlib.Core.Path.{refl, ap, sym, _∙_}
-use mathlib.Core.Bool.{false≢true}
-use borrow.Author.Tests.{not-true}
+use mathlib.Core.Path.{refl, ap}
+use native.Mathlib.Omega.{arith}
 use borrow.Author.Needs.{needs}
 use Rattle.marks.specs.declared.Marks.{Marks}
 use Rattle.totals.proofs.together.put_together.Statement.{statement}
@@ -16,7 +15,7 @@ none-requires c κs = search needs
 returns : tie.Need-returns
 returns c =
     let tested = c .before in
-    (refl, (tested .before .shares .ensures .0, λ t. absurd (false≢true (sym (not-true _ (tested .if1 .taken)) ∙ t))))
+    (refl, (tested .before .before .shares .ensures .0, λ w. absurd (omega (arith, w, tested .if1 .taken))))
 
 kept-marks-requires : tie.Need-kept-marks-requires
 kept-marks-requires c κs = search needs
@@ -24,7 +23,7 @@ kept-marks-requires c κs = search needs
 returns-2 : tie.Need-returns-2
 returns-2 c =
     let found = c .before in
-    (refl, (found .before .before .shares .ensures .0, λ t. ap (λ (m : Marks). m .held) (found .kept-marks .ensures)))
+    (refl, (found .before .before .before .shares .ensures .0, λ _. ap (λ (m : Marks). m .held) (found .kept-marks .ensures)))
 
 pub put-together-spec : {M : Type 1} → statement M
 put-together-spec =
