@@ -19,7 +19,7 @@ use Rattle.few_rows.specs.Decided.{namesNoPage}
 use Rattle.interface.proofs.KindLaws.{kind}
 use Rattle.interface.proofs.RowLaws.{row-13, row-14}
 use Rattle.interface.proofs.TableLaws.{lowest-applies, from-here}
-use Rattle.decision.proofs.DecideLaws.{Behind, sound-call}
+use Rattle.page_decision.proofs.DecideLaws.{Behind, sound-call}
 
 -- a call that neither opens a sandbox nor packs areas anew
 pub record Few (q : Request) : Type 0 where

@@ -8,11 +8,11 @@ ghost use Rattle.interface.specs.Requests.{_is_, Report, Compare};
 ghost use Rattle.state.specs.World.{World};
 ghost use Rattle.step.specs.Step.{Stepped};
 ghost use Rattle.in_place.specs.InPlace.{Around, Stands};
-use decision::Verdict;
 use few_rows::unpaged::decide;
 use interface::Answer;
 use interface::PageNo;
 use interface::Request;
+use page_decision::Verdict;
 use state::sandbox::Sandbox;
 use values::value_of;
 

@@ -11,8 +11,8 @@ use Rattle.areas.specs.declared.area.Areas.{Areas}
 use Rattle.state.specs.declared.sandbox.Sandbox.{Sandbox}
 use Rattle.state.specs.World.{World, framesOf}
 use Rattle.rules.specs.After.{recordWith, presentAfter}
-use Rattle.decision.specs.declared.Verdict.the-variants.{Accepted}
-use Rattle.decision.specs.Decision.{verdictNumber}
+use Rattle.page_decision.specs.declared.Verdict.the-variants.{Accepted}
+use Rattle.page_decision.specs.Decision.{verdictNumber}
 use Rattle.memory.specs.Parts.{AskedOf}
 use Rattle.step.specs.Step.{numberAt}
 use Rattle.step.specs.Acted.{worldFrom, Stands}

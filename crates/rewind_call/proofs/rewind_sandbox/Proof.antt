@@ -18,8 +18,8 @@ use Rattle.state.specs.World.{World, framesOf}
 use Rattle.totals.specs.declared.together.Together.{Together}
 use Rattle.rules.specs.After.{packedAfter, takenAfter, snapshotAfter, recordAfter}
 use Rattle.rules.specs.Ready.{Ready}
-use Rattle.decision.specs.declared.Verdict.the-variants.{Accepted}
-use Rattle.decision.specs.Decision.{verdictNumber}
+use Rattle.page_decision.specs.declared.Verdict.the-variants.{Accepted}
+use Rattle.page_decision.specs.Decision.{verdictNumber}
 use Rattle.few_rows.specs.Decided.{namesNoPage}
 use Rattle.memory.specs.Parts.{LeftBy}
 use Rattle.memory.proofs.MemoryLaws.{stepped-none, rewound}

@@ -16,7 +16,7 @@ use Rattle.records.specs.Record.{viewFrom}
 use Rattle.records.proofs.SettledLaws.{settled-of}
 use Rattle.rules.specs.Ready.{Ready}
 use Rattle.rules.proofs.FitLaws.{named-address, page-small}
-use Rattle.decision.proofs.DecideLaws.{Behind, sound-call, limits-row, fit-of}
+use Rattle.page_decision.proofs.DecideLaws.{Behind, sound-call, limits-row, fit-of}
 use Rattle.few_rows.proofs.RowLaws.{Few, few-access, number-of, past4, past6, past8, past9, row9, access-accepts}
 use borrow.Author.Needs.{needs}
 use Rattle.few_rows.proofs.access.decide.Statement.{statement}

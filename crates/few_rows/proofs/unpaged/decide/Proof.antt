@@ -8,7 +8,7 @@ use Rattle.interface.specs.Refusals.{View, applies}
 use Rattle.interface.specs.Settled.{Settled}
 use Rattle.records.specs.Record.{viewFrom}
 use Rattle.records.proofs.SettledLaws.{settled-of}
-use Rattle.decision.proofs.DecideLaws.{Behind, sound-call, limits-row}
+use Rattle.page_decision.proofs.DecideLaws.{Behind, sound-call, limits-row}
 use Rattle.few_rows.proofs.RowLaws.{Few, few-unpaged, number-of, past4, past6, unpaged-accepts}
 use borrow.Author.Needs.{needs}
 use Rattle.few_rows.proofs.unpaged.decide.Statement.{statement}

@@ -2,8 +2,8 @@
 use mathlib.Core.Path.{_≡_, sym, ap, _∙_}
 use native.Mathlib.Omega.{arith}
 use Rattle.state.specs.World.{World}
-use Rattle.decision.specs.declared.Verdict.the-variants.{Accepted}
-use Rattle.decision.specs.Decision.{verdictNumber}
+use Rattle.page_decision.specs.declared.Verdict.the-variants.{Accepted}
+use Rattle.page_decision.specs.Decision.{verdictNumber}
 use Rattle.step.specs.Step.{numberAt}
 use Rattle.step.proofs.CallLaws.{stepped-refused, asked}
 use Rattle.in_place.specs.InPlace.{Around}

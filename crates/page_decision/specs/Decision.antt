@@ -9,9 +9,9 @@ use Rattle.interface.specs.Refusals.{View, refusal}
 use Rattle.areas.specs.declared.area.Areas.{Areas}
 use Rattle.areas.specs.Areas.{empty}
 use Rattle.records.specs.declared.Record.{Record}
-use Rattle.decision.specs.declared.Verdict.{Verdict}
-use Rattle.decision.specs.declared.Verdict.the-variants.{Accepted, Refused}
-use Rattle.decision.specs.declared.Decision.{Decision}
+use Rattle.page_decision.specs.declared.Verdict.{Verdict}
+use Rattle.page_decision.specs.declared.Verdict.the-variants.{Accepted, Refused}
+use Rattle.page_decision.specs.declared.Decision.{Decision}
 use Rattle.rules.specs.After.{presentAfter}
 
 -- document 01's number of a verdict

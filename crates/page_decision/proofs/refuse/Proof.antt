@@ -1,7 +1,7 @@
 -- A refusal, and no areas.
 use borrow.Author.Needs.{needs}
-use Rattle.decision.proofs.refuse.Statement.{statement}
-use Rattle.decision.proofs.refuse.Tie as tie
+use Rattle.page_decision.proofs.refuse.Statement.{statement}
+use Rattle.page_decision.proofs.refuse.Tie as tie
 
 empty-requires : tie.Need-empty-requires
 empty-requires c κs = search needs

@@ -3,16 +3,18 @@ use Prim.Native.Nat.{ℕ, _+_, _-_, _≤_, _<_}
 use mathlib.Core.Path.{_≡_, refl, sym, _∙_, ap}
 use mathlib.Core.Bool.{true, false, not, _&&_}
 use lib.Dec.{leb, ltb, eqb}
+use native.Mathlib.Omega.{arith}
 use borrow.Author.Tests.{eqb-false, leb-true, leb-false, le-leb, le-ltb, lt-ltb, eq-eqb, not-false}
 use Rattle.basics.proofs.TestLaws.{by-cases, and-right, and-not-right, or-left, or-right}
 use Rattle.interface.specs.declared.answer.Refusal.{Refusal}
-use Rattle.interface.specs.declared.answer.Refusal.the-variants.{NotOpen, OutsideLimits, SnapshotTaken, NotWritable, TooManyAreas, OutputTooShort}
+use Rattle.interface.specs.declared.answer.Refusal.the-variants.{Malformed, NoSuchCall, Unsound, NotOpen, AlreadyOpen, OutsideLimits}
+use Rattle.interface.specs.declared.answer.Refusal.the-variants.{SnapshotTaken, NoSnapshot, NotMapped, AlreadyMapped, NoGap, NotWritable}
+use Rattle.interface.specs.declared.answer.Refusal.the-variants.{ShareExceeded, TooManyAreas, OutputTooShort}
 use Rattle.interface.specs.declared.request.Request.{Request}
 use Rattle.interface.specs.Requests.{_is_, Open, Map, Unmap, Protect, Snapshot, Rewind, isCall, needsSnapshot}
 use Rattle.interface.specs.Slots.{areas, allAre, lowestGap}
 use Rattle.interface.specs.Limits.{within}
 use Rattle.interface.specs.Outcome.{firstOf, slotsAfter}
-use Rattle.interface.specs.Answers.{refusalNumber}
 use Rattle.interface.specs.Refusals.{View, slotsThen, applies, refusal}
 use Rattle.interface.specs.Settled.{Settled}
 use Rattle.interface.proofs.KindLaws.{kind}
@@ -24,17 +26,42 @@ use Rattle.packing.specs.declared.pack.Packed.{Packed}
 use Rattle.packing.proofs.PackLaws.{pack-fits}
 use Rattle.records.specs.declared.Record.{Record}
 use Rattle.records.specs.Record.{copyOf, viewFrom}
-use Rattle.decision.specs.declared.Verdict.the-variants.{Accepted, Refused}
-use Rattle.decision.specs.declared.Decision.{Decision}
+use Rattle.page_decision.specs.declared.Verdict.the-variants.{Accepted, Refused}
+use Rattle.page_decision.specs.declared.Decision.{Decision}
 use Rattle.rules.specs.After.{changes, packedAfter}
 use Rattle.rules.specs.Ready.{Fit, Passed}
-use Rattle.decision.specs.Decision.{Decided}
+use Rattle.page_decision.specs.Decision.{Decided}
+use Rattle.page_decision.specs.Earlier.{NoneBefore}
 use Rattle.rules.proofs.FitLaws.{fit}
 
 module _ (v : View) (q : Request) where
   -- the rows before this one do not apply
   abbrev pub Behind : Refusal → Type 0
   Behind = Past (applies v q)
+
+  -- the rows before 9 by their numbers, and one by one
+  pub behind-8 : NoneBefore NotMapped v q → Behind NotMapped
+  behind-8 none =
+      let past3 : Behind NotOpen = (none Unsound (omega arith), (none NoSuchCall (omega arith), (none Malformed (omega arith), tt))) in
+      let past5 : Behind OutsideLimits = (none AlreadyOpen (omega arith), (none NotOpen (omega arith), past3)) in
+      (none NoSnapshot (omega arith), (none SnapshotTaken (omega arith), (none OutsideLimits (omega arith), past5)))
+
+  pub none-before-9 : Behind NotMapped → NoneBefore NotMapped v q
+  none-before-9 p NoSnapshot l = p .0
+  none-before-9 p SnapshotTaken l = p .1 .0
+  none-before-9 p OutsideLimits l = p .1 .1 .0
+  none-before-9 p AlreadyOpen l = p .1 .1 .1 .0
+  none-before-9 p NotOpen l = p .1 .1 .1 .1 .0
+  none-before-9 p Unsound l = p .1 .1 .1 .1 .1 .0
+  none-before-9 p NoSuchCall l = p .1 .1 .1 .1 .1 .1 .0
+  none-before-9 p Malformed l = p .1 .1 .1 .1 .1 .1 .1 .0
+  none-before-9 p NotMapped l = absurd (omega arith)
+  none-before-9 p AlreadyMapped l = absurd (omega arith)
+  none-before-9 p NoGap l = absurd (omega arith)
+  none-before-9 p NotWritable l = absurd (omega arith)
+  none-before-9 p ShareExceeded l = absurd (omega arith)
+  none-before-9 p TooManyAreas l = absurd (omega arith)
+  none-before-9 p OutputTooShort l = absurd (omega arith)
 
   -- row 6, by the test of the limits
   pub limits-row : not (within (v .images) q) ≡ applies v q OutsideLimits
@@ -110,11 +137,6 @@ module _ (v : View) (q : Request) where
 pub sound-call : (v : View) (q : Request) → v .sound ≡ true → isCall q ≡ true → Behind v q NotOpen
 unfolding applies
 sound-call v q s e = (rw s, (rw e, (refl, tt)))
-
--- "sandbox above 3"
-pub past-the-row : (v : View) (q : Request) → 4 ≤ q .sandbox → applies v q NotOpen ≡ true
-unfolding applies
-past-the-row v q h = rw (le-ltb (q .sandbox) 4 h)
 
 -- ---- row 14
 

@@ -1,2 +1,0 @@
--- What is decided.
-pub mod Decision
