@@ -5,12 +5,15 @@ ghost use mathlib.Core.Path.{_≡_};
 ghost use Rattle.layout.specs.Layout.{stateSize};
 ghost use Rattle.host_calls.specs.Calls.{handed, requestIn, startNumber, startHands, Called};
 ghost use Rattle.filing.specs.Filed.{left, filed};
+use encoding::decode;
+use encoding::encode;
+use encoding::is_state;
 use filing::archive_over;
 use host_calls::Asked;
 use host_calls::Told;
 use host_calls::state_bytes;
 use host_start::start_over;
-use stepwise::call_over;
+use machine::call;
 
 // How many bytes a host lends for the state.
 #[no_mangle]
@@ -50,7 +53,15 @@ pub extern "C" fn gazhuppin_call(
         let after = handed (now (state .exit)) (now (pool .exit)) (now (table .exit)) in
         ⌜ Called (now (image .entry)) before (requestIn asked) r after ⌝ }
 {
-    call_over(image, state, pool, table, asked.request())
+    let q = asked.request();
+    if !is_state(state) {
+        return Told::without_state(q);
+    }
+    let reply = call(decode(state), pool, table, image, q);
+    let machine = reply.machine;
+    let answer = reply.answer;
+    encode(machine, state);
+    Told::by(answer)
 }
 
 // Writes the archive roll of a sandbox's snapshot into `out`, and answers the number of its lines. State, pool, table and image are only read. A refusal leaves

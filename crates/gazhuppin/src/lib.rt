@@ -4,8 +4,8 @@
 // It promises that whatever is lent, a call ends. Of a roll: `FromStart`, from which follows all that the C header says (specs/Promised of `host_rolls`). Of
 // calls one at a time: the demands (specs/HostClaims of `host_calls`). Of an archive roll: it is the plain machine's, and its calls rebuild the snapshot
 // (specs/HostArchive of `filing`).
-// It stands on `starting`, `playing` and `room` for a roll, on `stepwise` and `layout` for a call and on `filing` for an archive roll. Nothing that holds an
-// enum crosses to C.
+// It stands on `starting`, `playing` and `room` for a roll, on `host_start`, `machine` and `encoding` for a start and a call, and on `filing` for an archive
+// roll. Nothing that holds an enum crosses to C.
 ghost use mathlib.Core.Path.{_≡_};
 ghost use Rattle.lines.specs.Lines.{linesOf};
 ghost use Rattle.host_rolls.specs.FromStart.{regions, FromStart};

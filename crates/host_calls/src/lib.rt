@@ -1,5 +1,5 @@
 // What a start and a call at a time are to a host that keeps the state as bytes beside its pool and table, and what it gets of them: definitions and theorems.
-// The code is in `host_start` and `stepwise`; here is what a host asks, and what it is told, as both cross to C.
+// The code is in `host_start` and `gazhuppin`; here is what a host asks, and what it is told, as both cross to C.
 // It promises (specs/HostClaims) that calls in turn are a run of the machine, so that each demand is true of them, in bytes.
 // It stands on `step` for the step, on `layout` for the bytes, on `codes` for numbers, and on `claims` and `consequences` for what is promised.
 ghost use mathlib.Core.Path.{_≡_};
