@@ -7,8 +7,8 @@ use Rattle.pages.proofs.PartLaws.{came-back}
 use Rattle.columns.specs.Prints.{printedField}
 use Rattle.columns.proofs.PrintLaws.{length-field}
 use borrow.Author.Needs.{needs}
-use Rattle.printer.proofs.print_at.Statement.{statement}
-use Rattle.printer.proofs.print_at.Tie as tie
+use Rattle.field_text.proofs.print_at.Statement.{statement}
+use Rattle.field_text.proofs.print_at.Tie as tie
 
 mul-at : tie.Need-mul-at
 mul-at c = search needs
