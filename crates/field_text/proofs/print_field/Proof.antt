@@ -1,8 +1,8 @@
 -- A field printed over blanks: one digit is stored (`digit-printed`), and more are printed from the last on.
-use Rattle.printer.proofs.PrinterLaws.{digit-printed}
+use Rattle.field_text.proofs.FieldTextLaws.{digit-printed}
 use borrow.Author.Needs.{needs}
-use Rattle.printer.proofs.print_field.Statement.{statement}
-use Rattle.printer.proofs.print_field.Tie as tie
+use Rattle.field_text.proofs.print_field.Statement.{statement}
+use Rattle.field_text.proofs.print_field.Tie as tie
 
 blank-requires : tie.Need-blank-requires
 blank-requires c κs = search needs

@@ -9,9 +9,9 @@ use borrow.Author.Needs.{needs}
 use Rattle.columns.specs.Prints.{column, columns, printedField}
 use Rattle.columns.proofs.PrintLaws.{length-columns}
 use Rattle.columns.proofs.FieldLaws.{column-shown}
-use Rattle.printer.proofs.PrinterLaws.{digits-begun, digits-left, column-printed, blanks-left, digits-ended}
-use Rattle.printer.proofs.print_digits.Statement.{statement}
-use Rattle.printer.proofs.print_digits.Tie as tie
+use Rattle.field_text.proofs.FieldTextLaws.{digits-begun, digits-left, column-printed, blanks-left, digits-ended}
+use Rattle.field_text.proofs.print_digits.Statement.{statement}
+use Rattle.field_text.proofs.print_digits.Tie as tie
 
 abbrev Inv-loop : tie.InvT-loop
 Inv-loop out₀ n rest₀ i₀ out rest i =

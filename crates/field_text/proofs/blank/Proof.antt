@@ -1,10 +1,10 @@
 -- Six blanks, whatever stood there.
 use native.Mathlib.Omega.{arith}
 use lib.ListN.{length-set}
-use Rattle.printer.proofs.PrinterLaws.{six-blanks}
+use Rattle.field_text.proofs.FieldTextLaws.{six-blanks}
 use borrow.Author.Needs.{needs}
-use Rattle.printer.proofs.blank.Statement.{statement}
-use Rattle.printer.proofs.blank.Tie as tie
+use Rattle.field_text.proofs.blank.Statement.{statement}
+use Rattle.field_text.proofs.blank.Tie as tie
 
 slice-write-out : tie.Need-slice-write-out
 slice-write-out c = search needs

@@ -1,14 +1,13 @@
 -- A field put into its six columns of the line: what comes back is the line with that part set.
 use Prim.Native.Nat.{_+_, _*_}
-use mathlib.Core.Path.{ap, _∙_}
+use mathlib.Core.Path.{_∙_}
 use native.Mathlib.Omega.{arith}
-use Rattle.pages.specs.Parts.{setPart}
 use Rattle.pages.proofs.PartLaws.{came-back}
 use Rattle.columns.specs.Prints.{printedField}
 use Rattle.columns.proofs.PrintLaws.{length-field}
 use borrow.Author.Needs.{needs}
-use Rattle.printer.proofs.print_at.Statement.{statement}
-use Rattle.printer.proofs.print_at.Tie as tie
+use Rattle.field_text.proofs.print_at.Statement.{statement}
+use Rattle.field_text.proofs.print_at.Tie as tie
 
 mul-at : tie.Need-mul-at
 mul-at c = search needs
