@@ -4,13 +4,12 @@ ghost use Prim.Native.Nat.{_+_, _≤_, _<_};
 ghost use lib.ListN.{length};
 ghost use Rattle.interface.specs.Numbers.{PageBytes, PageCount, Sandboxes, TableEntries};
 ghost use Rattle.pages.specs.Parts.{zeros};
-ghost use Rattle.table.specs.Store.{kept, frontOf, Ranged, free, freeTo, cleared};
-use frames::FrameNo;
+ghost use Rattle.table.specs.Store.{kept, frontOf, Ranged, freeTo, cleared};
+use entry_release::free_entry;
 use frames::Held;
 use interface::PageNo;
 use table::entry::GROUP;
 use table::entry::are_empty;
-use table::entry::frame_of;
 use table::entry::front_index;
 
 // No frame is held, and pool and table are cleared.
@@ -88,23 +87,6 @@ fn free_each(held: Held, pool: &mut [u8], table: &mut [u16], at: usize, n: u8) -
         h = free_entry(h, pool, table, at + i as usize);
     }
     h
-}
-
-// The page of an entry, if it has one, is freed: its frame is cleared and no longer held.
-fn free_entry(held: Held, pool: &mut [u8], table: &mut [u16], at: usize) -> Held
-    requires { ⌜ at < TableEntries ⌝ }
-    requires { ⌜ Ranged PageBytes (now pool) (now table) ⌝ }
-    ensures { λ r. ⌜ kept r (now (pool .exit)) (now (table .exit)) ≡ free PageBytes at
-        (kept held (now (pool .entry)) (now (table .entry))) ⌝ }
-{
-    let entry = table[at];
-    if entry == 0 {
-        return held;
-    }
-    let f = frame_of(entry);
-    table[at] = 0;
-    pool::clear_frame(pool, f);
-    held.without(f)
 }
 
 // All entries become 0.

@@ -5,8 +5,8 @@ use borrow.Author.Needs.{needs}
 use Rattle.table.specs.Store.{Store, kept}
 use Rattle.table.proofs.StoreLaws.{free-none}
 use Rattle.table.proofs.PageLaws.{free-some}
-use Rattle.freeing.proofs.store.free_entry.Statement.{statement}
-use Rattle.freeing.proofs.store.free_entry.Tie as tie
+use Rattle.entry_release.proofs.free_entry.Statement.{statement}
+use Rattle.entry_release.proofs.free_entry.Tie as tie
 
 -- ---- what is known behind the frame and its clearing
 
