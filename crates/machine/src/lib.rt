@@ -42,7 +42,7 @@ pub fn call(machine: Machine, pool: &mut [u8], table: &mut [u16], image: &[u8], 
             answer: answer,
         };
     }
-    let all = put_together(sandboxes, m.held, q.code == Request::WRITE);
+    let all = put_together(sandboxes, m.held, q);
     let acted = act(b, all, pool, table, image, q);
     let after = acted.sandbox;
     let held = acted.held;

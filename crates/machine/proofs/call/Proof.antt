@@ -5,10 +5,10 @@ use mathlib.Core.List.{List}
 use Prim.Native.Nat.{ℕ, _<_}
 use native.Mathlib.Omega.{arith}
 use lib.ListN.{length, getD}
-use borrow.Author.Tests.{eq-eqb, not-true, not-false}
+use borrow.Author.Tests.{not-true, not-false}
 use Rattle.basics.proofs.TestLaws.{length-mapped}
 use Rattle.interface.specs.declared.answer.Refusal.the-variants.{NoSuchCall, Unsound, NotOpen}
-use Rattle.interface.specs.Requests.{Write, isCall}
+use Rattle.interface.specs.Requests.{isCall}
 use Rattle.table.specs.Store.{kept}
 use Rattle.state.specs.declared.sandbox.Sandbox.{Sandbox}
 use Rattle.state.specs.World.{World, worldOf}
@@ -79,12 +79,12 @@ around row =
 
 -- where it is not answered there the pool is as it was, and what the sandboxes have together is found
 abbrev left-of : tie.After-put-together → tie.After-answer
-left-of c = c .before .before .before .before .before .before
+left-of c = c .before .before .before .before .before
 
 pool-stays : (c : tie.After-put-together) → let s = behindRow (tried (left-of c)) in left-of c .answer .last .1 .0 ≡ s .args .pool .now
 pool-stays c =
     let behind = left-of c in
-    behind .answer .ensures (worldIn (behindRow (tried behind))) (around (tried behind)) .left (c .before .before .before .if4 .left)
+    behind .answer .ensures (worldIn (behindRow (tried behind))) (around (tried behind)) .left (c .before .before .if4 .left)
 
 stands : (c : tie.After-put-together) → let s = behindRow (tried (left-of c)) in let all = c .put-together .result in
     Stands (imageIn s) (s .args .q) (own s) all (kept (all .held) (left-of c .answer .last .1 .0) (s .args .table .now)) (s .args .machine .sandboxes)
@@ -93,7 +93,7 @@ stands c =
     let s = behindRow row in
     let found = c .put-together in
     standing (imageIn s) (s .args .q) (s .args .machine) (s .args .pool .now) _ (s .args .table .now) (found .result) (found .ensures .0) (pool-stays c)
-    (four s) (in-row row) (passes (row .before .before)) (found .ensures .1 .0) (λ e. found .ensures .1 .1 (eq-eqb (s .args .q .code) Write e))
+    (four s) (in-row row) (passes (row .before .before)) (found .ensures .1 .0) (found .ensures .1 .1)
 
 -- ---- the needs
 
