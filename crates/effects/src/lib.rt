@@ -1,7 +1,7 @@
 // What an accepted request makes of the lent memory and of the sandbox's runs, computed.
 // It promises: the store and the runs after a request are those of memory/specs/Memory, whichever unheld frame a write takes and whichever frame of the
 // longest run it gives up.
-// It stands on `memory` for the definitions and their laws, on `writing`, `rewinding` and `freeing` for the frames, on `reuse` and `gathering` for the
+// It stands on `memory` for the definitions and their laws, on `writing`, `rewinding` and `freeing` for the frames, on `granting` and `gathering` for the
 // runs, on `totals` for what the sandboxes have together, and on `rules` for what a request within its limits is.
 ghost use mathlib.Core.Path.{_≡_};
 ghost use Prim.Native.Nat.{_<_};
@@ -14,10 +14,10 @@ ghost use Rattle.memory.specs.Parts.{SomeRow, OfEveryRow, LeftBy, StoreStepped}
 use frames::Held;
 use freeing::store::free_range;
 use gathering::gathered;
+use granting::Left;
+use granting::map;
 use interface::PageNo;
 use interface::Request;
-use reuse::Left;
-use reuse::map;
 use rewinding::store::rewind;
 use state::sandbox::Sandbox;
 use table::entry::move_fronts;

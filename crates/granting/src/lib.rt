@@ -1,25 +1,94 @@
-// A run of kept frames granted to entries (A3): "The first new pages get these frames as fronts, smallest frame number first".
-// It promises: store and rest of the run are those that kept/specs/Spare defines (`adoptTo`, `leftOf`), and no byte is touched.
-// It stands on `kept` for the definitions, on `frames` for the marks, and on `table` for the store.
+// What a map takes of a sandbox's runs of kept frames (A3): "The first new pages get these frames as fronts, smallest frame number first".
+// It promises: a map that takes a run gives its smallest frames to the first new pages without a byte of the pool, and no other map takes any; store and
+// runs are those of specs/Granting, made of what kept/specs/Spare defines (`adoptTo`, `leftOf`).
+// It stands on `kept` for the definitions, on `runs` and `run_search` for the run that suits, on `frames` for the marks, on `table` for the store, and on
+// `rules` for a map's first page.
 ghost use mathlib.Core.Path.{_≡_};
 ghost use mathlib.Core.List.{List};
 ghost use Prim.Native.Nat.{ℕ, _+_, _≤_, _<_};
+ghost use lib.Dec.{leb};
 ghost use lib.ListN.{length, set};
-ghost use Rattle.interface.specs.Numbers.{MostFrames};
+ghost use Rattle.interface.specs.Numbers.{PageCount, Sandboxes, TableEntries, MostFrames};
+ghost use Rattle.basics.specs.Choice.{_when_else_};
+ghost use Rattle.interface.specs.Requests.{Map};
+ghost use Rattle.interface.specs.Outcome.{firstOf};
 ghost use Rattle.frames.specs.Frames.{mark, countHeld, leastHeld};
 ghost use Rattle.table.specs.Store.{kept as storeOf};
 ghost use Rattle.kept.specs.Spare.{leftOf, adoptTo};
+ghost use Rattle.areas.specs.Areas.{slots};
+ghost use Rattle.rules.specs.Ready.{Fit, Ready};
+ghost use Rattle.granting.specs.Granting.{mapAdopts, mapRuns};
 use frames::FrameNo;
 use frames::Held;
+use interface::Request;
+use marks::Marks;
+use rules::first_of;
+use run_search::fitting;
+use runs::Runs;
+use state::sandbox::Sandbox;
+
+// What a request leaves: the marks of the frames that entries name, and the sandbox's runs.
+pub struct Left {
+    pub held: Held,
+    pub runs: Runs,
+}
+
+// "An anonymous map at 64 takes the shortest run at least as long as its pages; if none is that long, the longest. The first new pages get these frames as
+// fronts, smallest frame number first; a surplus stays kept with its age." Kept frames are zero: no byte of the pool is touched, and no pool is lent.
+pub fn map(held: Held, table: &mut [u16], b: Sandbox, q: Request) -> Left
+    requires { ⌜ q .code ≡ Map ⌝ }
+    requires { ⌜ q .sandbox < Sandboxes ⌝ }
+    requires { ⌜ Fit q ⌝ }
+    requires { ⌜ ((images : ℕ) × Ready images (b .rec)) ⌝ }
+    requires { ⌜ firstOf (slots (b .rec .present)) q + q .p2 ≤ PageCount ⌝ }
+    requires { ⌜ length (now table) ≡ TableEntries ⌝ }
+    ensures { λ r. ⌜ ((pool : List ℕ) → let before = storeOf held pool (now (table .entry)) in
+        storeOf (r .held) pool (now (table .exit)) ≡ mapAdopts q b before) ⌝ }
+    ensures runs { λ r. ⌜ r .runs ≡ mapRuns q b ⌝ }
+{
+    let runs = b.runs;
+    if q.p1 != Request::ANY_PAGE {
+        return Left {
+            held: held,
+            runs: runs,
+        };
+    }
+    if q.p3 != 0 {
+        return Left {
+            held: held,
+            runs: runs,
+        };
+    }
+    let pages = q.p2 as u8;
+    let place = fitting(runs, pages);
+    let run = runs.at(place);
+    let present = b.rec.present;
+    let first = first_of(present, q);
+    let at = q.sandbox as usize * Marks::SANDBOX_ENTRIES + first as usize;
+    let granted = grant(held, table, at, run, lesser(pages, run.count()));
+    let marks = granted.held;
+    let rest = granted.rest;
+    Left {
+        held: marks,
+        runs: runs.with(place, rest),
+    }
+}
+
+// The lesser of two numbers.
+fn lesser(a: u8, b: u8) -> u8
+    ensures { λ r. ⌜ r ≡ (a when leb a b else b) ⌝ }
+{
+    if a <= b { a } else { b }
+}
 
 // The marks of the entries, and what is left of a run.
-pub struct Granted {
-    pub held: Held,
-    pub rest: Held,
+struct Granted {
+    held: Held,
+    rest: Held,
 }
 
 // So many entries from `first` on take the smallest frames of a run, smallest first. The frames are zero already, so no byte is touched.
-pub fn grant(held: Held, table: &mut [u16], first: usize, run: Held, n: u8) -> Granted
+fn grant(held: Held, table: &mut [u16], first: usize, run: Held, n: u8) -> Granted
     requires { ⌜ first + n ≤ length (now table) ⌝ }
     requires { ⌜ n ≤ countHeld run ⌝ }
     ensures { λ r. ⌜ ((pool : List ℕ) →

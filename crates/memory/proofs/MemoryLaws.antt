@@ -32,7 +32,8 @@ use Rattle.state.proofs.SharesLaws.{zeroSandbox}
 use Rattle.content.specs.Content.{pageUnder, copyPage}
 use Rattle.content.proofs.ReadingLaws.{backing-there}
 use Rattle.reuse.specs.declared.Given.{Given}
-use Rattle.reuse.specs.Reuse.{mapRuns, mapAdopts, GaveUp}
+use Rattle.reuse.specs.Reuse.{GaveUp}
+use Rattle.granting.specs.Granting.{mapRuns, mapAdopts}
 use Rattle.memory.specs.Memory.{givesAt, runsAfter, touched, keepsFront, storeAfter}
 use Rattle.memory.specs.Parts.{ownSandbox, ownFront, Asked, WithFrames, LeftBy, StoreStepped, TouchStepped}
 use Rattle.memory.proofs.SpareLaws.{gives, gives-is, takes-of, takes-free, adopts}

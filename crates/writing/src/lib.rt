@@ -1,16 +1,16 @@
 // A write: a page without a front takes a frame, and then one byte of its front is stored.
 // It promises: the store and the runs after it are those of memory/specs/Memory, whichever unheld frame it takes and whichever frame of the longest run it
 // gives up first.
-// It stands on `memory` for the definitions and their laws, on `reuse` for the frame that is taken, on `totals` for the frames that are kept, and on `filling`
-// for what is put into it.
+// It stands on `memory` for the definitions and their laws, on `reuse` for the frame that is taken, on `totals` for the frames that are kept, on `filling`
+// for what is put into it, and on `granting` for the type of what a request leaves.
 ghost use mathlib.Core.Path.{_≡_};
 ghost use Rattle.interface.specs.Requests.{Write};
 ghost use Rattle.table.specs.Store.{kept};
 ghost use Rattle.memory.specs.Parts.{SomeRow, OfEveryRow, StoreStepped, TouchStepped};
+use granting::Left;
 use interface::PageNo;
 use interface::Request;
 use pages::Page;
-use reuse::Left;
 use reuse::give_up;
 use reuse::unheld_frame;
 use state::sandbox::Sandbox;

@@ -10,10 +10,10 @@ use Rattle.frames.specs.Frames.{countHeld}
 use Rattle.runs.specs.Row.{row, lengthsOf, withRunAt}
 use Rattle.areas.proofs.WalkLaws.{settled}
 use Rattle.run_choice.specs.Runs.{runFor, granted}
-use Rattle.reuse.proofs.ReuseLaws.{named-none, image-none, untaken-store, untaken-runs, frames-there, taken-store, taken-runs}
+use Rattle.granting.proofs.GrantingLaws.{named-none, image-none, untaken-store, untaken-runs, frames-there, taken-store, taken-runs}
 use borrow.Author.Needs.{needs}
-use Rattle.reuse.proofs.map.Statement.{statement}
-use Rattle.reuse.proofs.map.Tie as tie
+use Rattle.granting.proofs.map.Statement.{statement}
+use Rattle.granting.proofs.map.Tie as tie
 
 -- behind the two tests
 abbrev unnamed : tie.Else1 → tie.Start

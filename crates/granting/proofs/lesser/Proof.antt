@@ -1,7 +1,7 @@
 -- Each way out is one side of the choice.
 use borrow.Author.Tests.{le-leb, lt-leb}
-use Rattle.reuse.proofs.lesser.Statement.{statement}
-use Rattle.reuse.proofs.lesser.Tie as tie
+use Rattle.granting.proofs.lesser.Statement.{statement}
+use Rattle.granting.proofs.lesser.Tie as tie
 
 returns : tie.Need-returns
 returns c = rw (le-leb (c .before .args .a) (c .before .args .b) (c .if1 .taken))
