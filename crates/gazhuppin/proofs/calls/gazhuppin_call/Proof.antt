@@ -17,11 +17,17 @@ use Rattle.gazhuppin.proofs.calls.gazhuppin_call.Tie as tie
 abbrev hands : tie.Start → Handed
 hands c = handed (c .args .state .now) (c .args .pool .now) (c .args .table .now)
 
+abbrev asking : tie.After-is-state → tie.After-request
+asking c = c .before .before
+
+abbrev start : tie.After-request → tie.Start
+start c = c .before .before .before .before .before
+
 abbrev behindNo : tie.Then1 → tie.Start
-behindNo c = c .before .before .before .before .before .before .before
+behindNo c = start (asking (c .before))
 
 abbrev behindYes : tie.Else1 → tie.Start
-behindYes c = c .before .before .before .before .before .before .before
+behindYes c = start (asking (c .before))
 
 abbrev passed : tie.After-decode → tie.Else1
 passed c = c .before .before
@@ -43,6 +49,9 @@ a-state c = passes-test (behindYes c .args .state .now) (c .before .is-state .re
 
 -- ---- the answers
 
+request-requires : tie.Need-request-requires
+request-requires c κs = search needs
+
 is-state-requires : tie.Need-is-state-requires
 is-state-requires c κs = search needs
 
@@ -56,7 +65,9 @@ returns : tie.Need-returns
 returns c =
     let branch = c .before in
     let first = behindNo branch in
-    call-unsound (first .args .image .now) (hands first) (first .args .q) (c .without-state .result) (no-state branch) (c .without-state .ensures)
+    let request = asking (branch .before) .request in
+    rw (← request .ensures)
+    (call-unsound (first .args .image .now) (hands first) (request .result) (c .without-state .result) (no-state branch) (c .without-state .ensures))
 
 decode-requires : tie.Need-decode-requires
 decode-requires c κs = state-long (behindYes (c .before) .args .state .now) (a-state (c .before))
@@ -88,16 +99,19 @@ returns-2 c =
     let decoding = decoded calling in
     let branch = passed decoding in
     let first = behindYes branch in
-    let bytes : Bytes (first .args .state .now) = record { at = λ i. omega (arith, branch .before .before .before .before .before .slice-known .given i) } in
+    let bytes : Bytes (first .args .state .now) = record { at = λ i. omega (arith, asking (branch .before) .before .before .before .before .slice-known .given i) } in
     let reply = calling .call in
-    call-stepped (first .args .image .now) (hands first) (first .args .q) bytes (a-state branch)
+    let request = asking (branch .before) .request in
+    rw (← request .ensures)
+    (call-stepped (first .args .image .now) (hands first) (request .result) bytes (a-state branch)
     (decoding .decode .result) (reply .result) (c .by .result) (encoding .last .1 .0) (reply .last .1 .0) (reply .last .1 .1 .0)
-    (decoding .decode .ensures) (reply .ensures) (encoding .ensures) (c .by .ensures)
+    (decoding .decode .ensures) (reply .ensures) (encoding .ensures) (c .by .ensures))
 
 pub gazhuppin-call-spec : {M : Type 1} → statement M
 gazhuppin-call-spec =
     tie.close
     (tie.spec
+    request-requires
     is-state-requires
     without-state-requires
     same-length
