@@ -1,8 +1,7 @@
 //! "Unmapping over gaps", by hand: "Unmap now passes over unmapped pages, and a range with none
 //! mapped is accepted and changes nothing. Refusal 9 remains for protect, read and write."
 
-mod common;
-use common::{accept, after, call, image, refusal, short, value};
+use crate::common::{accept, after, call, image, refusal, short, value};
 use model::{Machine, Page};
 
 /// Three areas with two gaps between them: pages 2 and 3, page 6, pages 9 to 11.
