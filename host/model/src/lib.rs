@@ -42,6 +42,7 @@ pub use faulty_archive::wrong_archive;
 pub use machine::{Answering, Machine, Refusal, Reply, CODES, FRAMES, IMAGE_PAGES, SANDBOXES};
 pub use page::{areas_of, count_areas, Backing, Page, Pages, PAGES, PAGE_BYTES};
 pub use request::{Place, Request, ADDRESSES};
-pub use roll::{call_line, parse_line, play, play_on, reply_line, Call, LINES, LINE_BYTES};
+pub use roll::LINE_BYTES;
+pub use roll::{call_line, parse_line, play, play_on, reply_line, reply_lines, Call, LINES};
 pub use runs::{Runs, RUNS};
 pub use sandbox::{Sandbox, AREAS};
