@@ -69,7 +69,7 @@ impl Faulty {
 
     /// Against MACHINE 6: The answer to a call that the right machine refuses.
     fn spoil_refused(&mut self, call: &Call, number: u16) -> Reply {
-        let sandbox = &mut self.machine.sandboxes[usize::from(call.sandbox)];
+        let sandbox = Arc::make_mut(&mut self.machine.sandboxes[usize::from(call.sandbox)]);
         let [p1, p2, p3, ..] = call.parameters;
         let pages = usize::from(p1)..usize::from(p1) + usize::from(p2);
         let too_many_areas = number == Refusal::TooManyAreas as u16;
@@ -86,7 +86,8 @@ impl Faulty {
                     }
                 }
                 let reply = self.machine.answer(call);
-                self.machine.sandboxes[usize::from(call.sandbox)].copy = true_copy;
+                let sandbox = &mut self.machine.sandboxes[usize::from(call.sandbox)];
+                Arc::make_mut(sandbox).copy = true_copy;
                 return reply;
             }
             (Fault::RefusedWriteStores, 6) if number == Refusal::NoWriteRight as u16 => {
@@ -96,7 +97,8 @@ impl Faulty {
             (Fault::AnswersLaterRefusal, 2) if too_few_frames => {
                 // Ask as if frames were plenty: then 14 is answered if it applies.
                 let mut plenty = self.machine.clone();
-                (plenty.frames, plenty.sandboxes[usize::from(call.sandbox)].share) = (9_999, 999);
+                plenty.frames = 9_999;
+                Arc::make_mut(&mut plenty.sandboxes[usize::from(call.sandbox)]).share = 999;
                 let (later, _) = plenty.answer(call);
                 return (number.max(later), 0);
             }
@@ -121,7 +123,7 @@ impl Faulty {
 
     /// Against MACHINE 9.6 to 9.14: The answer to a call that the right machine accepts,
     /// with `before` the sandbox as it was.
-    fn spoil_accepted(&mut self, call: &Call, before: Box<Sandbox>, value: u32) -> Reply {
+    fn spoil_accepted(&mut self, call: &Call, before: Arc<Sandbox>, value: u32) -> Reply {
         let number = usize::from(call.sandbox);
         let memory = &mut self.memory[number];
         let all_shared_out = self.machine.shares() == self.machine.frames;
@@ -148,26 +150,28 @@ impl Faulty {
             (Fault::InventsHeldCount, 9) => return (0, sandbox.charge() as u32),
             (Fault::ReportForgetsKept, 9) => return (0, sandbox.marks() as u32),
             (Fault::DropsSnapshotFrame, 2) => {
-                drop_snapshot_frames(sandbox, &before, image.as_deref().unwrap_or(&[]));
+                let image = image.as_deref().unwrap_or(&[]);
+                drop_snapshot_frames(Arc::make_mut(sandbox), &before, image);
             }
             (Fault::StaleBytesInNewPage, 2) => {
-                for (page, was) in newly_mapped(sandbox, &before) {
+                for (page, was) in newly_mapped(Arc::make_mut(sandbox), &before) {
                     if was.bytes != [0; PAGE_BYTES] {
                         page.bytes = was.bytes;
                     }
                 }
             }
             (fault, 3) => {
-                let wrong = wrong_unmap(fault, call, &before, sandbox);
+                let wrong = wrong_unmap(fault, call, &before, Arc::make_mut(sandbox));
                 return wrong.unwrap_or_else(|refusal| refuse(sandbox, before, refusal));
             }
             (Fault::ReadTakesFrame, 5) => {
-                sandbox.pages[usize::from(call.parameters[0]) / PAGE_BYTES].front = true;
+                let page = usize::from(call.parameters[0]) / PAGE_BYTES;
+                Arc::make_mut(sandbox).pages[page].front = true;
             }
             (Fault::RewindsEverySandbox, 8) => {
                 for sandbox in sandboxes {
                     if let Some(copy) = sandbox.copy.clone() {
-                        sandbox.rewind(&copy);
+                        Arc::make_mut(sandbox).rewind(&copy);
                     }
                 }
             }
@@ -175,14 +179,14 @@ impl Faulty {
                 let at = usize::from(call.parameters[0]);
                 let was = &before.pages[at / PAGE_BYTES];
                 if reads_image(was) {
-                    let page = &mut sandbox.pages[at / PAGE_BYTES];
+                    let page = &mut Arc::make_mut(sandbox).pages[at / PAGE_BYTES];
                     page.bytes = [0; PAGE_BYTES];
                     page.bytes[at % PAGE_BYTES] = call.parameters[1] as u8;
                 }
             }
             (Fault::CompareFreesAgreeingFronts, 10) => {
                 if let Some(copy) = sandbox.copy.clone() {
-                    free_agreeing_fronts(sandbox, &copy);
+                    free_agreeing_fronts(Arc::make_mut(sandbox), &copy);
                 }
             }
             (fault, 10) => {
@@ -193,7 +197,7 @@ impl Faulty {
             (_, 8) => {
                 memory.rewinds += 1;
                 memory.rewound = lowest_new_area(&before);
-                spoil_rewind(self.fault, memory.rewinds, sandbox, &before);
+                spoil_rewind(self.fault, memory.rewinds, Arc::make_mut(sandbox), &before);
             }
             _ => {}
         }
@@ -214,14 +218,18 @@ impl Answering for Faulty {
         let before = self.machine.sandboxes.get(usize::from(call.sandbox)).cloned();
         match (self.machine.answer(&call), before) {
             ((0, value), Some(before)) => self.spoil_accepted(&call, before, value),
-            ((number, _), Some(_)) => self.spoil_refused(&call, number),
+            ((number, _), Some(before)) => {
+                // Nobody else holds the sandbox then: it can be changed without a copy.
+                drop(before);
+                self.spoil_refused(&call, number)
+            }
             (reply, None) => reply,
         }
     }
 }
 
 /// Against MACHINE 6.2: a refusal where none applies; the sandbox stays.
-fn refuse(sandbox: &mut Box<Sandbox>, before: Box<Sandbox>, refusal: Refusal) -> Reply {
+fn refuse(sandbox: &mut Arc<Sandbox>, before: Arc<Sandbox>, refusal: Refusal) -> Reply {
     *sandbox = before;
     (refusal as u16, 0)
 }
