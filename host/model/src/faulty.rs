@@ -6,9 +6,11 @@
 use crate::fault::Fault;
 use crate::faulty_compare::{free_agreeing_fronts, wrong_difference};
 use crate::faulty_gaps::{accept_unmapped, wrong_unmap};
+use crate::faulty_pages::{areas_with_split_image, lowest_new_area, newly_mapped};
+use crate::faulty_pages::{reads_image, reads_image_in_copy, unmapped_from};
 use crate::faulty_runs::{spoil_runs, take_though_refused};
 use crate::machine::{Answering, Machine, Refusal, Reply, SANDBOXES};
-use crate::page::{count_areas, Backing, Page, PAGES, PAGE_BYTES};
+use crate::page::{Backing, Page, PAGES, PAGE_BYTES};
 use crate::roll::Call;
 use crate::sandbox::{Sandbox, AREAS};
 use std::sync::Arc;
@@ -271,47 +273,4 @@ fn drop_snapshot_frames(sandbox: &mut Sandbox, before: &Sandbox, image: &[[u8; P
             };
         }
     }
-}
-
-/// MACHINE 9.7: the pages just mapped, with what they were.
-fn newly_mapped<'a>(
-    sandbox: &'a mut Sandbox,
-    before: &'a Sandbox,
-) -> impl Iterator<Item = (&'a mut Page, &'a Page)> {
-    let pairs = sandbox.pages.iter_mut().zip(&before.pages);
-    pairs.filter(|(page, was)| page.mapped && !was.mapped)
-}
-
-/// MACHINE 3.2: A page with neither front nor back, over an image page.
-fn reads_image(page: &Page) -> bool {
-    let framed = page.front || (page.committed && page.back);
-    !framed && page.backing != Backing::Anonymous
-}
-
-/// MACHINE 4.13: a snapshot page without a back, over an image page.
-fn reads_image_in_copy(page: &Page) -> bool {
-    !page.back && page.backing != Backing::Anonymous
-}
-
-/// Against MACHINE 2.7: areas, if image pages never ran on.
-fn areas_with_split_image(sandbox: &Sandbox) -> usize {
-    let mut pages = sandbox.pages;
-    for page in pages.iter_mut().filter(|page| page.backing != Backing::Anonymous) {
-        page.backing = Backing::Image(0);
-    }
-    count_areas(&pages)
-}
-
-/// MACHINE 4.14: how many unmapped pages run from this one on.
-fn unmapped_from(sandbox: &Sandbox, first: usize) -> usize {
-    sandbox.pages[first..].iter().take_while(|page| !page.mapped).count()
-}
-
-/// MACHINE 4.16: The lowest run of pages mapped since the snapshot, which a rewind takes
-/// away.
-fn lowest_new_area(sandbox: &Sandbox) -> Option<(usize, usize)> {
-    let new = |page: &Page| page.mapped && !page.committed;
-    let start = sandbox.pages.iter().position(new)?;
-    let length = sandbox.pages[start..].iter().take_while(|page| new(page)).count();
-    Some((start, start + length))
 }
