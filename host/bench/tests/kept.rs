@@ -106,6 +106,7 @@ fn a_store_to_the_read_only_pool_ends_the_process() {
         return;
     }
     let program = env::current_exe().expect("the test's program");
-    let output = Command::new(program).args([NAME, "--exact"]).env(NAME, "1").output();
+    let test = format!("kept::{NAME}");
+    let output = Command::new(program).args([&test, "--exact"]).env(NAME, "1").output();
     assert_eq!(output.expect("it runs").status.signal(), Some(SIGSEGV));
 }

@@ -3,6 +3,7 @@
 use bench::{same_steps, unproved};
 use model::{parse_line, Fault};
 use rolls::Case;
+use std::sync::LazyLock;
 
 const ROLLS: u64 = 3_000;
 
@@ -17,12 +18,21 @@ fn printed(play: Play, case: &Case) -> Vec<u8> {
     out
 }
 
-fn answers_as(play: Play, fault: Fault) {
+/// The cases of the first seeds, the same for every machine.
+static CASES: LazyLock<Vec<Case>> = LazyLock::new(|| (0..ROLLS).map(Case::random).collect());
+
+/// What the model prints of each.
+static MODEL: LazyLock<Vec<Vec<u8>>> = LazyLock::new(|| printed_with(Fault::None));
+
+fn printed_with(fault: Fault) -> Vec<Vec<u8>> {
+    CASES.iter().map(|case| case.printed_with(fault)).collect()
+}
+
+fn answers_as(play: Play, expected: &[Vec<u8>]) {
     let mut lines = 0;
-    for seed in 0..ROLLS {
-        let case = Case::random(seed);
-        let out = printed(play, &case);
-        assert!(out == case.printed_with(fault), "seed {seed}");
+    for (seed, (case, expected)) in CASES.iter().zip(expected).enumerate() {
+        let out = printed(play, case);
+        assert!(out == *expected, "seed {seed}");
         lines += out.len() / 19;
     }
     assert!(lines > 100_000, "{lines}");
@@ -42,23 +52,23 @@ fn without_reports(case: &Case, mut out: Vec<u8>) -> (Vec<u8>, usize) {
 
 #[test]
 fn the_unproved_machine_answers_as_the_model() {
-    answers_as(unproved::play, Fault::None);
+    answers_as(unproved::play, &MODEL);
 }
 
 /// A roll's state comes from its start, so that a test of it would find nothing.
 #[test]
 fn the_trusting_machine_answers_the_same() {
-    answers_as(unproved::play_trusting, Fault::None);
+    answers_as(unproved::play_trusting, &MODEL);
 }
 
 #[test]
 fn with_the_proved_machines_steps_it_answers_the_same() {
-    answers_as(same_steps::play, Fault::None);
+    answers_as(same_steps::play, &MODEL);
 }
 
 #[test]
 fn the_dropping_machine_differs_by_its_freed_fronts_alone() {
-    answers_as(unproved::play_dropping, Fault::RewindFreesAllFronts);
+    answers_as(unproved::play_dropping, &printed_with(Fault::RewindFreesAllFronts));
 }
 
 /// "Places, bytes and refusals are those of a machine that keeps nothing": only a report tells the
@@ -66,12 +76,11 @@ fn the_dropping_machine_differs_by_its_freed_fronts_alone() {
 #[test]
 fn a_machine_that_keeps_nothing_differs_in_its_reports_alone() {
     let (mut reports, mut differ) = (0, 0);
-    for seed in 0..ROLLS {
-        let case = Case::random(seed);
+    for (seed, case) in CASES.iter().enumerate() {
         let [keeping, not] = [unproved::play as Play, unproved::play_keeping_nothing]
-            .map(|play| printed(play, &case));
+            .map(|play| printed(play, case));
         differ += usize::from(keeping != not);
-        let [keeping, not] = [keeping, not].map(|out| without_reports(&case, out));
+        let [keeping, not] = [keeping, not].map(|out| without_reports(case, out));
         assert!(keeping == not, "seed {seed}");
         reports += keeping.1;
     }
@@ -82,8 +91,7 @@ fn a_machine_that_keeps_nothing_differs_in_its_reports_alone() {
 /// unheld frame, and give up the smallest of a run.
 #[test]
 fn pool_and_table_are_those_of_the_proved_machine() {
-    for seed in 0..ROLLS / 10 {
-        let case = Case::random(seed);
+    for (seed, case) in CASES[..ROLLS as usize / 10].iter().enumerate() {
         let mut out = vec![0; 19 * case.roll.len().div_ceil(43)];
         let (mut pool, mut table) = (vec![1; 256 * case.frames], [1; 512]);
         let lines = gazhuppin::play(&case.roll, &case.image, &mut pool, &mut table, &mut out);

@@ -131,8 +131,9 @@ fn check_replay(written: &Kept, case: &Case, sandbox: u16) -> Result<(), Differe
         let state = State::of(&kept.state).expect("a state that both machines keep");
         machine_of(&state, &kept.pool, &kept.table, &case.image).sandbox(number).clone()
     });
-    let (copy, rebuilt) = (was.copy.expect("archived"), is.copy.expect("its last line"));
-    let same = snapshots_agree(&rebuilt, &copy) && snapshots_agree(&is.pages, &copy);
+    let copy = was.copy.as_ref().expect("archived");
+    let rebuilt = is.copy.as_ref().expect("its last line");
+    let same = snapshots_agree(rebuilt, copy) && snapshots_agree(&is.pages, copy);
     require(same && is.share == was.share, || Difference::NotRebuilt)?;
     let mut again = vec![FILLED; case.roll.len()];
     let told = replayed.kept.archive(&case.image, sandbox, &mut again);

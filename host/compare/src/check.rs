@@ -91,6 +91,10 @@ pub fn check_entries(
         let program = entries.iter().filter(|&&entry| entry != 0).count();
         let model = kept.marks();
         require(program == model, || Difference::Held { sandbox, program, model })?;
+        if model == 0 {
+            // No entry and no mark.
+            continue;
+        }
         for page in 0..PAGES {
             let now = &kept.pages[page];
             let front = now.front.then_some(&now.bytes);

@@ -32,7 +32,8 @@ impl Frames {
 
     /// A frame is unheld where no entry names it and no run keeps it.
     pub fn held(&self) -> u128 {
-        let named = self.table.iter().fold(0, |marks, &entry| marks | mark(entry));
+        let entries = self.table.iter().filter(|&&entry| entry != 0);
+        let named = entries.fold(0, |marks, &entry| marks | mark(entry));
         self.rows.iter().flatten().fold(named, |marks, run| marks | run)
     }
 

@@ -38,7 +38,7 @@ pub use check::{check, check_entries, Expected};
 pub use coverage::Coverage;
 pub use difference::{Difference, Place, Side};
 pub use frames::{check_rows, check_table, Frames};
-pub use mutants::{table, tell, Mutant, Told};
+pub use mutants::{table, tell, Known, Mutant, Told};
 pub use pairs::{compare_pair, PairSeen};
 pub use played::{play, Lengths};
 pub use run::{run, Failure};

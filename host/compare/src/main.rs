@@ -3,7 +3,8 @@
 //! snapshots that they leave. `compare --mutants` prints which roll tells each wrong machine, as
 //! Markdown.
 
-use compare::{run, table, tell, Mutant};
+use compare::{run, table, tell, Known, Mutant};
+use rolls::Case;
 use std::process::ExitCode;
 use std::time::Instant;
 
@@ -49,9 +50,11 @@ fn random_rolls(rolls: u64, seed: u64) -> ExitCode {
 }
 
 fn mutants() -> ExitCode {
+    let cases: Vec<Case> = (0..MUTANT_SEEDS).map(Case::random).collect();
+    let seeds: Vec<Known> = cases.iter().map(Known::of).collect();
     let mut told = Vec::new();
     for mutant in Mutant::all() {
-        match tell(mutant, MUTANT_SEEDS) {
+        match tell(mutant, &seeds) {
             Some(found) => told.push(found),
             None => {
                 println!("{mutant} passed {MUTANT_SEEDS} rolls");

@@ -6,9 +6,11 @@ use crate::difference::Difference;
 use crate::played::{play, Lengths};
 use crate::stepwise::Kept;
 use crate::with_frames::{MemoryFault, WithFrames};
+use gazhuppin::Played;
 use model::{parse_line, play_on, Answering, ArchiveFault, Fault, Faulty, Machine};
 use model::{LINES, LINE_BYTES, SANDBOXES};
 use rolls::{shrink, Case, PLAYER_FRAMES};
+use std::cell::OnceCell;
 use std::fmt;
 
 #[derive(Clone, Copy, PartialEq, Eq, Debug)]
@@ -31,29 +33,27 @@ impl Mutant {
 
     /// What the comparison says of the mutant on this case; nothing if it is not told.
     pub fn difference(self, case: &Case) -> Option<Difference> {
-        let lengths = Lengths::of(case);
+        self.difference_on(&Known::of(case))
+    }
+
+    fn difference_on(self, known: &Known) -> Option<Difference> {
+        let case = known.case;
         match self {
             Mutant::Machine(fault) => {
                 let mut faulty = Faulty::fresh(&case.image, case.frames, fault);
                 let replies = play_on(&case.roll, &mut faulty);
                 let expected = Expected { replies, machine: faulty.machine().clone() };
-                check(&play(case, lengths), &expected).err()
+                check(known.played(), &expected).err()
             }
             Mutant::Memory(fault) => {
-                let whole = check(&WithFrames::play(case, fault), &Expected::of(case, lengths));
+                let whole = check(&WithFrames::play(case, fault), known.expected());
                 // Numbers of frames and ages of runs show only from one call to the next.
                 whole.and_then(|()| WithFrames::in_step(case, fault)).err()
             }
             Mutant::Archive(fault) => {
-                let mut kept = Kept::filled(lengths);
-                let mut machine = Machine::fresh(&case.image, case.frames);
-                kept.start(&case.image);
-                for call in case.roll.chunks(LINE_BYTES).take(LINES).filter_map(parse_line) {
-                    kept.call(&case.image, &call);
-                    machine.answer(&call);
-                }
+                let (kept, machine) = known.left();
                 let written =
-                    |sandbox| check_writer(&kept, &machine, &case.image, sandbox, fault).err();
+                    |sandbox| check_writer(kept, machine, &case.image, sandbox, fault).err();
                 (0..=SANDBOXES as u16).find_map(written)
             }
         }
@@ -70,29 +70,69 @@ impl fmt::Display for Mutant {
     }
 }
 
+/// A case, with what the right machines make of it: made where it is first asked for, and the
+/// same for every mutant.
+pub struct Known<'a> {
+    case: &'a Case,
+    played: OnceCell<Played>,
+    expected: OnceCell<Expected>,
+    left: OnceCell<(Kept, Machine)>,
+}
+
+impl Known<'_> {
+    pub fn of(case: &Case) -> Known<'_> {
+        Known { case, played: OnceCell::new(), expected: OnceCell::new(), left: OnceCell::new() }
+    }
+
+    /// What the proved machine answers and leaves.
+    fn played(&self) -> &Played {
+        self.played.get_or_init(|| play(self.case, Lengths::of(self.case)))
+    }
+
+    /// What the plain machine answers and keeps.
+    fn expected(&self) -> &Expected {
+        self.expected.get_or_init(|| Expected::of(self.case, Lengths::of(self.case)))
+    }
+
+    /// What both keep after all calls.
+    fn left(&self) -> &(Kept, Machine) {
+        self.left.get_or_init(|| {
+            let Case { roll, image, frames } = self.case;
+            let mut kept = Kept::filled(Lengths::of(self.case));
+            let mut machine = Machine::fresh(image, *frames);
+            kept.start(image);
+            for call in roll.chunks(LINE_BYTES).take(LINES).filter_map(parse_line) {
+                kept.call(image, &call);
+                machine.answer(&call);
+            }
+            (kept, machine)
+        })
+    }
+}
+
 /// A mutant with the first seed whose roll tells it, and that roll shrunk.
 #[derive(Clone, Debug)]
 pub struct Told {
     pub mutant: Mutant,
-    pub seed: u64,
+    pub seed: usize,
     /// The first seed whose replies differ, whatever is in memory.
-    pub seed_by_replies: Option<u64>,
+    pub seed_by_replies: Option<usize>,
     pub shrunk: Case,
     pub difference: Difference,
 }
 
-/// Look for a roll that tells the mutant among those of the first seeds.
-pub fn tell(mutant: Mutant, seeds: u64) -> Option<Told> {
-    let told = |case: &Case| mutant.difference(case);
-    let seed = (0..seeds).find(|&seed| told(&Case::random(seed)).is_some())?;
-    let by_reply = |difference| matches!(difference, Some(Difference::Reply { .. }));
+/// Look for a roll that tells the mutant among those of the first seeds, which are given.
+pub fn tell(mutant: Mutant, seeds: &[Known]) -> Option<Told> {
+    let told = |seed: &usize| mutant.difference_on(&seeds[*seed]);
+    let seed = (0..seeds.len()).find(|seed| told(seed).is_some())?;
+    let by_reply = |seed: &usize| matches!(told(seed), Some(Difference::Reply { .. }));
     let seed_by_replies = match mutant {
-        Mutant::Machine(_) => (seed..seeds).find(|&seed| by_reply(told(&Case::random(seed)))),
+        Mutant::Machine(_) => (seed..seeds.len()).find(by_reply),
         // It answers as the right machine does.
         Mutant::Memory(_) | Mutant::Archive(_) => None,
     };
-    let shrunk = shrink(&Case::random(seed), |case| told(case).is_some());
-    let difference = told(&shrunk)?;
+    let shrunk = shrink(seeds[seed].case, |case| mutant.difference(case).is_some());
+    let difference = mutant.difference(&shrunk)?;
     Some(Told { mutant, seed, seed_by_replies, shrunk, difference })
 }
 

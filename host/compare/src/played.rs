@@ -30,7 +30,9 @@ impl Lengths {
 
 /// Bytes without a zero, so that a start that does not clear them shows.
 pub fn filled_pool(bytes: usize) -> Vec<u8> {
-    (0..bytes).map(|at| (at % 255) as u8 + 1).collect()
+    let mut pool = std::array::from_fn::<u8, 255, _>(|at| at as u8 + 1).repeat(bytes / 255 + 1);
+    pool.truncate(bytes);
+    pool
 }
 
 /// Entries without a zero; some of them would name frames.

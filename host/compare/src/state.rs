@@ -6,7 +6,7 @@
 use crate::frames::Frames;
 use crate::layout::{Area, Areas, Record, State};
 use crate::row::{length, Row};
-use model::{Backing, Machine, Page, Pages, Runs, Sandbox, AREAS, PAGES, PAGE_BYTES, SANDBOXES};
+use model::{Backing, Machine, Page, Pages, Runs, Sandbox, AREAS, PAGES, PAGE_BYTES};
 use std::sync::Arc;
 
 /// The state of a machine that keeps this, with these frames.
@@ -64,10 +64,9 @@ fn goes_on(area: &Area, at: usize, page: &Page) -> bool {
 pub fn machine_of(state: &State, pool: &[u8], table: &[u16], image: &[u8]) -> Machine {
     let sandbox = |number: usize| {
         let entries = &table[number * 2 * PAGES..][..2 * PAGES];
-        Box::new(sandbox_of(&state.sandboxes[number], &Memory { entries, pool, image }))
+        Arc::new(sandbox_of(&state.sandboxes[number], &Memory { entries, pool, image }))
     };
-    let sandboxes: [Box<Sandbox>; SANDBOXES] = std::array::from_fn(sandbox);
-    Machine::keeping(image, pool.len() / PAGE_BYTES, sandboxes)
+    Machine::keeping(image, pool.len() / PAGE_BYTES, std::array::from_fn(sandbox))
 }
 
 /// The entries of a sandbox, and what they are read with.

@@ -70,49 +70,46 @@ pub struct Stepped {
 /// What both machines keep, if the proved machine answers and keeps the same as the plain one at
 /// every line.
 pub fn in_step(case: &Case, lengths: Lengths) -> Result<Stepped, Difference> {
-    let mut machine = Machine::fresh(&case.image, lengths.frames());
-    let mut kept = Kept::filled(lengths);
-    let mut before = kept.clone();
-    let started = kept.start(&case.image);
-    let number = if machine.lengths_are_right() { 0 } else { 3 };
-    // A start clears the table, and no run is kept.
-    let cleared = vec![0; kept.table.len()];
-    let mut frames = Frames::of(&[0; layout::STATE_BYTES], &cleared);
-    check_told(started, (number, 0))
-        .and_then(|()| check_kept(&kept, &machine, &frames))
-        .map_err(|difference| difference.at_line(0))?;
+    let mut step = Step::start(case, lengths).map_err(|difference| difference.at_line(0))?;
     let mut replies = Vec::new();
     for (index, line) in case.roll.chunks(LINE_BYTES).take(LINES).enumerate() {
         let (number, value) = match parse_line(line) {
             Some(call) => {
-                // The same memory again and again: a copy for each line takes its time.
-                before.clone_from(&kept);
-                let mut step = Step { kept: &mut kept, machine: &mut machine, frames: &mut frames };
-                let reply = step.make(&case.image, &call, &before);
+                let reply = step.make(&case.image, &call);
                 reply.map_err(|difference| difference.at_line(index + 1))?
             }
             None => (1, 0),
         };
         replies.extend(reply_line(index + 1, number, value));
     }
-    Ok(Stepped { expected: Expected { replies, machine }, kept })
+    Ok(Stepped { expected: Expected { replies, machine: step.machine }, kept: step.kept })
 }
 
 /// The program's memory, what the plain machine keeps, and the frames in step with both.
-struct Step<'a> {
-    kept: &'a mut Kept,
-    machine: &'a mut Machine,
-    frames: &'a mut Frames,
+struct Step {
+    kept: Kept,
+    /// The program's memory as it was before the call: copied after a call that changes it.
+    before: Kept,
+    machine: Machine,
+    frames: Frames,
 }
 
-impl Step<'_> {
-    fn make(
-        &mut self,
-        image: &[u8],
-        call: &model::Call,
-        before: &Kept,
-    ) -> Result<model::Reply, Difference> {
-        let Step { kept, machine, frames } = self;
+impl Step {
+    fn start(case: &Case, lengths: Lengths) -> Result<Step, Difference> {
+        let machine = Machine::fresh(&case.image, lengths.frames());
+        let mut kept = Kept::filled(lengths);
+        let started = kept.start(&case.image);
+        let number = if machine.lengths_are_right() { 0 } else { 3 };
+        // A start clears the table, and no run is kept.
+        let cleared = vec![0; kept.table.len()];
+        let frames = Frames::of(&[0; layout::STATE_BYTES], &cleared);
+        check_told(started, (number, 0))?;
+        check_kept(&kept, &machine, &frames)?;
+        Ok(Step { before: kept.clone(), kept, machine, frames })
+    }
+
+    fn make(&mut self, image: &[u8], call: &model::Call) -> Result<model::Reply, Difference> {
+        let Step { kept, before, machine, frames } = self;
         let told = kept.call(image, call);
         let named = usize::from(call.sandbox);
         let sandbox = (named < SANDBOXES).then(|| machine.sandbox(named).clone());
@@ -123,9 +120,11 @@ impl Step<'_> {
                 let program = Frames::of(&kept.state, &kept.table);
                 frames.follow(call, reply.1, &sandbox, &program)?;
                 check_kept(kept, machine, frames)?;
+                // Into the same memory again and again: a new copy takes its time.
+                before.clone_from(kept);
             }
             // A call that is refused, reads, reports or compares leaves every byte.
-            _ => require(*kept == before, || Difference::Changed)?,
+            _ => require(kept == before, || Difference::Changed)?,
         }
         Ok(reply)
     }

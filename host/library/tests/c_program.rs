@@ -1,9 +1,7 @@
 //! The C programs of `examples/` that play a roll and write an archive, the header, and the
 //! library's symbols.
 
-mod common;
-
-use common::{c_example, here, printed, say};
+use crate::common::{c_example, here, printed, say};
 use std::fs::{self, File};
 use std::process::{Command, Stdio};
 

@@ -2,9 +2,7 @@
 //! the module's own tests and its little server are run over it. Where there is no python3
 //! a line says so.
 
-mod common;
-
-use common::{here, made, printed, say};
+use crate::common::{here, made, printed, say};
 use std::fs;
 use std::path::PathBuf;
 use std::process::Command;

@@ -1,9 +1,7 @@
 //! The little servers of `examples/`, in C and in Rust, print what `server.printed` has.
 //! (The one in Python: `python.rs`.)
 
-mod common;
-
-use common::{c_example, here, printed};
+use crate::common::{c_example, here, printed};
 use std::process::Command;
 
 fn expected() -> String {

@@ -6,9 +6,11 @@
 use crate::fault::Fault;
 use crate::faulty_compare::{free_agreeing_fronts, wrong_difference};
 use crate::faulty_gaps::{accept_unmapped, wrong_unmap};
+use crate::faulty_pages::{areas_with_split_image, lowest_new_area, newly_mapped};
+use crate::faulty_pages::{reads_image, reads_image_in_copy, unmapped_from};
 use crate::faulty_runs::{spoil_runs, take_though_refused};
 use crate::machine::{Answering, Machine, Refusal, Reply, SANDBOXES};
-use crate::page::{count_areas, Backing, Page, PAGES, PAGE_BYTES};
+use crate::page::{Backing, Page, PAGES, PAGE_BYTES};
 use crate::roll::Call;
 use crate::sandbox::{Sandbox, AREAS};
 use std::sync::Arc;
@@ -69,7 +71,7 @@ impl Faulty {
 
     /// Against MACHINE 6: The answer to a call that the right machine refuses.
     fn spoil_refused(&mut self, call: &Call, number: u16) -> Reply {
-        let sandbox = &mut self.machine.sandboxes[usize::from(call.sandbox)];
+        let sandbox = Arc::make_mut(&mut self.machine.sandboxes[usize::from(call.sandbox)]);
         let [p1, p2, p3, ..] = call.parameters;
         let pages = usize::from(p1)..usize::from(p1) + usize::from(p2);
         let too_many_areas = number == Refusal::TooManyAreas as u16;
@@ -86,7 +88,8 @@ impl Faulty {
                     }
                 }
                 let reply = self.machine.answer(call);
-                self.machine.sandboxes[usize::from(call.sandbox)].copy = true_copy;
+                let sandbox = &mut self.machine.sandboxes[usize::from(call.sandbox)];
+                Arc::make_mut(sandbox).copy = true_copy;
                 return reply;
             }
             (Fault::RefusedWriteStores, 6) if number == Refusal::NoWriteRight as u16 => {
@@ -96,7 +99,8 @@ impl Faulty {
             (Fault::AnswersLaterRefusal, 2) if too_few_frames => {
                 // Ask as if frames were plenty: then 14 is answered if it applies.
                 let mut plenty = self.machine.clone();
-                (plenty.frames, plenty.sandboxes[usize::from(call.sandbox)].share) = (9_999, 999);
+                plenty.frames = 9_999;
+                Arc::make_mut(&mut plenty.sandboxes[usize::from(call.sandbox)]).share = 999;
                 let (later, _) = plenty.answer(call);
                 return (number.max(later), 0);
             }
@@ -121,7 +125,7 @@ impl Faulty {
 
     /// Against MACHINE 9.6 to 9.14: The answer to a call that the right machine accepts,
     /// with `before` the sandbox as it was.
-    fn spoil_accepted(&mut self, call: &Call, before: Box<Sandbox>, value: u32) -> Reply {
+    fn spoil_accepted(&mut self, call: &Call, before: Arc<Sandbox>, value: u32) -> Reply {
         let number = usize::from(call.sandbox);
         let memory = &mut self.memory[number];
         let all_shared_out = self.machine.shares() == self.machine.frames;
@@ -148,26 +152,28 @@ impl Faulty {
             (Fault::InventsHeldCount, 9) => return (0, sandbox.charge() as u32),
             (Fault::ReportForgetsKept, 9) => return (0, sandbox.marks() as u32),
             (Fault::DropsSnapshotFrame, 2) => {
-                drop_snapshot_frames(sandbox, &before, image.as_deref().unwrap_or(&[]));
+                let image = image.as_deref().unwrap_or(&[]);
+                drop_snapshot_frames(Arc::make_mut(sandbox), &before, image);
             }
             (Fault::StaleBytesInNewPage, 2) => {
-                for (page, was) in newly_mapped(sandbox, &before) {
+                for (page, was) in newly_mapped(Arc::make_mut(sandbox), &before) {
                     if was.bytes != [0; PAGE_BYTES] {
                         page.bytes = was.bytes;
                     }
                 }
             }
             (fault, 3) => {
-                let wrong = wrong_unmap(fault, call, &before, sandbox);
+                let wrong = wrong_unmap(fault, call, &before, Arc::make_mut(sandbox));
                 return wrong.unwrap_or_else(|refusal| refuse(sandbox, before, refusal));
             }
             (Fault::ReadTakesFrame, 5) => {
-                sandbox.pages[usize::from(call.parameters[0]) / PAGE_BYTES].front = true;
+                let page = usize::from(call.parameters[0]) / PAGE_BYTES;
+                Arc::make_mut(sandbox).pages[page].front = true;
             }
             (Fault::RewindsEverySandbox, 8) => {
                 for sandbox in sandboxes {
                     if let Some(copy) = sandbox.copy.clone() {
-                        sandbox.rewind(&copy);
+                        Arc::make_mut(sandbox).rewind(&copy);
                     }
                 }
             }
@@ -175,14 +181,14 @@ impl Faulty {
                 let at = usize::from(call.parameters[0]);
                 let was = &before.pages[at / PAGE_BYTES];
                 if reads_image(was) {
-                    let page = &mut sandbox.pages[at / PAGE_BYTES];
+                    let page = &mut Arc::make_mut(sandbox).pages[at / PAGE_BYTES];
                     page.bytes = [0; PAGE_BYTES];
                     page.bytes[at % PAGE_BYTES] = call.parameters[1] as u8;
                 }
             }
             (Fault::CompareFreesAgreeingFronts, 10) => {
                 if let Some(copy) = sandbox.copy.clone() {
-                    free_agreeing_fronts(sandbox, &copy);
+                    free_agreeing_fronts(Arc::make_mut(sandbox), &copy);
                 }
             }
             (fault, 10) => {
@@ -193,7 +199,7 @@ impl Faulty {
             (_, 8) => {
                 memory.rewinds += 1;
                 memory.rewound = lowest_new_area(&before);
-                spoil_rewind(self.fault, memory.rewinds, sandbox, &before);
+                spoil_rewind(self.fault, memory.rewinds, Arc::make_mut(sandbox), &before);
             }
             _ => {}
         }
@@ -214,14 +220,18 @@ impl Answering for Faulty {
         let before = self.machine.sandboxes.get(usize::from(call.sandbox)).cloned();
         match (self.machine.answer(&call), before) {
             ((0, value), Some(before)) => self.spoil_accepted(&call, before, value),
-            ((number, _), Some(_)) => self.spoil_refused(&call, number),
+            ((number, _), Some(before)) => {
+                // Nobody else holds the sandbox then: it can be changed without a copy.
+                drop(before);
+                self.spoil_refused(&call, number)
+            }
             (reply, None) => reply,
         }
     }
 }
 
 /// Against MACHINE 6.2: a refusal where none applies; the sandbox stays.
-fn refuse(sandbox: &mut Box<Sandbox>, before: Box<Sandbox>, refusal: Refusal) -> Reply {
+fn refuse(sandbox: &mut Arc<Sandbox>, before: Arc<Sandbox>, refusal: Refusal) -> Reply {
     *sandbox = before;
     (refusal as u16, 0)
 }
@@ -263,47 +273,4 @@ fn drop_snapshot_frames(sandbox: &mut Sandbox, before: &Sandbox, image: &[[u8; P
             };
         }
     }
-}
-
-/// MACHINE 9.7: the pages just mapped, with what they were.
-fn newly_mapped<'a>(
-    sandbox: &'a mut Sandbox,
-    before: &'a Sandbox,
-) -> impl Iterator<Item = (&'a mut Page, &'a Page)> {
-    let pairs = sandbox.pages.iter_mut().zip(&before.pages);
-    pairs.filter(|(page, was)| page.mapped && !was.mapped)
-}
-
-/// MACHINE 3.2: A page with neither front nor back, over an image page.
-fn reads_image(page: &Page) -> bool {
-    let framed = page.front || (page.committed && page.back);
-    !framed && page.backing != Backing::Anonymous
-}
-
-/// MACHINE 4.13: a snapshot page without a back, over an image page.
-fn reads_image_in_copy(page: &Page) -> bool {
-    !page.back && page.backing != Backing::Anonymous
-}
-
-/// Against MACHINE 2.7: areas, if image pages never ran on.
-fn areas_with_split_image(sandbox: &Sandbox) -> usize {
-    let mut pages = sandbox.pages;
-    for page in pages.iter_mut().filter(|page| page.backing != Backing::Anonymous) {
-        page.backing = Backing::Image(0);
-    }
-    count_areas(&pages)
-}
-
-/// MACHINE 4.14: how many unmapped pages run from this one on.
-fn unmapped_from(sandbox: &Sandbox, first: usize) -> usize {
-    sandbox.pages[first..].iter().take_while(|page| !page.mapped).count()
-}
-
-/// MACHINE 4.16: The lowest run of pages mapped since the snapshot, which a rewind takes
-/// away.
-fn lowest_new_area(sandbox: &Sandbox) -> Option<(usize, usize)> {
-    let new = |page: &Page| page.mapped && !page.committed;
-    let start = sandbox.pages.iter().position(new)?;
-    let length = sandbox.pages[start..].iter().take_while(|page| new(page)).count();
-    Some((start, start + length))
 }

@@ -7,6 +7,7 @@ use crate::page::{areas_of, Backing, Page, Pages, PAGE_BYTES};
 use crate::roll::Call;
 use crate::runs::{Runs, RUNS};
 use crate::sandbox::Sandbox;
+use std::sync::Arc;
 
 /// Spoil what an accepted call left of runs, if the fault is one of these; `value` is the
 /// call's. Refused where a wrong charge is exceeded.
@@ -14,7 +15,7 @@ pub fn spoil_runs(
     fault: Fault,
     call: &Call,
     before: &Sandbox,
-    sandboxes: &mut [Box<Sandbox>; SANDBOXES],
+    sandboxes: &mut [Arc<Sandbox>; SANDBOXES],
     value: u32,
 ) -> Result<(), Refusal> {
     let sandbox = &mut sandboxes[usize::from(call.sandbox)];
@@ -24,22 +25,23 @@ pub fn spoil_runs(
             return if charged > sandbox.share { Err(Refusal::TooFewFrames) } else { Ok(()) };
         }
         2 => {
-            spoil_map(fault, call, before, sandbox, value as usize);
+            spoil_map(fault, call, before, Arc::make_mut(sandbox), value as usize);
             if fault == Fault::MapTakesOthersRun && takes_run(call) && before.runs.frames() == 0 {
                 let [_, pages, ..] = call.parameters.map(usize::from);
-                let taken = sandboxes.iter_mut().map(|other| other.runs.take(pages));
+                let others = sandboxes.iter_mut().map(Arc::make_mut);
+                let taken = others.map(|other| other.runs.take(pages));
                 let taken = taken.into_iter().find(|&taken| taken > 0).unwrap_or(0);
                 let sandbox = &mut sandboxes[usize::from(call.sandbox)];
-                grant(sandbox, value as usize, taken);
+                grant(Arc::make_mut(sandbox), value as usize, taken);
             }
         }
         3 if fault == Fault::UnmapKeepsFronts => {
             let freed = before.pages.iter().zip(&sandbox.pages);
             let freed = freed.filter(|(was, is)| was.is_spared() && was.front && !is.front).count();
-            sandbox.runs.keep([freed]);
+            Arc::make_mut(sandbox).runs.keep([freed]);
         }
-        6 => spoil_write(fault, call, before, &mut sandbox.runs),
-        8 => spoil_rewind(fault, before, sandbox),
+        6 => spoil_write(fault, call, before, &mut Arc::make_mut(sandbox).runs),
+        8 => spoil_rewind(fault, before, Arc::make_mut(sandbox)),
         _ => {}
     }
     Ok(())

@@ -15,9 +15,9 @@
 //! - `machine`: four sandboxes, and the refusals in their order;
 //! - `roll`: lines of calls, lines of replies, and the player;
 //! - `archive`: a snapshot as a roll that rebuilds it;
-//! - `fault`, `faulty`, `faulty_compare`, `faulty_gaps` and `faulty_runs`: wrong machines, which a
-//!   test must tell from the right one; `archive_fault` and `faulty_archive`: wrong writers of
-//!   archives.
+//! - `fault`, `faulty`, `faulty_pages`, `faulty_compare`, `faulty_gaps` and `faulty_runs`: wrong
+//!   machines, which a test must tell from the right one; `archive_fault` and `faulty_archive`:
+//!   wrong writers of archives.
 
 mod archive;
 mod archive_fault;
@@ -26,6 +26,7 @@ mod faulty;
 mod faulty_archive;
 mod faulty_compare;
 mod faulty_gaps;
+mod faulty_pages;
 mod faulty_runs;
 mod machine;
 mod page;
@@ -42,6 +43,7 @@ pub use faulty_archive::wrong_archive;
 pub use machine::{Answering, Machine, Refusal, Reply, CODES, FRAMES, IMAGE_PAGES, SANDBOXES};
 pub use page::{areas_of, count_areas, Backing, Page, Pages, PAGES, PAGE_BYTES};
 pub use request::{Place, Request, ADDRESSES};
-pub use roll::{call_line, parse_line, play, play_on, reply_line, Call, LINES, LINE_BYTES};
+pub use roll::LINE_BYTES;
+pub use roll::{call_line, parse_line, play, play_on, reply_line, reply_lines, Call, LINES};
 pub use runs::{Runs, RUNS};
 pub use sandbox::{Sandbox, AREAS};

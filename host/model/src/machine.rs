@@ -5,6 +5,7 @@ use crate::request::{Place, Request};
 use crate::roll::Call;
 use crate::sandbox::{Sandbox, AREAS};
 use std::ops::RangeInclusive;
+use std::sync::Arc;
 
 /// MACHINE 2.1: "Four sandboxes stand in a row, numbered 0 to 3."
 pub const SANDBOXES: usize = 4;
@@ -56,14 +57,15 @@ pub struct Machine {
     /// MACHINE 1.5: `None` where a lent length is wrong: then every call is refused 3.
     pub(crate) image: Option<Vec<[u8; PAGE_BYTES]>>,
     pub(crate) frames: usize,
-    pub(crate) sandboxes: [Box<Sandbox>; SANDBOXES],
+    /// Shared: a call that changes a sandbox puts a new one in its place.
+    pub(crate) sandboxes: [Arc<Sandbox>; SANDBOXES],
 }
 
 impl Machine {
     /// MACHINE 9.3, and 1.5 for the lengths: "Fresh, all are closed, nothing is mapped or
     /// marked, and there is no copy."
     pub fn fresh(image: &[u8], frames: usize) -> Machine {
-        let sandboxes = std::array::from_fn(|_| Box::new(Sandbox::closed()));
+        let sandboxes = std::array::from_fn(|_| Arc::new(Sandbox::closed()));
         Machine {
             image: whole_pages(image).filter(|_| FRAMES.contains(&frames)),
             frames,
@@ -72,7 +74,7 @@ impl Machine {
     }
 
     /// MACHINE 9.2: The machine that keeps these sandboxes.
-    pub fn keeping(image: &[u8], frames: usize, sandboxes: [Box<Sandbox>; SANDBOXES]) -> Machine {
+    pub fn keeping(image: &[u8], frames: usize, sandboxes: [Arc<Sandbox>; SANDBOXES]) -> Machine {
         Machine { sandboxes, ..Machine::fresh(image, frames) }
     }
 
@@ -91,8 +93,8 @@ impl Machine {
         self.answer(&Call { code, sandbox, parameters: [p1, p2, p3, p4, p5] })
     }
 
-    /// MACHINE 9.2: what is kept for a sandbox.
-    pub fn sandbox(&self, number: usize) -> &Sandbox {
+    /// MACHINE 9.2: what is kept for a sandbox. A clone of it stays as it is.
+    pub fn sandbox(&self, number: usize) -> &Arc<Sandbox> {
         &self.sandboxes[number]
     }
 
@@ -120,7 +122,7 @@ impl Machine {
     /// MACHINE 6.2 and 6.4: The sandbox as the call would leave it, with the call's
     /// value; or the first refusal that applies: "When several apply, the lowest number
     /// is answered."
-    fn outcome(&self, call: &Call) -> Result<(Box<Sandbox>, u32), Refusal> {
+    fn outcome(&self, call: &Call) -> Result<(Arc<Sandbox>, u32), Refusal> {
         // 2: "call code not 1 to 9"; call 10, added since, "is no longer refusal 2".
         refuse(!CODES.contains(&call.code), Refusal::UnknownCode)?;
         // 3: "lent length wrong".
@@ -135,7 +137,7 @@ impl Machine {
         // 6: the limits.
         let request = Request::within_limits(call.code, call.parameters, image.len())?;
         // 7 to 12: what the call meets.
-        let mut after = before.clone();
+        let mut after = Arc::clone(before);
         let value = carry_out(&mut after, request, image)?;
         // 13: "shares would exceed the pool, or the charge the share".
         let shares = self.shares() - before.share + after.share;
@@ -177,15 +179,16 @@ fn refuse(applies: bool, refusal: Refusal) -> Result<(), Refusal> {
 }
 
 /// MACHINE 6, rows 7 to 12, and 9.6 to 9.14: what the call meets, then what the request
-/// does and its value: "Value 0 where none is named."
+/// does and its value: "Value 0 where none is named." A sandbox that is to change is copied
+/// first (`Arc::make_mut`), as the one before the call is still there.
 fn carry_out(
-    sandbox: &mut Sandbox,
+    sandbox: &mut Arc<Sandbox>,
     request: Request,
     image: &[[u8; PAGE_BYTES]],
 ) -> Result<u32, Refusal> {
     let value = match request {
         Request::Open { share } => {
-            sandbox.open(share);
+            Arc::make_mut(sandbox).open(share);
             0
         }
         Request::Map { place, count, backing, rights } => {
@@ -199,6 +202,7 @@ fn carry_out(
                 }
                 Place::LowestGap => sandbox.lowest_gap(count).ok_or(Refusal::NoGap)?,
             };
+            let sandbox = Arc::make_mut(sandbox);
             sandbox.map(first..first + count, backing, rights, image);
             if takes_run {
                 sandbox.take_run(first..first + count);
@@ -207,12 +211,12 @@ fn carry_out(
         }
         Request::Unmap { pages } => {
             // No row 9: "a range with none mapped is accepted and changes nothing".
-            sandbox.unmap(pages);
+            Arc::make_mut(sandbox).unmap(pages);
             0
         }
         Request::Protect { pages, rights } => {
             refuse(!sandbox.all_mapped(pages.clone()), Refusal::MeetsUnmapped)?;
-            sandbox.protect(pages, rights);
+            Arc::make_mut(sandbox).protect(pages, rights);
             0
         }
         Request::Read { page, offset } => {
@@ -222,16 +226,16 @@ fn carry_out(
         Request::Write { page, offset, byte } => {
             refuse(!sandbox.pages[page].mapped, Refusal::MeetsUnmapped)?;
             refuse(sandbox.pages[page].rights != 3, Refusal::NoWriteRight)?;
-            sandbox.write(page, offset, byte);
+            Arc::make_mut(sandbox).write(page, offset, byte);
             0
         }
         Request::Snapshot => {
             refuse(sandbox.copy.is_some(), Refusal::SnapshotTaken)?;
-            sandbox.snapshot()
+            Arc::make_mut(sandbox).snapshot()
         }
         Request::Rewind => {
             let copy = sandbox.copy.clone().ok_or(Refusal::NoSnapshot)?;
-            sandbox.rewind(&copy);
+            Arc::make_mut(sandbox).rewind(&copy);
             0
         }
         Request::Report => sandbox.held(),

@@ -97,7 +97,8 @@ pub fn areas_of(pages: &Pages) -> Vec<Range<usize>> {
     areas
 }
 
-/// MACHINE 2.7: how many areas there are.
+/// MACHINE 2.7: how many areas there are: as many as begin.
 pub fn count_areas(pages: &Pages) -> usize {
-    areas_of(pages).len()
+    let goes_on = |at: usize| at > 0 && pages[at - 1].same_area_as_next(&pages[at]);
+    (0..PAGES).filter(|&at| pages[at].mapped && !goes_on(at)).count()
 }

@@ -58,9 +58,25 @@ pub fn reply_line(line_number: usize, number: u16, value: u32) -> Vec<u8> {
 
 /// MACHINE 12.2: fields in their columns, and a line feed.
 fn print_fields(fields: &[u32]) -> Vec<u8> {
-    let mut line: String = fields.iter().map(|field| format!("{field:>COLUMNS$}")).collect();
-    line.push('\n');
-    line.into_bytes()
+    let mut line = vec![b' '; fields.len() * COLUMNS + 1];
+    for (&field, columns) in fields.iter().zip(line.chunks_exact_mut(COLUMNS)) {
+        print_field(field, columns);
+    }
+    *line.last_mut().expect("a line feed") = b'\n';
+    line
+}
+
+/// MACHINE 12.2: A number "right-justified over blanks": its last digit in the last column.
+fn print_field(number: u32, columns: &mut [u8]) {
+    let mut left = number;
+    for column in columns.iter_mut().rev() {
+        *column = b'0' + (left % 10) as u8;
+        left /= 10;
+        if left == 0 {
+            return;
+        }
+    }
+    panic!("{number} has more digits than a field has columns");
 }
 
 /// MACHINE 13.1 and 13.2: What the player prints for a roll. The image is that of
@@ -74,12 +90,20 @@ pub fn play(roll: &[u8], image: Option<&[u8]>, frames: usize) -> Vec<u8> {
 /// short last line is malformed."
 pub fn play_on(roll: &[u8], machine: &mut dyn Answering) -> Vec<u8> {
     let mut printed = Vec::new();
-    for (index, line) in roll.chunks(LINE_BYTES).take(LINES).enumerate() {
+    reply_lines(roll, machine).for_each(|line| printed.extend(line));
+    printed
+}
+
+/// MACHINE 12.4 to 12.6: What is printed, line by line; a call is made when its line is asked for.
+pub fn reply_lines<'a>(
+    roll: &'a [u8],
+    machine: &'a mut dyn Answering,
+) -> impl Iterator<Item = Vec<u8>> + 'a {
+    roll.chunks(LINE_BYTES).take(LINES).enumerate().map(|(index, line)| {
         let (number, value) = match parse_line(line) {
             Some(call) => machine.answer(&call),
             None => (Refusal::Malformed as u16, 0),
         };
-        printed.extend(reply_line(index + 1, number, value));
-    }
-    printed
+        reply_line(index + 1, number, value)
+    })
 }

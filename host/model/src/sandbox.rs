@@ -66,9 +66,7 @@ impl Sandbox {
 
     /// Front and back marks alone: as many frames have an entry.
     pub fn marks(&self) -> usize {
-        let fronts = self.pages.iter().filter(|page| page.front).count();
-        let backs = self.pages.iter().filter(|page| page.back).count();
-        fronts + backs
+        self.pages.iter().map(|page| usize::from(page.front) + usize::from(page.back)).sum()
     }
 
     /// "the frames of each uncommitted anonymous area, if any [...] as one run, whose length is

@@ -1,7 +1,6 @@
 //! "Checked by hand". The first starred line is in `document_roll.rs` too.
 
-mod common;
-use common::{after, call, image, refusal, value};
+use crate::common::{after, call, image, refusal, value};
 use model::{Answering, Machine};
 
 #[test]
@@ -70,6 +69,6 @@ fn the_literal_call_answers_as_the_line_does() {
     assert_eq!(machine.call(1, 0, 20, 0, 0, 0, 0), (0, 0));
     assert_eq!(machine.call(2, 0, 64, 2, 1, 1, 3), (0, 0));
     assert_eq!(machine.call(5, 0, 256, 0, 0, 0, 0), (0, 3));
-    assert_eq!(machine.answer(&common::short("5 0 255")), (0, 2));
+    assert_eq!(machine.answer(&crate::common::short("5 0 255")), (0, 2));
     assert_eq!(value(&mut machine, "9 0"), 0);
 }

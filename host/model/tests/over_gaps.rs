@@ -1,9 +1,8 @@
 //! "Unmapping over gaps", by hand: "Unmap now passes over unmapped pages, and a range with none
 //! mapped is accepted and changes nothing. Refusal 9 remains for protect, read and write."
 
-mod common;
-use common::{accept, after, call, image, refusal, short, value};
-use model::{Machine, Page};
+use crate::common::{accept, after, call, image, refusal, short, value};
+use model::{Machine, Page, Sandbox};
 
 /// Three areas with two gaps between them: pages 2 and 3, page 6, pages 9 to 11.
 const THREE_AREAS: [&str; 4] = ["1 0 32", "2 0 2 2 0 0 3", "2 0 6 1 0 0 1", "2 0 9 3 0 0 3"];
@@ -26,7 +25,7 @@ fn unmapped(machine: &mut Machine, text: &str) -> Vec<usize> {
     let [first, pages, ..] = short(text).parameters.map(usize::from);
     let before = machine.clone();
     assert_eq!(call(machine, text), (0, 0), "{text}");
-    let mut expected = before.sandbox(0).clone();
+    let mut expected = Sandbox::clone(before.sandbox(0));
     let mut gone = Vec::new();
     for at in first..first + pages {
         let page = expected.pages[at];
@@ -35,7 +34,7 @@ fn unmapped(machine: &mut Machine, text: &str) -> Vec<usize> {
             gone.push(at);
         }
     }
-    assert!(*machine.sandbox(0) == expected, "sandbox 0 after {text}");
+    assert!(**machine.sandbox(0) == expected, "sandbox 0 after {text}");
     for other in 1..4 {
         assert!(machine.sandbox(other) == before.sandbox(other), "sandbox {other} after {text}");
     }

@@ -1,8 +1,7 @@
 //! "Plausible and wrong": the right behaviour holds. Then "What a contract must
 //! hold", item 3, in the same way.
 
-mod common;
-use common::{accept, after, image, refusal, value};
+use crate::common::{accept, after, image, refusal, value};
 use model::Machine;
 
 #[test]

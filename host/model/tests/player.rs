@@ -1,7 +1,6 @@
 //! "The roll and its player", apart from the document's own roll.
 
-mod common;
-use common::{image, roll};
+use crate::common::{image, roll};
 use model::{call_line, parse_line, play, reply_line, Call, LINES, LINE_BYTES};
 
 const REPORT: &[u8] = b"     9     0     0     0     0     0     0\n";

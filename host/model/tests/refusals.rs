@@ -1,7 +1,6 @@
 //! "Turned back": every row with its example, and the order of the rows.
 
-mod common;
-use common::{accept, after, image, refusal, roll, value};
+use crate::common::{accept, after, image, refusal, roll, value};
 use model::{play, Machine};
 
 #[test]

@@ -2,8 +2,7 @@
 //! lowest page number at which the sandbox and its snapshot differ in being mapped, in rights or
 //! in bytes, and 64 if they nowhere differ; a page unmapped in both agrees".
 
-mod common;
-use common::{accept, after, image, refusal, value};
+use crate::common::{accept, after, image, refusal, value};
 use model::{Machine, Sandbox};
 
 /// Two pages written before the snapshot, 5 and 6, and page 63.

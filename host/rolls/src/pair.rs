@@ -8,6 +8,7 @@ use crate::prng::Prng;
 use crate::spoil::{boundary_call, wild_call};
 use crate::steering::Steering;
 use model::{Answering, Call, Machine, Reply, Sandbox, SANDBOXES};
+use std::sync::Arc;
 
 /// One of the two lists, with the places of the snapshot and of the rewind in it.
 #[derive(Clone, Debug)]
@@ -110,7 +111,7 @@ impl Pair {
 
     /// What the plain machine keeps for the sandbox just before the rewind of a list:
     /// where the two differ, the rewind has something to hide.
-    pub fn before_rewind(&self, which: usize) -> Sandbox {
+    pub fn before_rewind(&self, which: usize) -> Arc<Sandbox> {
         let list = &self.lists[which];
         let mut machine = Machine::fresh(&self.image, self.frames);
         for call in &list.calls[..list.rewind] {

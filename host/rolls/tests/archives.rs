@@ -151,24 +151,26 @@ fn written(
     (reply, out)
 }
 
-/// Whether an archive of the case tells a wrong writer, in output of several lengths.
-fn told_apart(case: &Case, fault: ArchiveFault) -> bool {
-    let machine = played(case);
+/// Whether an archive of the machine tells a wrong writer, in output of several lengths.
+fn tells(machine: &Machine, fault: ArchiveFault) -> bool {
     (0..=SANDBOXES as u16).any(|sandbox| {
         let roll = machine.archived(sandbox).map_or(1, |archive| archive.text().len());
         [roll - 1, roll, roll + 1].into_iter().any(|length| {
-            let right = written(ArchiveFault::None, &machine, sandbox, length);
-            written(fault, &machine, sandbox, length) != right
+            let right = written(ArchiveFault::None, machine, sandbox, length);
+            written(fault, machine, sandbox, length) != right
         })
     })
 }
 
 #[test]
 fn archives_of_random_rolls_tell_every_wrong_writer() {
+    // What the right machine keeps is the same whatever the fault.
+    let cases: Vec<Case> = (0..TELLING_ROLLS).map(Case::random).collect();
+    let machines: Vec<Machine> = cases.iter().map(played).collect();
     for fault in ArchiveFault::ALL {
-        let telling = (0..TELLING_ROLLS).find(|&seed| told_apart(&Case::random(seed), fault));
+        let telling = machines.iter().position(|machine| tells(machine, fault));
         let seed = telling.unwrap_or_else(|| panic!("{fault:?} passed {TELLING_ROLLS} rolls"));
-        let small = shrink(&Case::random(seed), |case| told_apart(case, fault));
+        let small = shrink(&cases[seed], |case| tells(&played(case), fault));
         let lines = small.roll.len().div_ceil(LINE_BYTES);
         println!("{fault:?}: told by the roll of seed {seed}, and by {lines} lines:");
         println!("{}", String::from_utf8_lossy(&small.roll));

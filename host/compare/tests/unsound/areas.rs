@@ -1,8 +1,8 @@
 //! "areas, the snapshot's too, are at most 8, with rights 1 or 3, lie in 0 to 63, ordered,
 //! apart and longest; image pages exist". (The snapshot's: `snapshot`.)
 
-use crate::bases::{eight, since_snapshot, three, World};
-use crate::Row;
+use super::bases::{eight, since_snapshot, three, World};
+use super::Row;
 use compare::layout::{count_at, Area, Which};
 use compare::Clause::{
     Apart, AtMostEight, ImagePages, Inside, Longest, NothingBehind, Ordered, Rights,

@@ -1,8 +1,8 @@
 //! Bytes that no state has: a mark or a kind of backing that is neither 0 nor 1, an image page
 //! where the backing is anonymous, a wrong length.
 
-use crate::bases::{since_snapshot, three, World};
-use crate::Row;
+use super::bases::{since_snapshot, three, World};
+use super::Row;
 use compare::layout::{area_at, open_at, taken_at, Which};
 use compare::Clause::Bytes;
 

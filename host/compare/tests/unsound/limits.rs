@@ -1,8 +1,8 @@
 //! "the charge and share limits hold; a sandbox without a snapshot has no committed page; a
 //! closed one has nothing."
 
-use crate::bases::{empty_snapshot, opened, since_snapshot, snapshot_alone, three, World};
-use crate::Row;
+use super::bases::{empty_snapshot, opened, since_snapshot, snapshot_alone, three, World};
+use super::Row;
 use compare::layout::{open_at, share_at, taken_at, Area, Which};
 use compare::Clause::{Charge, Closed, NoSnapshot, Shares};
 use model::Backing;

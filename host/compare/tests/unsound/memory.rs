@@ -1,8 +1,8 @@
 //! "entries name frames of the pool, no frame twice; the held marks are those frames; fronts
 //! stand on mapped pages only, backs on snapshot pages only"; and the lent lengths.
 
-use crate::bases::{since_snapshot, snapshot_alone, three, World};
-use crate::Row;
+use super::bases::{since_snapshot, snapshot_alone, three, World};
+use super::Row;
 use compare::layout::HELD_AT;
 use compare::Clause::{
     BacksOnSnapshot, EntriesInPool, FrontsOnMapped, HeldMarks, Lengths, NoFrameTwice,

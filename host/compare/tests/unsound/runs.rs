@@ -1,8 +1,8 @@
 //! "Kept frames are held and zero, belong to one run and no entry, and with fronts and backs stay
 //! within the share (else refusal 3)"; and a closed sandbox keeps nothing.
 
-use crate::bases::{keeping, opened, World};
-use crate::Row;
+use super::bases::{keeping, opened, World};
+use super::Row;
 use compare::layout::{run_at, share_at, MARKS_BYTES};
 use compare::row::smallest;
 use compare::Clause::{Closed, KeptInPool, KeptInShare, KeptOnce, KeptUnnamed, KeptZero};

@@ -1,9 +1,9 @@
 //! The same of the snapshot's areas; and "the snapshot's areas are marked committed;
 //! committed pages are snapshot pages and agree with them in backing".
 
-use crate::areas::in_two;
-use crate::bases::{eight_in_snapshot, since_snapshot, snapshot_alone, World};
-use crate::Row;
+use super::areas::in_two;
+use super::bases::{eight_in_snapshot, since_snapshot, snapshot_alone, World};
+use super::Row;
 use compare::layout::{count_at, Area, Which};
 use compare::Clause::{
     Apart, AtMostEight, BackingAgrees, CommittedInSnapshot, ImagePages, Inside, Longest,

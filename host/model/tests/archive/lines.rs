@@ -2,8 +2,8 @@
 //! named pages with rights 3; a write for each byte that differs from its page's zero or image
 //! byte, in address order; a protect for each area with rights 1, in page order; snapshot".
 
+use super::{after, archived, expect_lines};
 use crate::common::{accept, image};
-use crate::{after, archived, expect_lines};
 use model::ARCHIVE_LINES;
 
 #[test]

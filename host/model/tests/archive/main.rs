@@ -1,13 +1,11 @@
 //! "A roll for the archive box": the archive of a snapshot, by hand.
 
-#[path = "../common/mod.rs"]
-mod common;
 mod lines;
 mod output;
 mod replay;
 mod wrong_writers;
 
-use common::{accept, short};
+use crate::common::{accept, short};
 use model::{call_line, Archive, Call, Machine};
 
 /// A machine with 128 frames and this image, after calls that are accepted.

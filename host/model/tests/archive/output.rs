@@ -2,8 +2,8 @@
 //! untouched. Without a snapshot it is refusal 8, and any refusal leaves all output memory
 //! untouched. Turned away: 15, output memory shorter than the roll, after 14."
 
+use super::{after, archived};
 use crate::common::accept;
-use crate::{after, archived};
 use model::{Machine, LINE_BYTES};
 
 const SNAPSHOT: [&str; 4] = ["1 1 8", "2 1 0 2 0 0 3", "6 1 5 7", "7 1"];

@@ -3,8 +3,8 @@
 //! snapshots under one image give equal rolls only if they agree in these." (Random rolls are
 //! replayed in `rolls`.)
 
+use super::{after, archived};
 use crate::common::{accept, image};
-use crate::{after, archived};
 use model::{play_on, snapshots_agree, Answering, Machine};
 
 /// Five pages, filled with 1 to 5, and a page of zeros.

@@ -1,6 +1,6 @@
 //! Each wrong writer is told from the right one by a case made for it: by number, value or output.
 
-use crate::after;
+use super::after;
 use crate::common::image;
 use model::{wrong_archive, ArchiveFault, Machine, Reply};
 use ArchiveFault::*;

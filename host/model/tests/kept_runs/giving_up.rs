@@ -1,7 +1,7 @@
 //! What a write above the share gives up, and what kept frames count in.
 
+use super::requests::{assert_kept, opened, request, written_area};
 use crate::common::{accept, after, refusal, value};
-use crate::requests::{assert_kept, opened, request, written_area};
 
 #[test]
 fn a_write_above_the_share_gives_up_one_frame_of_the_longest_run() {

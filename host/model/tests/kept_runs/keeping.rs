@@ -1,7 +1,7 @@
 //! What a rewind keeps, and which eight runs are kept.
 
+use super::requests::{assert_kept, fronts, keeping, opened, request, written_area};
 use crate::common::{accept, after, image, value};
-use crate::requests::{assert_kept, fronts, keeping, opened, request, written_area};
 use model::{Machine, Runs, RUNS};
 
 #[test]

@@ -1,7 +1,7 @@
 //! What a map at 64 takes, and that nothing is read from it.
 
+use super::requests::{assert_kept, fronts, keeping, opened, request};
 use crate::common::{accept, image, refusal, value};
-use crate::requests::{assert_kept, fronts, keeping, opened, request};
 use model::Machine;
 
 #[test]

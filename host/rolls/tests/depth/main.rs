@@ -8,6 +8,7 @@ mod runs;
 use model::{parse_line, Answering, Backing, Call, Machine, Sandbox, CODES, LINE_BYTES, SANDBOXES};
 use rolls::Case;
 use std::collections::{BTreeMap, BTreeSet};
+use std::sync::Arc;
 
 /// Not met by the player, which has 128.
 const ONE_FRAME: &str = "roll with one frame";
@@ -130,7 +131,7 @@ impl Reach {
     }
 }
 
-fn named_sandbox(machine: &Machine, call: &Call) -> Option<Sandbox> {
+fn named_sandbox(machine: &Machine, call: &Call) -> Option<Arc<Sandbox>> {
     let number = usize::from(call.sandbox);
     (number < SANDBOXES).then(|| machine.sandbox(number).clone())
 }

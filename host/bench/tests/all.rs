@@ -1,0 +1,8 @@
+//! The tests of what is measured, all in one program: each is compiled and linked once.
+
+mod archive;
+mod compare;
+mod kept;
+mod measures;
+mod runs;
+mod unproved;

@@ -1,0 +1,14 @@
+//! The proved machine against the plain one, all in one program: each is compiled and linked once.
+
+mod archives;
+mod damaged;
+mod kept_runs;
+mod lengths;
+mod mutants;
+mod over_gaps;
+mod pairs;
+mod random_rolls;
+mod stepwise;
+mod still_clean;
+#[path = "unsound/main.rs"]
+mod unsound;

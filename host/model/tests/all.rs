@@ -1,0 +1,17 @@
+//! The tests of the plain machine, all in one program: each is compiled and linked once.
+
+mod all_are_run;
+#[path = "archive/main.rs"]
+mod archive;
+mod by_hand;
+mod common;
+mod document_roll;
+mod documents;
+mod examples;
+#[path = "kept_runs/main.rs"]
+mod kept_runs;
+mod over_gaps;
+mod plausible_and_wrong;
+mod player;
+mod refusals;
+mod still_clean;
