@@ -1,7 +1,7 @@
 // One page compared with the snapshot's, where the bytes stand.
 // It promises: the test of a page is `agree` of comparison/specs/Compare, by the bytes that both read. No byte is looked at of a page that is committed,
 // has unchanged rights and no front.
-// It stands on `comparison` for what is compared, on `reading` for the bytes, and on `slots` for what stands at a page.
+// It stands on `comparison` for what is compared, on `page_comparison` for the bytes, and on `slots` for what stands at a page.
 ghost use mathlib.Core.Path.{_≡_};
 ghost use mathlib.Core.Bool.{true};
 ghost use Prim.Native.Nat.{_*_, _≤_};
@@ -53,7 +53,7 @@ pub fn agrees(
     if is_committed(present) & (front == 0) {
         return true;
     }
-    reading::compare::same_pages(
+    page_comparison::same_pages(
         pool,
         image,
         front,

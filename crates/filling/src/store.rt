@@ -32,7 +32,7 @@ pub fn store_byte(pool: &mut [u8], table: &[u16], sandbox: u8, page: PageNo, off
     if front == 0 {
         return;
     }
-    pool::store_byte(pool, frame_of(front), offset, byte);
+    frame_bytes::store_byte(pool, frame_of(front), offset, byte);
 }
 
 // A page's front entry takes frame `f`, filled with what the page reads but for a front. Which frame is the caller's choice.

@@ -1,7 +1,7 @@
 // The writes of one page of an archive roll, put into lent output or only counted: "a write for each byte that differs from its page's zero or image byte, in
 // address order".
 // It promises: the lines put are those of specs/PageLines. Pool, table and image are only read.
-// It stands on `printing` for a line put, on `table` and `pool` for the page's back frame, and on `archive` for the lines of a roll.
+// It stands on `printing` for a line put, on `table` and `frame_bytes` for the page's back frame, and on `archive` for the lines of a roll.
 ghost use mathlib.Core.Path.{_≡_};
 ghost use Prim.Native.Nat.{_+_, _*_, _≤_, _<_};
 ghost use lib.ListN.{length};
@@ -78,7 +78,7 @@ fn put_bytes(
     let mut next = to;
     for j in 0..PageNo::BYTES {
         let offset = j as u8;
-        let byte = pool::read_byte(pool, f, offset);
+        let byte = frame_bytes::read_byte(pool, f, offset);
         let old = backing_byte(image, backing, offset);
         next = put_if(out, next, write_line(page, offset, byte), byte != old);
     }

@@ -1,10 +1,10 @@
-// The lent pool as frames of one page each, named by number.
+// The lent pool as frames of one page each, named by number: whole frames cleared, filled, loaded and copied.
 // It promises that a function which is given a frame to change leaves the pool it got with "one frame's 256 bytes of the pool"
 // replaced, and no other byte changed.
 // It stands on `pages`, to which the frame's part of the pool is lent on, and on `frames` for the number of a frame.
 ghost use mathlib.Core.Path.{_≡_};
 ghost use Prim.Native.Nat.{_+_, _*_, _≤_};
-ghost use lib.ListN.{length, getD, set};
+ghost use lib.ListN.{length};
 ghost use Rattle.interface.specs.Numbers.{PageBytes};
 ghost use Rattle.pages.specs.Parts.{zeros, frame, setFrame};
 use frames::FrameNo;
@@ -47,25 +47,6 @@ pub fn copy_frame(pool: &mut [u8], from: FrameNo, to: FrameNo)
 {
     let page = load_frame(pool, from);
     fill_frame(pool, to, &page);
-}
-
-// One byte of frame `f` is stored.
-pub fn store_byte(pool: &mut [u8], f: FrameNo, offset: u8, byte: u8)
-    requires { ⌜ f .0 * PageBytes + PageBytes ≤ length (now pool) ⌝ }
-    ensures { λ r. ⌜ (let before = now (pool .entry) in
-        now (pool .exit) ≡ setFrame PageBytes before (f .0) (set (frame PageBytes before (f .0)) offset byte)) ⌝ }
-{
-    let start = f.0 as usize * Page::SIZE;
-    pages::store(&mut pool[start..start + Page::SIZE], offset as usize, byte);
-}
-
-// One byte of frame `f` is read.
-pub fn read_byte(pool: &[u8], f: FrameNo, offset: u8) -> u8
-    requires { ⌜ f .0 * PageBytes + PageBytes ≤ length (now pool) ⌝ }
-    ensures { λ r. ⌜ r ≡ getD (frame PageBytes (now (pool .entry)) (f .0)) offset 0 ⌝ }
-{
-    let start = f.0 as usize * Page::SIZE;
-    pages::read(&pool[start..start + Page::SIZE], offset as usize)
 }
 
 // All bytes of the pool become zero.

@@ -23,11 +23,11 @@ pub fn read_byte(pool: &[u8], table: &[u16], image: &[u8], page: VirtualPage, of
     let slot = page.slot;
     let front = front(table, page.sandbox, number);
     if front != 0 {
-        return pool::read_byte(pool, frame_of(front), offset);
+        return frame_bytes::read_byte(pool, frame_of(front), offset);
     }
     let under = back_if(table, page.sandbox, number, is_committed(slot));
     if under != 0 {
-        return pool::read_byte(pool, frame_of(under), offset);
+        return frame_bytes::read_byte(pool, frame_of(under), offset);
     }
     crate::backing::read_byte(image, backing_at(slot), offset)
 }

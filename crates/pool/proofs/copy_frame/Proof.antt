@@ -1,11 +1,17 @@
 -- What is filled in is what was loaded.
+use mathlib.Core.Path.{ap, _∙_}
 use borrow.Author.Needs.{needs}
+use Rattle.interface.specs.Numbers.{PageBytes}
+use Rattle.pages.specs.Parts.{setFrame}
 use Rattle.pool.proofs.copy_frame.Statement.{statement}
 use Rattle.pool.proofs.copy_frame.Tie as tie
 
 -- the way back from where a fact is needed to where it was learned
 abbrev at-load-frame : tie.After-slice-known2 → tie.After-load-frame
 at-load-frame c = c .before .before .before .before .before
+
+abbrev at-start : tie.After-load-frame → tie.Start
+at-start c = c .before .before .before
 
 load-frame-requires : tie.Need-load-frame-requires
 load-frame-requires c κs = search needs
@@ -20,7 +26,9 @@ same-length : tie.Need-same-length
 same-length c = search needs
 
 returns : tie.Need-returns
-returns c = cc (c .before .before .fill-frame .ensures, at-load-frame c .load-frame .ensures)
+returns c =
+    let s = at-start (at-load-frame c) .args in
+    c .before .before .fill-frame .ensures ∙ ap (setFrame PageBytes (s .pool .now) (s .to .0)) (at-load-frame c .load-frame .ensures)
 
 pub copy-frame-spec : {M : Type 1} → statement M
 copy-frame-spec =

@@ -3,10 +3,10 @@ use mathlib.Core.Path.{ap}
 use native.Mathlib.Omega.{arith}
 use Rattle.pages.specs.Parts.{zeros}
 use Rattle.table.specs.Backing.{backingEnd}
-use Rattle.reading.proofs.CompareLaws.{at-frame, at-zero, at-image, has-page}
+use Rattle.page_comparison.proofs.CompareLaws.{at-frame, at-zero, at-image, has-page}
 use borrow.Author.Needs.{needs}
-use Rattle.reading.proofs.compare.has_page.Statement.{statement}
-use Rattle.reading.proofs.compare.has_page.Tie as tie
+use Rattle.page_comparison.proofs.has_page.Statement.{statement}
+use Rattle.page_comparison.proofs.has_page.Tie as tie
 
 -- behind the test of the entry
 

@@ -5,8 +5,8 @@ use Prim.Native.Nat.{ℕ}
 use borrow.Author.Needs.{needs}
 use lib.ListN.{getD}
 use Rattle.pages.proofs.PartLaws.{part-is-frame}
-use Rattle.pool.proofs.read_byte.Statement.{statement}
-use Rattle.pool.proofs.read_byte.Tie as tie
+use Rattle.frame_bytes.proofs.read_byte.Statement.{statement}
+use Rattle.frame_bytes.proofs.read_byte.Tie as tie
 
 -- the way back from where a fact is needed to where it was learned
 abbrev at-start : tie.After-read → tie.Start

@@ -6,8 +6,8 @@ use borrow.Author.Needs.{needs}
 use lib.ListN.{set, length-set}
 use Rattle.pages.specs.Parts.{frame}
 use Rattle.pages.proofs.PartLaws.{length-frame, part-is-frame, frame-back-as}
-use Rattle.pool.proofs.store_byte.Statement.{statement}
-use Rattle.pool.proofs.store_byte.Tie as tie
+use Rattle.frame_bytes.proofs.store_byte.Statement.{statement}
+use Rattle.frame_bytes.proofs.store_byte.Tie as tie
 
 -- the way back from where a fact is needed to where it was learned
 abbrev at-start : tie.After-store → tie.Start

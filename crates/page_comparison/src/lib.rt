@@ -1,4 +1,7 @@
-// The bytes of two pages compared, each where it stands: nothing is copied.
+// Two pages compared, byte for byte, each where its bytes stand: in a frame of the pool, in the image, or nowhere, where all are zero.
+// It promises: two pages are alike where all their bytes are, in the terms of table/specs/Store and Backing. Nothing is copied and nothing changes.
+// It stands on `table` for entries and for what a page's bytes are, on `pages` for two parts compared, on `frames` for the number of a frame,
+// and on `interface` for backings.
 ghost use mathlib.Core.Path.{_≡_};
 ghost use Prim.Native.Nat.{_*_, _≤_};
 ghost use lib.ListN.{length};

@@ -5,10 +5,10 @@ use Prim.Native.Nat.{ℕ}
 use native.Mathlib.Omega.{arith}
 use Rattle.pages.specs.Parts.{zeros}
 use Rattle.table.specs.Backing.{backingEnd}
-use Rattle.reading.proofs.CompareLaws.{lent, pageOf, at-frame, at-zero, at-image, same-as}
+use Rattle.page_comparison.proofs.CompareLaws.{lent, pageOf, at-frame, at-zero, at-image, same-as}
 use borrow.Author.Needs.{needs}
-use Rattle.reading.proofs.compare.same_pages.Statement.{statement}
-use Rattle.reading.proofs.compare.same_pages.Tie as tie
+use Rattle.page_comparison.proofs.same_pages.Statement.{statement}
+use Rattle.page_comparison.proofs.same_pages.Tie as tie
 
 -- behind the test of the entry
 
