@@ -25,7 +25,7 @@ use Rattle.areas.proofs.FewAreas.{area-slot}
 use Rattle.areas.proofs.WalkLaws.{settled, endOf, Before, before-start, before-gap, before-next, before-last}
 use Rattle.restoring.specs.Backed.{backingOn, Backed}
 use Rattle.restoring.proofs.BackedLaws.{backed-whole}
-use Rattle.rewinding.specs.AreaRewound.{areaRewound}
+use Rattle.area_rewind.specs.AreaRewound.{areaRewound}
 
 -- which pages keep their fronts, and the bytes of a page without a back, as the present areas say it
 abbrev pub keeps : Areas → ℕ → Bool
@@ -33,10 +33,6 @@ keeps present i = isCommitted (slots present i)
 
 abbrev pub bytes : List ℕ → Areas → ℕ → List ℕ
 bytes image present i = backingPage image (backingAt (slots present i))
-
--- of two the one that a test which holds chooses
-pub chosen : {A : Type 0} (x y : A) (c : Bool) → c ≡ true → x ≡ (x when c else y)
-chosen x y c e = rw e
 
 -- at place k, the pages from this one on up to the next area are still to be rewound, and none of them keeps its front
 pub record Left (present : Areas) (k page : ℕ) : Type 0 where

@@ -1,8 +1,8 @@
 // Rewinding: what a rewind makes of the store, area by area.
 // It promises: the store after it is the `rewindTo` of table/specs/Store, with the fronts that memory/specs/Memory keeps (`keepsFront`) and the
 // snapshot's bytes. It works in proportion to the fronts there are: of the other entries, eight are looked at together.
-// It stands on `restoring` for the fronts that stay and on `freeing` for the others, on `areas`, along which it goes, on `memory` for the definitions
-// and their laws, on `content` for the bytes of a page without a back, and on `rules` for what well formed areas are asked.
+// It stands on `area_rewind` for one area and the pages before it, on `areas`, along which it goes, on `memory` for the definitions and their laws, on
+// `content` for the bytes of a page without a back, and on `rules` for what well formed areas are asked.
 pub mod store;
 
 pub use store::rewind;

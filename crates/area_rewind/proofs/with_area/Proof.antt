@@ -1,18 +1,22 @@
 -- An area that is not committed changes nothing; at any other the fronts before it are given up, then its own are restored.
 use Prim.Native.Nat.{ℕ, _-_}
 use mathlib.Core.Path.{_≡_, ap, _∙_}
-use mathlib.Core.Bool.{true, false}
+use mathlib.Core.Bool.{Bool, true, false}
 use mathlib.Core.List.{List}
 use native.Mathlib.Omega.{arith}
 use borrow.Author.Needs.{needs}
 use borrow.Author.Tests.{not-true, not-false}
+use Rattle.basics.specs.Choice.{_when_else_}
 use Rattle.table.specs.Store.{Store, kept, frontOf, rewindTo}
 use Rattle.table.proofs.FreeLaws.{freeTo-kept-as}
 use Rattle.restoring.specs.Backed.{backingOn}
-use Rattle.rewinding.specs.AreaRewound.{areaRewound}
-use Rattle.rewinding.proofs.AreaLaws.{chosen}
-use Rattle.rewinding.proofs.store.with_area.Statement.{statement}
-use Rattle.rewinding.proofs.store.with_area.Tie as tie
+use Rattle.area_rewind.specs.AreaRewound.{areaRewound}
+use Rattle.area_rewind.proofs.with_area.Statement.{statement}
+use Rattle.area_rewind.proofs.with_area.Tie as tie
+
+-- of two the one that a test which holds chooses
+chosen : {A : Type 0} (x y : A) (c : Bool) → c ≡ true → x ≡ (x when c else y)
+chosen x y c e = rw e
 
 -- ---- what is known behind the test and the fronts that were given up
 

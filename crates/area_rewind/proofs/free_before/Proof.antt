@@ -4,8 +4,8 @@ use mathlib.Core.Path.{_≡_}
 use native.Mathlib.Omega.{arith}
 use borrow.Author.Needs.{needs}
 use Rattle.table.specs.Store.{freeTo}
-use Rattle.rewinding.proofs.store.free_before.Statement.{statement}
-use Rattle.rewinding.proofs.store.free_before.Tie as tie
+use Rattle.area_rewind.proofs.free_before.Statement.{statement}
+use Rattle.area_rewind.proofs.free_before.Tie as tie
 
 returns : tie.Need-returns
 unfolding freeTo
