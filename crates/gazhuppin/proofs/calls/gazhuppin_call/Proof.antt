@@ -99,7 +99,8 @@ returns-2 c =
     let decoding = decoded calling in
     let branch = passed decoding in
     let first = behindYes branch in
-    let bytes : Bytes (first .args .state .now) = record { at = λ i. omega (arith, asking (branch .before) .before .before .before .before .slice-known .given i) } in
+    let known = asking (branch .before) .before .before .before .before .slice-known .given in
+    let bytes : Bytes (first .args .state .now) = record { at = λ i. omega (arith, known i) } in
     let reply = calling .call in
     let request = asking (branch .before) .request in
     rw (← request .ensures)
