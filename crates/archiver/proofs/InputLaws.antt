@@ -11,7 +11,7 @@ use Rattle.lines.specs.Lines.{linesOf}
 use Rattle.state.specs.World.{World}
 use Rattle.roll.specs.Known.{Known}
 use Rattle.roll.specs.Play.{Played}
-use Rattle.playing.proofs.PrefixLaws.{few-lines}
+use Rattle.playing.proofs.AheadLaws.{few-lines}
 use Rattle.roll.specs.Join.{WholeLines}
 use Rattle.roll.proofs.PlayLaws.{played-none}
 use Rattle.roll.proofs.KnownLaws.{known-played}

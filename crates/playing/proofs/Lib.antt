@@ -1,3 +1,2 @@
--- In reading order.
-pub mod Again
-pub mod PrefixLaws
+-- The one file of laws.
+pub mod AheadLaws

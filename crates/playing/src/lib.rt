@@ -2,21 +2,19 @@
 // It promises that the replies are those of a run of the well-formed lines' requests, and refusal 1 for each other line (`Played` of `roll`).
 // It stands on `reader` for the lines, on `replying` for the reply to each, and on `roll` for what is played.
 ghost use mathlib.Core.Path.{_≡_};
-ghost use Prim.Native.Nat.{_+_, _*_, _/_, _≤_};
+ghost use Prim.Native.Nat.{_+_, _*_, _≤_, min};
 ghost use lib.ListN.{length};
 ghost use Rattle.columns.specs.Sizes.{PrintedNumbers, ReplyBytes};
 ghost use Rattle.lines.specs.Lines.{linesOf};
 ghost use Rattle.state.specs.World.{worldOf};
 ghost use Rattle.roll.specs.Known.{Known};
 ghost use Rattle.roll.specs.Play.{Played};
-ghost use Rattle.replying.specs.Playing.{playedBy};
+use line_numbers::NUMBERS;
 use lines::Line;
 use lines::lines_of;
-use reader::new;
-use reader::next;
-use reader::skip;
+use read_ahead::read_lines;
 use replying::Playing;
-use replying::reply;
+use replying::reply_lines;
 use state::sandbox::Machine;
 
 // Who plays: the machine, whether its state is sound, and the number of the next line.
@@ -29,6 +27,10 @@ pub struct Player {
 impl Player {
     // "Lines after the 65,535th are not read."
     pub const LAST: u32 = 65_535;
+    // How many lines are read ahead, at the most, before they are answered; and their numbers. While lines that were read ahead are answered, the machine's
+    // state stays where it is.
+    pub const AHEAD: usize = 64;
+    pub const NUMBERS_AHEAD: usize = 512;
     // The bytes of a program's pool: "with 128 frames"
     pub const POOL: usize = 32_768;
 }
@@ -55,46 +57,36 @@ pub fn play(
     let machine = player.machine;
     let sandboxes = machine.sandboxes;
     let held = machine.held;
-    let playing = Playing {
+    let mut playing = Playing {
         sandboxes: sandboxes,
         held: held,
         sound: player.sound,
         first: player.line,
         answered: 0,
     };
-    let size = lines_of(roll.len()) * Line::REPLY;
-    let played = play_lines(playing, pool, table, image, roll, &mut out[..size]);
-    let after = played.sandboxes;
-    let marks = played.held;
+    let lines = lines_of(roll.len());
+    let mut numbers = [0u16; Player::NUMBERS_AHEAD];
+    while playing.answered < lines {
+        let done = playing.answered;
+        let end = ahead(lines - done) * NUMBERS;
+        let from = done * Line::BYTES;
+        read_lines(&roll[from..], &mut numbers[..end]);
+        playing = reply_lines(playing, pool, table, image, &numbers[..end], out);
+    }
+    let after = playing.sandboxes;
+    let marks = playing.held;
     Machine {
         sandboxes: after,
         held: marks,
     }
 }
 
-// As many lines of the roll as out has room for replies, over which one reader goes line by line.
-fn play_lines(
-    playing: Playing,
-    pool: &mut [u8],
-    table: &mut [u16],
-    image: &[u8],
-    roll: &[u8],
-    out: &mut [u8],
-) -> Playing
-    requires { ⌜ (playing .first + length (now out) / ReplyBytes ≤ PrintedNumbers) × (playing .answered ≡ 0)
-        × Known (playing .sound) (now image) (playedBy playing (now pool) (now table)) ⌝ }
-    ensures { λ r. let before = playedBy playing (now (pool .entry)) (now (table .entry)) in
-        let lines = length (now (out .entry)) / ReplyBytes in
-        ⌜ Played (now (image .entry)) before (now (roll .entry)) lines (playing .first) (now (out .entry))
-        (now (out .exit)) (playedBy r (now (pool .exit)) (now (table .exit))) ⌝ }
+// How many of the lines that are left are read ahead.
+fn ahead(left: usize) -> usize
+    ensures { λ r. ⌜ r ≡ min left 64 ⌝ }
 {
-    let lines = out.len() / Line::REPLY;
-    let mut state = playing;
-    let mut reader = new(roll);
-    while reader.line < lines {
-        let line = next(reader);
-        state = reply(state, pool, table, image, line, out);
-        reader = skip(reader);
+    if left < Player::AHEAD {
+        return left;
     }
-    state
+    Player::AHEAD
 }

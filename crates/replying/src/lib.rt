@@ -4,18 +4,19 @@
 // It stands on `asking` for what a line asks, on `rewind_call`, `in_place` and `performing` for a call on one sandbox, on `totals` for what the sandboxes have
 // together, on `reply_text` for the reply printed, and on `roll` for what a reply is and for what is known of a state.
 ghost use mathlib.Core.Path.{_≡_};
-ghost use Prim.Native.Nat.{_+_, _*_, _≤_};
+ghost use Prim.Native.Nat.{_+_, _*_, _/_, _≤_};
 ghost use lib.ListN.{length};
-ghost use Rattle.columns.specs.Sizes.{MostPrinted, ReplyBytes};
+ghost use Rattle.columns.specs.Sizes.{PrintedNumbers, ReplyBytes};
+ghost use Rattle.line_numbers.specs.Numbers.{LineNumbers};
 ghost use Rattle.roll.specs.Known.{Known};
-ghost use Rattle.roll.specs.Play.{Replied};
-ghost use Rattle.replying.specs.Playing.{playedBy};
+ghost use Rattle.replying.specs.Playing.{playedBy, RepliedTo};
 use asking::Asked;
 use asking::ask;
 use frames::Held;
 use interface::Answer;
 use interface::Request;
-use lines::Line;
+use line_numbers::NUMBERS;
+use line_numbers::line_in;
 use performing::act;
 use reply_text::print_answer;
 use rewind_call::rewind_sandbox;
@@ -33,63 +34,69 @@ pub struct Playing {
     pub answered: usize,
 }
 
-// The next line, with its reply: 19 bytes of out.
-pub fn reply<'a, 'b>(
+// The lines whose numbers these are, one after the other, each with its reply: 19 bytes of out. The machine's sandboxes stay where they are from line to line,
+// and a call takes one of them out and puts one back.
+pub fn reply_lines<'a, 'b>(
     mut playing: Playing,
     pool: &'a mut [u8],
     table: &'a mut [u16],
     image: &'b [u8],
-    line: Line,
+    numbers: &'b [u16],
     out: &'a mut [u8],
 ) -> Playing
-    requires { ⌜ (playing .answered * ReplyBytes + ReplyBytes ≤ length (now out))
-        × (playing .first + playing .answered ≤ MostPrinted)
+    requires { let n = length (now numbers) / LineNumbers in
+        ⌜ ((playing .answered + n) * ReplyBytes ≤ length (now out))
+        × (playing .first + (playing .answered + n) ≤ PrintedNumbers)
         × Known (playing .sound) (now image) (playedBy playing (now pool) (now table)) ⌝ }
     ensures { λ r. let before = playedBy playing (now (pool .entry)) (now (table .entry)) in
         let k = playing .answered in
-        ⌜ Replied (now (image .entry)) before line (playing .first + k) (k * ReplyBytes)
-        (now (out .entry)) (now (out .exit))
-        (playedBy r (now (pool .exit)) (now (table .exit)))
-        × (r .first ≡ playing .first) × (r .answered ≡ k + 1) × (r .sound ≡ playing .sound) ⌝ }
+        let n = length (now (numbers .entry)) / LineNumbers in
+        ⌜ RepliedTo (now (image .entry)) (now (numbers .entry)) (playing .first) k before (now (out .entry))
+        n (now (out .exit)) (playedBy r (now (pool .exit)) (now (table .exit)))
+        × (r .first ≡ playing .first) × (r .answered ≡ k + n) × (r .sound ≡ playing .sound) ⌝ }
 {
-    let at = playing.answered;
-    let number = playing.first + at as u32;
-    let asked = ask(playing.sound, line);
-    let mut answer = Answer::Value(0);
-    match asked {
-        Asked::Refused(why) => {
-            answer = Answer::Refused(why);
-        }
-        Asked::Call(q) => {
-            let k = q.sandbox as usize;
-            let b = playing.sandboxes[k];
-            if q.code == Request::REWIND {
-                let held = playing.held;
-                let rewound = rewind_sandbox(b, held, pool, table, image, q);
-                let after = rewound.sandbox;
-                let marks = rewound.held;
-                playing.sandboxes[k] = after;
-                playing.held = marks;
-                answer = rewound.answer;
-            } else {
-                let tried = in_place::answer(b, pool, table, image, q);
-                if tried.done {
-                    answer = tried.answer;
-                } else {
-                    let sandboxes = playing.sandboxes;
+    let n = numbers.len() / NUMBERS;
+    for i in 0..n {
+        let line = line_in(numbers, i);
+        let at = playing.answered;
+        let number = playing.first + at as u32;
+        let asked = ask(playing.sound, line);
+        let mut answer = Answer::Value(0);
+        match asked {
+            Asked::Refused(why) => {
+                answer = Answer::Refused(why);
+            }
+            Asked::Call(q) => {
+                let k = q.sandbox as usize;
+                let b = playing.sandboxes[k];
+                if q.code == Request::REWIND {
                     let held = playing.held;
-                    let all = put_together(sandboxes, held, q);
-                    let acted = act(b, all, pool, table, image, q);
-                    let after = acted.sandbox;
-                    let marks = acted.held;
+                    let rewound = rewind_sandbox(b, held, pool, table, image, q);
+                    let after = rewound.sandbox;
+                    let marks = rewound.held;
                     playing.sandboxes[k] = after;
                     playing.held = marks;
-                    answer = acted.answer;
+                    answer = rewound.answer;
+                } else {
+                    let tried = in_place::answer(b, pool, table, image, q);
+                    if tried.done {
+                        answer = tried.answer;
+                    } else {
+                        let sandboxes = playing.sandboxes;
+                        let held = playing.held;
+                        let all = put_together(sandboxes, held, q);
+                        let acted = act(b, all, pool, table, image, q);
+                        let after = acted.sandbox;
+                        let marks = acted.held;
+                        playing.sandboxes[k] = after;
+                        playing.held = marks;
+                        answer = acted.answer;
+                    }
                 }
             }
         }
+        print_answer(out, at, number, answer);
+        playing.answered = at + 1;
     }
-    print_answer(out, at, number, answer);
-    playing.answered = at + 1;
     playing
 }

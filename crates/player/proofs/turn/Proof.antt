@@ -7,7 +7,7 @@ use native.Mathlib.Omega.{arith}
 use lib.Seq.{length-take-le}
 use Rattle.lines.specs.Lines.{linesOf}
 use Rattle.state.specs.World.{worldOf}
-use Rattle.playing.proofs.PrefixLaws.{few-lines}
+use Rattle.playing.proofs.AheadLaws.{few-lines}
 use Rattle.conversation.proofs.ConversationLaws.{turn-answers}
 use borrow.Author.Needs.{needs}
 use Rattle.player.proofs.turn.Statement.{statement}

@@ -6,7 +6,7 @@ use native.Mathlib.Omega.{arith}
 use lib.ListN.{length}
 use borrow.Author.Needs.{needs}
 use Rattle.state.specs.World.{World, worldOf}
-use Rattle.playing.proofs.PrefixLaws.{few-lines}
+use Rattle.playing.proofs.AheadLaws.{few-lines}
 use Rattle.archiver.proofs.InputLaws.{SoFar, none-so-far, known-so-far, short-line, whole-line, ended, one-more, full}
 use Rattle.archiver.proofs.roll_input.play_input.Statement.{statement}
 use Rattle.archiver.proofs.roll_input.play_input.Tie as tie

@@ -1,0 +1,2 @@
+-- The one file.
+pub mod Numbers

@@ -1,0 +1,347 @@
+-- The four ways of a line in `reply_lines`: it is refused without a look at a sandbox, its sandbox is rewound and put back, it is answered in place, or its sandbox is
+-- acted on and put back.
+-- Of each the same is said (`Answers`), and so of the place where they meet (`met`).
+use mathlib.Core.Path.{_≡_, refl, sym, ap, subst, _∙_}
+use mathlib.Core.Logic.{⊎-elim}
+use mathlib.Core.List.{List}
+use mathlib.Core.Bool.{true}
+use Prim.Native.Nat.{ℕ, _≤_, _<_}
+use native.Mathlib.Omega.{arith}
+use lib.ListN.{length, getD, set, length-set}
+use Rattle.interface.specs.declared.answer.Answer.{Answer}
+use Rattle.interface.specs.declared.answer.Answer.the-variants.{Refused}
+use Rattle.interface.specs.declared.request.Request.{Request}
+use Rattle.interface.specs.Answers.{answered, valueOf}
+use Rattle.lines.specs.declared.Line.{Line}
+use Rattle.frames.specs.declared.Held.{Held}
+use Rattle.frames.specs.Frames.{noneHeld}
+use Rattle.table.specs.Store.{kept}
+use Rattle.state.specs.declared.sandbox.Sandbox.{Sandbox}
+use Rattle.state.specs.declared.sandbox.Machine.{Machine}
+use Rattle.state.specs.World.{World, sharesIn}
+use Rattle.state.proofs.SharesLaws.{zeroSandbox}
+use Rattle.totals.specs.declared.together.Together.{Together}
+use Rattle.soundness.specs.Test.{soundb}
+use Rattle.memory.proofs.MemoryLaws.{read-own}
+use Rattle.step.specs.Step.{Stepped}
+use Rattle.step.specs.Acted.{Stands}
+use Rattle.step.proofs.ActedLaws.{standing, stepped-back}
+use Rattle.in_place.specs.InPlace.{Around}
+use Rattle.roll.specs.Known.{Known}
+use Rattle.roll.specs.Play.{Turned}
+use Rattle.roll.proofs.KnownLaws.{known-is}
+use Rattle.roll.proofs.SmallLaws.{value-small}
+use Rattle.replying.specs.declared.Playing.{Playing}
+use Rattle.replying.specs.Playing.{playedBy}
+use Rattle.asking.proofs.AskedLaws.{refused-line, Calls, call-line}
+use Rattle.replying.proofs.reply_lines.Tie as tie
+use Rattle.replying.proofs.reply_lines.Proof.Upto.{Inv-loop, μ-loop}
+
+-- ---- what a line meets
+
+abbrev pub AtLoop : Type 0
+AtLoop = tie.At-loop Inv-loop μ-loop
+
+abbrev pub AfterAsk : Type 0
+AfterAsk = tie.After-ask Inv-loop μ-loop
+
+abbrev pub startOf : AtLoop → tie.Start Inv-loop μ-loop
+startOf c = c .before .before .before .before .before .before
+
+abbrev pub loopOf : AfterAsk → AtLoop
+loopOf c = c .before .before .before
+
+abbrev pub imageIn : AfterAsk → List ℕ
+imageIn c = startOf (loopOf c) .args .image .now
+
+abbrev pub stateIn : AfterAsk → Playing
+stateIn c = loopOf c .loop .playing
+
+abbrev pub poolIn : AfterAsk → List ℕ
+poolIn c = loopOf c .loop .pool
+
+abbrev pub tableIn : AfterAsk → List ℕ
+tableIn c = loopOf c .loop .table
+
+abbrev pub lineOf : AfterAsk → Line
+lineOf c = c .before .line-in .result
+
+abbrev pub worldIn : AfterAsk → World
+worldIn c = playedBy (stateIn c) (poolIn c) (tableIn c)
+
+abbrev pub machineIn : AfterAsk → Machine
+machineIn c = record { sandboxes = stateIn c .sandboxes; held = stateIn c .held }
+
+pub four : (c : AfterAsk) → length (stateIn c .sandboxes) ≡ 4
+four c = loopOf c .loop .inv .1 .four
+
+pub known : (c : AfterAsk) → Known (stateIn c .sound) (imageIn c) (worldIn c)
+known c = loopOf c .loop .inv .1 .known
+
+-- ---- what each way leaves
+
+-- the answer is that of the line, lengths and what does not change stay
+pub record Answers (s : AfterAsk) (pool table : List ℕ) (p : Playing) (a : Answer) : Type 0 where
+  pub turned : Turned (imageIn s) (worldIn s) (lineOf s) (record { answer = answered a; world = playedBy p pool table })
+  pub poolKept : length pool ≡ length (poolIn s)
+  pub tableKept : length table ≡ length (tableIn s)
+  pub small : valueOf a ≤ 65535
+  pub first : p .first ≡ stateIn s .first
+  pub known : p .sound ≡ stateIn s .sound
+  pub four : length (p .sandboxes) ≡ 4
+  pub bytes : (j : ℕ) → getD pool j 0 < 256
+
+-- a call on one of the four sandboxes
+abbrev pub asking : tie.After-known-told2 Inv-loop μ-loop → AfterAsk
+asking c = c .before .before .before
+
+abbrev pub asked : tie.After-known-told2 Inv-loop μ-loop → Request
+asked c = c .before .asked2 .given .0 .0
+
+pub calls : (c : tie.After-known-told2 Inv-loop μ-loop) → Calls (stateIn (asking c) .sound) (lineOf (asking c)) (asked c)
+calls c =
+    let s = asking c in
+    call-line (stateIn s .sound) (lineOf s) (asked c) (sym (c .before .asked2 .given .1) ∙ c .before .before .before .ask .ensures)
+
+pub passes : (c : tie.After-known-told2 Inv-loop μ-loop) → soundb (imageIn (asking c)) (worldIn (asking c)) ≡ true
+passes c =
+    let s = asking c in
+    sym (known-is (stateIn s .sound) (imageIn s) (worldIn s) (known s)) ∙ calls c .known
+
+abbrev pub own : tie.After-known-told2 Inv-loop μ-loop → Sandbox
+own c = getD (stateIn (asking c) .sandboxes) (asked c .sandbox) zeroSandbox
+
+pub around : (c : tie.After-known-told2 Inv-loop μ-loop) → let s = asking c in
+    Around (imageIn s) (asked c) (own c) (poolIn s) (tableIn s) (worldIn s)
+around c =
+    let s = asking c in record {
+      sound = passes c;
+      own = sym (read-own (stateIn s .sandboxes) (asked c .sandbox) (four s) (calls c .low));
+      samePool = refl;
+      sameTable = refl;
+    }
+
+-- a step of the request is a turn of the line, and its value is small
+of-step : (c : tie.After-known-told2 Inv-loop μ-loop) (pool table : List ℕ) (p : Playing) (a : Answer) → let s = asking c in
+    Stepped (imageIn s) (worldIn s) (asked c) (record { answer = answered a; world = playedBy p pool table })
+    → length pool ≡ length (poolIn s) → length table ≡ length (tableIn s)
+    → p .first ≡ stateIn s .first → p .sound ≡ stateIn s .sound → length (p .sandboxes) ≡ 4
+    → ((j : ℕ) → getD pool j 0 < 256) → Answers s pool table p a
+of-step c pool table p a t lp lt f k four′ bytes′ =
+    let s = asking c in
+    let at = loopOf s in
+    let images = at .before .before .before .shared-slice-known .given in
+    let low = at .loop .inv .1 .bytes in
+    record {
+      turned = subst (λ (l : Line). Turned (imageIn s) (worldIn s) l (record { answer = answered a; world = playedBy p pool table })) (sym (calls c .says)) t;
+      poolKept = lp;
+      tableKept = lt;
+      small = value-small (imageIn s) (worldIn s) (asked c) (λ i. omega (arith, images i)) (λ i. omega (arith, low i)) _ t;
+      first = f;
+      known = k;
+      four = four′;
+      bytes = bytes′;
+    }
+
+-- a sandbox and the marks are put back
+abbrev withOne : Playing → ℕ → Sandbox → Held → Playing
+withOne p k b marks =
+    record { sandboxes = set (p .sandboxes) k b; held = marks; sound = p .sound; first = p .first; answered = p .answered }
+
+put-back : (c : tie.After-known-told2 Inv-loop μ-loop) (pool table : List ℕ) (p : Playing) (b : Sandbox) (marks : Held) (a : Answer) → let s = asking c in
+    p ≡ withOne (stateIn s) (asked c .sandbox) b marks
+    → Stepped (imageIn s) (worldIn s) (asked c)
+    (record { answer = answered a; world = playedBy (withOne (stateIn s) (asked c .sandbox) b marks) pool table })
+    → length pool ≡ length (poolIn s) → length table ≡ length (tableIn s)
+    → ((j : ℕ) → getD pool j 0 < 256) → Answers s pool table p a
+put-back c pool table p b marks a e t lp lt bytes =
+    let s = asking c in
+    subst (λ (x : Playing). Answers s pool table x a) (sym e)
+    (of-step c pool table (withOne (stateIn s) (asked c .sandbox) b marks) a t lp lt refl refl (length-set (stateIn s .sandboxes) (asked c .sandbox) b ∙ four s) bytes)
+
+-- rewound
+abbrev pub rewound-at : tie.After-marks Inv-loop μ-loop → tie.After-rewind-sandbox Inv-loop μ-loop
+rewound-at c = c .before .before .before .before .before .before
+
+abbrev pub rewinding : tie.After-rewind-sandbox-arg2 Inv-loop μ-loop → tie.After-known-told2 Inv-loop μ-loop
+rewinding c = c .before .before .before .before .before .before .before
+
+-- what is told of the other sandboxes does not matter
+abbrev pub unasked : AfterAsk → Together
+unasked s = record { held = stateIn s .held; shares = sharesIn (stateIn s .sandboxes); kept = noneHeld }
+
+pub stands-alone : (c : tie.After-rewind-sandbox-arg2 Inv-loop μ-loop) → let told = rewinding c in let s = asking told in
+    Stands (imageIn s) (asked told) (own told) (unasked s) (kept (stateIn s .held) (poolIn s) (tableIn s)) (stateIn s .sandboxes)
+stands-alone c =
+    let told = rewinding c in
+    let s = asking told in
+    standing (imageIn s) (asked told) (machineIn s) (poolIn s) (poolIn s) (tableIn s) (unasked s) refl refl
+    (four s) (calls told .low) (passes told) refl (λ e. absurd (omega (arith, e, c .before .before .before .if1 .taken)))
+
+rewound : (c : tie.After-marks Inv-loop μ-loop) (p : Playing) → let did = rewound-at c in let told = rewinding (did .before) in let s = asking told in
+    p ≡ withOne (stateIn s) (asked told .sandbox) (did .rewind-sandbox .result .sandbox) (did .rewind-sandbox .result .held)
+    → Answers s (did .rewind-sandbox .last .1 .1 .0) (did .rewind-sandbox .last .1 .1 .1 .0) p (did .rewind-sandbox .result .answer)
+rewound c p e =
+    let did = rewound-at c in
+    let told = rewinding (did .before) in
+    let s = asking told in
+    put-back told _ _ p (did .rewind-sandbox .result .sandbox) (did .rewind-sandbox .result .held) (did .rewind-sandbox .result .answer) e
+    (did .rewind-sandbox .ensures (stateIn s .sandboxes) (unasked s) (stands-alone (did .before)))
+    (did .rewind-sandbox .kept .1 .1 .0) (did .rewind-sandbox .kept .1 .1 .1 .0)
+    (λ j. omega (arith, c .before .before .before .before .slice-known4 .given j))
+
+-- answered in place
+abbrev pub told-at : tie.After-answer Inv-loop μ-loop → tie.After-known-told2 Inv-loop μ-loop
+told-at c = c .before .before .before .before .before .before .before
+
+in-place : (c : tie.Then2 Inv-loop μ-loop) → let behind = c .before .before .before in let s = asking (told-at behind) in
+    Answers s (behind .answer .last .1 .0) (tableIn s) (stateIn s) (behind .answer .result .answer)
+in-place c =
+    let behind = c .before .before .before in
+    let told = told-at behind in
+    let s = asking told in
+    of-step told _ _ (stateIn s) (behind .answer .result .answer)
+    (behind .answer .ensures (worldIn s) (around told) .done (c .if2 .taken)) (behind .answer .kept .1 .0) refl refl refl (four s)
+    (λ j. omega (arith, c .before .slice-known6 .given j))
+
+-- or left there, and the pool is as it was
+abbrev pub left-at : tie.After-put-together Inv-loop μ-loop → tie.After-answer Inv-loop μ-loop
+left-at c = c .before .before .before .before .before .before
+
+pool-stays : (c : tie.After-put-together Inv-loop μ-loop) → left-at c .answer .last .1 .0 ≡ poolIn (asking (told-at (left-at c)))
+pool-stays c =
+    let behind = left-at c in
+    let told = told-at behind in
+    behind .answer .ensures (worldIn (asking told)) (around told) .left (c .before .before .before .if2 .left)
+
+pub stands : (c : tie.After-put-together Inv-loop μ-loop) → let told = told-at (left-at c) in let s = asking told in let all = c .put-together .result in
+    Stands (imageIn s) (asked told) (own told) all (kept (all .held) (left-at c .answer .last .1 .0) (tableIn s)) (stateIn s .sandboxes)
+stands c =
+    let told = told-at (left-at c) in
+    let s = asking told in
+    let found = c .put-together in
+    standing (imageIn s) (asked told) (machineIn s) (poolIn s) _ (tableIn s) (found .result) (found .ensures .0) (pool-stays c)
+    (four s) (calls told .low) (passes told) (found .ensures .1 .0) (found .ensures .1 .1)
+
+-- acted on, and put back
+abbrev pub acted-at : tie.After-marks2 Inv-loop μ-loop → tie.After-act Inv-loop μ-loop
+acted-at c = c .before .before .before .before .before .before
+
+acted : (c : tie.After-marks2 Inv-loop μ-loop) (p : Playing) → let did = acted-at c in let told = told-at (left-at (did .before .before .before)) in let s = asking told in
+    p ≡ withOne (stateIn s) (asked told .sandbox) (did .act .result .sandbox) (did .act .result .held)
+    → Answers s (did .act .last .1 .1 .0) (did .act .last .1 .1 .1 .0) p (did .act .result .answer)
+acted c p e =
+    let did = acted-at c in
+    let found = did .before .before .before in
+    let told = told-at (left-at found) in
+    let s = asking told in
+    put-back told _ _ p (did .act .result .sandbox) (did .act .result .held) (did .act .result .answer) e
+    (stepped-back (imageIn s) (asked told) (machineIn s) (poolIn s) _ (tableIn s) (found .put-together .result)
+    (found .put-together .ensures .0) (pool-stays found) _ (did .act .ensures (stateIn s .sandboxes) (stands found)))
+    (did .act .kept .1 .1 .0 ∙ ap length (pool-stays found)) (did .act .kept .1 .1 .1 .0)
+    (λ j. omega (arith, c .before .before .before .before .slice-known7 .given j))
+
+-- refused without a look at a sandbox
+refused : (c : tie.After-asked Inv-loop μ-loop) → let s = c .before .before in
+    Answers s (poolIn s) (tableIn s) (stateIn s) (Refused (c .asked .given .0 .0))
+refused c =
+    let s = c .before .before in
+    record {
+      turned = refused-line (imageIn s) (worldIn s) (stateIn s .sound) (known s) (lineOf s) (c .asked .given .0 .0)
+          (sym (c .asked .given .1) ∙ c .before .before .ask .ensures);
+      poolKept = refl;
+      tableKept = refl;
+      small = omega arith;
+      first = refl;
+      known = refl;
+      four = four s;
+      bytes = loopOf s .loop .inv .1 .bytes;
+    }
+
+-- where the ways meet
+same-answers : (s : AfterAsk) (pool table pool′ table′ : List ℕ) (p p′ : Playing) (a a′ : Answer)
+    → pool ≡ pool′ → table ≡ table′ → p ≡ p′ → a ≡ a′ → Answers s pool′ table′ p′ a′ → Answers s pool table p a
+same-answers s pool table pool′ table′ p p′ a a′ e f g h t = rw (e, f, g, h) t
+
+refused-met : (c : tie.After-asked Inv-loop μ-loop) (pool table : List ℕ) (p : Playing) (a : Answer) → let s = c .before .before in
+    pool ≡ poolIn s → table ≡ tableIn s → p ≡ stateIn s → a ≡ Refused (c .asked .given .0 .0) → Answers s pool table p a
+refused-met c pool table p a e f g h =
+    let s = c .before .before in
+    same-answers s pool table (poolIn s) (tableIn s) p (stateIn s) a (Refused (c .asked .given .0 .0)) e f g h (refused c)
+
+in-place-met : (c : tie.Then2 Inv-loop μ-loop) (pool table : List ℕ) (p : Playing) (a : Answer) →
+    let behind = c .before .before .before in
+    let s = asking (told-at behind) in
+    pool ≡ behind .answer .last .1 .0 → table ≡ tableIn s → p ≡ stateIn s → a ≡ behind .answer .result .answer → Answers s pool table p a
+in-place-met c pool table p a e f g h =
+    let behind = c .before .before .before in
+    let s = asking (told-at behind) in
+    same-answers s pool table (behind .answer .last .1 .0) (tableIn s) p (stateIn s) a (behind .answer .result .answer) e f g h (in-place c)
+
+rewound-met : (c : tie.After-marks Inv-loop μ-loop) (pool table : List ℕ) (p : Playing) (a : Answer) →
+    let did = rewound-at c in
+    let told = rewinding (did .before) in
+    let s = asking told in
+    pool ≡ did .rewind-sandbox .last .1 .1 .0 → table ≡ did .rewind-sandbox .last .1 .1 .1 .0
+    → p ≡ withOne (stateIn s) (asked told .sandbox) (did .rewind-sandbox .result .sandbox) (did .rewind-sandbox .result .held)
+    → a ≡ did .rewind-sandbox .result .answer → Answers s pool table p a
+rewound-met c pool table p a e f g h =
+    let did = rewound-at c in
+    let s = asking (rewinding (did .before)) in
+    same-answers s pool table (did .rewind-sandbox .last .1 .1 .0) (did .rewind-sandbox .last .1 .1 .1 .0) p p a (did .rewind-sandbox .result .answer)
+    e f refl h (rewound c p g)
+
+acted-met : (c : tie.After-marks2 Inv-loop μ-loop) (pool table : List ℕ) (p : Playing) (a : Answer) →
+    let did = acted-at c in
+    let told = told-at (left-at (did .before .before .before)) in
+    let s = asking told in
+    pool ≡ did .act .last .1 .1 .0 → table ≡ did .act .last .1 .1 .1 .0
+    → p ≡ withOne (stateIn s) (asked told .sandbox) (did .act .result .sandbox) (did .act .result .held)
+    → a ≡ did .act .result .answer → Answers s pool table p a
+acted-met c pool table p a e f g h =
+    let did = acted-at c in
+    let s = asking (told-at (left-at (did .before .before .before))) in
+    same-answers s pool table (did .act .last .1 .1 .0) (did .act .last .1 .1 .1 .0) p p a (did .act .result .answer) e f refl h (acted c p g)
+
+pub met : (c : tie.At-match-came Inv-loop μ-loop) → Answers (c .before) (c .match .pool) (c .match .table) (c .match .playing) (c .match .answer)
+met c =
+    let ask = c .before in
+    let m = c .match in
+    ⊎-elim
+    (λ w. refused-met (record { before = record { before = ask; match = w .0 }; asked = w .1 }) (m .pool) (m .table) (m .playing) (m .answer)
+    (w .3) (w .4) (w .5) (w .6))
+    (λ rest. ⊎-elim
+    (λ w.
+    let told : tie.After-known-told2 Inv-loop μ-loop = record { before = record { before = record { before = ask; match = w .0 }; asked2 = w .1 }; known-told2 = w .2 } in
+    let it : tie.After-struct-known2 Inv-loop μ-loop = record { before = record { before = record { before = told; struct-known = w .3 }; b = w .4 }; struct-known2 = w .5 } in
+    let held : tie.After-held Inv-loop μ-loop = record { before = record { before = it; if1 = w .6 }; held = w .7 } in
+    let lent : tie.After-rewind-sandbox-arg2 Inv-loop μ-loop = record { before = record { before = held; rewind-sandbox-arg = w .8 }; rewind-sandbox-arg2 = w .9 } in
+    let did : tie.After-rewind-sandbox Inv-loop μ-loop = record { before = lent; rewind-sandbox = w .10 } in
+    let pooled : tie.After-slice-known4 Inv-loop μ-loop = record { before = record { before = did; pool = w .11 }; slice-known4 = w .12 } in
+    let tabled : tie.After-slice-known5 Inv-loop μ-loop = record { before = record { before = pooled; table = w .13 }; slice-known5 = w .14 } in
+    let marked : tie.After-marks Inv-loop μ-loop = record { before = record { before = tabled; after = w .15 }; marks = w .16 } in
+    rewound-met marked (m .pool) (m .table) (m .playing) (m .answer) (w .17) (w .18) (w .19) (w .20))
+    (λ others. ⊎-elim
+    (λ w.
+    let told : tie.After-known-told2 Inv-loop μ-loop = record { before = record { before = record { before = ask; match = w .0 }; asked2 = w .1 }; known-told2 = w .2 } in
+    let it : tie.After-struct-known2 Inv-loop μ-loop = record { before = record { before = record { before = told; struct-known = w .3 }; b = w .4 }; struct-known2 = w .5 } in
+    let lent : tie.After-answer-arg Inv-loop μ-loop = record { before = record { before = it; if1 = w .6 }; answer-arg = w .7 } in
+    let answer : tie.After-answer Inv-loop μ-loop = record { before = record { before = lent; answer-arg2 = w .8 }; answer = w .9 } in
+    let at : tie.Then2 Inv-loop μ-loop = record { before = record { before = record { before = answer; pool2 = w .10 }; slice-known6 = w .11 }; if2 = w .12 } in
+    in-place-met at (m .pool) (m .table) (m .playing) (m .answer) (w .13) (w .14) (w .15) (w .16))
+    (λ w.
+    let told : tie.After-known-told2 Inv-loop μ-loop = record { before = record { before = record { before = ask; match = w .0 }; asked2 = w .1 }; known-told2 = w .2 } in
+    let it : tie.After-struct-known2 Inv-loop μ-loop = record { before = record { before = record { before = told; struct-known = w .3 }; b = w .4 }; struct-known2 = w .5 } in
+    let lent : tie.After-answer-arg Inv-loop μ-loop = record { before = record { before = it; if1 = w .6 }; answer-arg = w .7 } in
+    let answer : tie.After-answer Inv-loop μ-loop = record { before = record { before = lent; answer-arg2 = w .8 }; answer = w .9 } in
+    let at : tie.Else2 Inv-loop μ-loop = record { before = record { before = record { before = answer; pool2 = w .10 }; slice-known6 = w .11 }; if2 = w .12 } in
+    let held : tie.After-held2 Inv-loop μ-loop = record { before = record { before = at; sandboxes = w .13 }; held2 = w .14 } in
+    let found : tie.After-put-together Inv-loop μ-loop = record { before = held; put-together = w .15 } in
+    let did : tie.After-act Inv-loop μ-loop = record { before = record { before = record { before = found; act-arg = w .16 }; act-arg2 = w .17 }; act = w .18 } in
+    let pooled : tie.After-slice-known7 Inv-loop μ-loop = record { before = record { before = did; pool3 = w .19 }; slice-known7 = w .20 } in
+    let tabled : tie.After-slice-known8 Inv-loop μ-loop = record { before = record { before = pooled; table2 = w .21 }; slice-known8 = w .22 } in
+    let marked : tie.After-marks2 Inv-loop μ-loop = record { before = record { before = tabled; after2 = w .23 }; marks2 = w .24 } in
+    acted-met marked (m .pool) (m .table) (m .playing) (m .answer) (w .25) (w .26) (w .27) (w .28))
+    others)
+    rest)
+    (m .came)
