@@ -67,11 +67,15 @@ module _ {image : List ℕ} {q : Request} {b : Sandbox} {pool table : List ℕ} 
 
   -- ---- what is tried
 
-  pub tried-none : (a : Answer) → Tried image w q (record { done = false; answer = a }) pool
-  tried-none a = record { done = λ t. absurd (false≢true t); left = λ t. sym (A .samePool) }
+  pub tried-none : (a : Answer) → (q .code ≡ Write → ⊥) → Tried image w q (record { done = false; answer = a }) pool
+  tried-none a x = record { done = λ t. absurd (false≢true t); left = λ t. sym (A .samePool); accepted = λ t e. absurd (x e) }
 
   pub tried-same : (a : Answer) → Stepped image w q (record { answer = answered a; world = w }) → Tried image w q (record { done = true; answer = a }) pool
-  tried-same a s = record { done = λ t. rw (← A .samePool) s; left = λ t. absurd (false≢true (sym t)) }
+  tried-same a s = record {
+    done = λ t. rw (← A .samePool) s;
+    left = λ t. absurd (false≢true (sym t));
+    accepted = λ t e. absurd (false≢true (sym t));
+  }
 
   -- ---- an accepted call that leaves every sandbox
 
@@ -120,6 +124,7 @@ module _ {image : List ℕ} {q : Request} {b : Sandbox} {pool table : List ℕ} 
     tried-store e stored after S = record {
       done = λ t. overwritten e after (S .front t) (S .byte t);
       left = λ t. S .none t ∙ sym (A .samePool);
+      accepted = λ t e′. n;
     }
 
   -- ---- an accepted read or write

@@ -23,6 +23,7 @@ use rewind_call::rewind_sandbox;
 use state::sandbox::Machine;
 use state::sandbox::Sandbox;
 use totals::put_together;
+use writing::write;
 
 // A roll that is being played: the machine's sandboxes and held marks, whether its state is sound, the number of the roll's first line, and how many lines are
 // answered. The machine stands here in its parts, so that a line takes one sandbox out and puts one back, and the others stay where they are.
@@ -85,12 +86,24 @@ pub fn reply_lines<'a, 'b>(
                         let sandboxes = playing.sandboxes;
                         let held = playing.held;
                         let all = put_together(sandboxes, held, q);
-                        let acted = act(b, all, pool, table, image, q);
-                        let after = acted.sandbox;
-                        let marks = acted.held;
-                        playing.sandboxes[k] = after;
-                        playing.held = marks;
-                        answer = acted.answer;
+                        if q.code == Request::WRITE {
+                            let left = write(b, all, pool, table, image, q);
+                            let rec = b.rec;
+                            let runs = left.runs;
+                            let marks = left.held;
+                            playing.sandboxes[k] = Sandbox {
+                                rec: rec,
+                                runs: runs,
+                            };
+                            playing.held = marks;
+                        } else {
+                            let acted = act(b, all, pool, table, image, q);
+                            let after = acted.sandbox;
+                            let marks = acted.held;
+                            playing.sandboxes[k] = after;
+                            playing.held = marks;
+                            answer = acted.answer;
+                        }
                     }
                 }
             }

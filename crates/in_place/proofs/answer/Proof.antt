@@ -1,5 +1,9 @@
 -- A call by its code: a read or a write, a report or a comparison, or one that is left.
 use Rattle.interface.specs.declared.answer.Answer.the-variants.{Value}
+use lib.Dec.{eqb}
+use borrow.Author.Tests.{eqb-false}
+use Rattle.basics.proofs.TestLaws.{or-right}
+use Rattle.interface.specs.Requests.{Read, Write}
 use Rattle.in_place.proofs.WayLaws.{tried-none, tried-same}
 use borrow.Author.Needs.{needs}
 use Rattle.in_place.proofs.answer.Statement.{statement}
@@ -24,7 +28,9 @@ returns-2 : tie.Need-returns-2
 returns-2 c w A = tried-same A (c .look .result) (c .look .ensures w A)
 
 returns-3 : tie.Need-returns-3
-returns-3 c w A = tried-none A (Value 0)
+returns-3 c w A =
+    let code = c .before .before .before .before .before .args .q .code in
+    tried-none A (Value 0) (eqb-false code Write (or-right (eqb code Read) (eqb code Write) (c .before .if1 .left)))
 
 pub answer-spec : {M : Type 1} → statement M
 answer-spec =

@@ -1,7 +1,8 @@
--- Lines answered one after the other. In each turn the four ways of a line meet before its reply is printed (`Proof/Ways.antt`), and from what is said there
+-- Lines answered one after the other. In each turn the five ways of a line meet before its reply is printed (`Proof/Ways.antt`, `Meeting.antt`), and from what is said there
 -- follows what `Replied` asks; `Proof/Upto.antt` has what holds before each line.
 mod Upto
 mod Ways
+mod Meeting
 use mathlib.Core.Path.{_≡_, refl, sym, _∙_, ap, subst}
 use mathlib.Core.List.{List}
 use native.Mathlib.Nat.{add-zero}
@@ -11,6 +12,7 @@ use lib.ListN.{length}
 use Rattle.basics.proofs.TestLaws.{length-mapped}
 use Rattle.interface.specs.Answers.{answered}
 use Rattle.state.specs.World.{World}
+use Rattle.step.proofs.ActedLaws.{own-asked}
 use Rattle.roll.specs.Known.{Known}
 use Rattle.roll.proofs.SmallLaws.{fits-line}
 use Rattle.roll.proofs.KnownLaws.{known-turned}
@@ -20,7 +22,9 @@ use Rattle.replying.proofs.reply_lines.Statement.{statement}
 use Rattle.replying.proofs.reply_lines.Tie as tie
 use Rattle.replying.proofs.reply_lines.Proof.Upto.{Inv-loop, μ-loop, SoFar, replied-none, replied-more, replied-all, room, numbered}
 use Rattle.replying.proofs.reply_lines.Proof.Ways.{startOf, loopOf, imageIn, worldIn, stateIn, lineOf, known, four, calls, asking, around, stands}
-use Rattle.replying.proofs.reply_lines.Proof.Ways.{told-at, left-at, acted-at, met, rewinding, rewound-at, unasked, stands-alone}
+use Rattle.replying.proofs.reply_lines.Proof.Ways.{told-at, left-at, writing, writes, unrefused, written-at, acting}
+use Rattle.replying.proofs.reply_lines.Proof.Ways.{acted-at, rewinding, rewound-at, unasked, stands-alone, asked, own}
+use Rattle.replying.proofs.reply_lines.Proof.Meeting.{met}
 
 -- ---- small laws
 
@@ -106,18 +110,37 @@ answer-requires c κs =
 put-together-requires : tie.Need-put-together-requires Inv-loop μ-loop
 put-together-requires c κs = search needs
 
+write-requires : tie.Need-write-requires Inv-loop μ-loop
+write-requires c κs =
+    let found = writing c in
+    let told = told-at (left-at found) in
+    let s = asking told in
+    let all = found .put-together .result in
+    let row = stateIn s .sandboxes in
+    (writes c, (row, own-asked (imageIn s) (asked told) (own told) all _ row (stands found) (unrefused c)))
+
+mul-t61 : tie.Need-mul-t61 Inv-loop μ-loop
+mul-t61 c = let low = calls (told-at (left-at (writing (written-at c .before)))) .low in search needs
+
+element-set-from-playing : tie.Need-element-set-from-playing Inv-loop μ-loop
+element-set-from-playing c =
+    let told = told-at (left-at (writing (written-at c .before))) in
+    let low = calls told .low in
+    let all = four (asking told) in
+    search needs
+
 act-requires : tie.Need-act-requires Inv-loop μ-loop
 act-requires c κs =
-    let found = c .before .before in
+    let found = acting c in
     let told = told-at (left-at found) in
     (calls told .coded, (calls told .low, (stateIn (asking told) .sandboxes, stands found)))
 
 mul-after-2 : tie.Need-mul-after-2 Inv-loop μ-loop
-mul-after-2 c = let low = calls (told-at (left-at (acted-at c .before .before .before))) .low in search needs
+mul-after-2 c = let low = calls (told-at (left-at (acting (acted-at c .before)))) .low in search needs
 
 element-set-from-after-2 : tie.Need-element-set-from-after-2 Inv-loop μ-loop
 element-set-from-after-2 c =
-    let told = told-at (left-at (acted-at c .before .before .before)) in
+    let told = told-at (left-at (acting (acted-at c .before))) in
     let low = calls told .low in
     let all = four (asking told) in
     search needs
@@ -222,6 +245,9 @@ reply-lines-spec =
     element-set-from-after
     answer-requires
     put-together-requires
+    write-requires
+    mul-t61
+    element-set-from-playing
     act-requires
     mul-after-2
     element-set-from-after-2

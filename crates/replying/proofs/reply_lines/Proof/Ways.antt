@@ -1,17 +1,16 @@
--- The four ways of a line in `reply_lines`: it is refused without a look at a sandbox, its sandbox is rewound and put back, it is answered in place, or its sandbox is
--- acted on and put back.
--- Of each the same is said (`Answers`), and so of the place where they meet (`met`).
+-- The five ways of a line in `reply_lines`: it is refused without a look at a sandbox, its sandbox is rewound and put back, it is answered in place, it is a
+-- write that takes a frame, or its sandbox is acted on and put back. Of each the same is said (`Answers`).
 use mathlib.Core.Path.{_≡_, refl, sym, ap, subst, _∙_}
-use mathlib.Core.Logic.{⊎-elim}
 use mathlib.Core.List.{List}
 use mathlib.Core.Bool.{true}
 use Prim.Native.Nat.{ℕ, _≤_, _<_}
 use native.Mathlib.Omega.{arith}
 use lib.ListN.{length, getD, set, length-set}
 use Rattle.interface.specs.declared.answer.Answer.{Answer}
-use Rattle.interface.specs.declared.answer.Answer.the-variants.{Refused}
+use Rattle.interface.specs.declared.answer.Answer.the-variants.{Value, Refused}
 use Rattle.interface.specs.declared.request.Request.{Request}
 use Rattle.interface.specs.Answers.{answered, valueOf}
+use Rattle.interface.specs.Requests.{Write}
 use Rattle.lines.specs.declared.Line.{Line}
 use Rattle.frames.specs.declared.Held.{Held}
 use Rattle.frames.specs.Frames.{noneHeld}
@@ -23,9 +22,10 @@ use Rattle.state.proofs.SharesLaws.{zeroSandbox}
 use Rattle.totals.specs.declared.together.Together.{Together}
 use Rattle.soundness.specs.Test.{soundb}
 use Rattle.memory.proofs.MemoryLaws.{read-own}
-use Rattle.step.specs.Step.{Stepped}
-use Rattle.step.specs.Acted.{Stands}
-use Rattle.step.proofs.ActedLaws.{standing, stepped-back}
+use Rattle.step.specs.Step.{Stepped, numberAt}
+use Rattle.step.specs.Acted.{worldFrom, Stands}
+use Rattle.step.proofs.ActedLaws.{standing, stepped-back, own-asked}
+use Rattle.replying.proofs.WriteLaws.{not-refused, acted-write}
 use Rattle.in_place.specs.InPlace.{Around}
 use Rattle.roll.specs.Known.{Known}
 use Rattle.roll.specs.Play.{Turned}
@@ -144,7 +144,7 @@ of-step c pool table p a t lp lt f k four′ bytes′ =
     }
 
 -- a sandbox and the marks are put back
-abbrev withOne : Playing → ℕ → Sandbox → Held → Playing
+abbrev pub withOne : Playing → ℕ → Sandbox → Held → Playing
 withOne p k b marks =
     record { sandboxes = set (p .sandboxes) k b; held = marks; sound = p .sound; first = p .first; answered = p .answered }
 
@@ -178,7 +178,7 @@ stands-alone c =
     standing (imageIn s) (asked told) (machineIn s) (poolIn s) (poolIn s) (tableIn s) (unasked s) refl refl
     (four s) (calls told .low) (passes told) refl (λ e. absurd (omega (arith, e, c .before .before .before .if1 .taken)))
 
-rewound : (c : tie.After-marks Inv-loop μ-loop) (p : Playing) → let did = rewound-at c in let told = rewinding (did .before) in let s = asking told in
+pub rewound : (c : tie.After-marks Inv-loop μ-loop) (p : Playing) → let did = rewound-at c in let told = rewinding (did .before) in let s = asking told in
     p ≡ withOne (stateIn s) (asked told .sandbox) (did .rewind-sandbox .result .sandbox) (did .rewind-sandbox .result .held)
     → Answers s (did .rewind-sandbox .last .1 .1 .0) (did .rewind-sandbox .last .1 .1 .1 .0) p (did .rewind-sandbox .result .answer)
 rewound c p e =
@@ -194,7 +194,7 @@ rewound c p e =
 abbrev pub told-at : tie.After-answer Inv-loop μ-loop → tie.After-known-told2 Inv-loop μ-loop
 told-at c = c .before .before .before .before .before .before .before
 
-in-place : (c : tie.Then2 Inv-loop μ-loop) → let behind = c .before .before .before in let s = asking (told-at behind) in
+pub in-place : (c : tie.Then2 Inv-loop μ-loop) → let behind = c .before .before .before in let s = asking (told-at behind) in
     Answers s (behind .answer .last .1 .0) (tableIn s) (stateIn s) (behind .answer .result .answer)
 in-place c =
     let behind = c .before .before .before in
@@ -223,26 +223,76 @@ stands c =
     standing (imageIn s) (asked told) (machineIn s) (poolIn s) _ (tableIn s) (found .result) (found .ensures .0) (pool-stays c)
     (four s) (calls told .low) (passes told) (found .ensures .1 .0) (found .ensures .1 .1)
 
+-- a write that takes a frame: it is not refused, and its runs are put back
+abbrev pub writing : tie.After-write-arg2 Inv-loop μ-loop → tie.After-put-together Inv-loop μ-loop
+writing c = c .before .before .before .before
+
+pub writes : (c : tie.After-write-arg2 Inv-loop μ-loop) → asked (told-at (left-at (writing c))) .code ≡ Write
+writes c = c .before .before .if3 .taken
+
+pub unrefused : (c : tie.After-write-arg2 Inv-loop μ-loop) →
+    let found = writing c in
+    let s = asking (told-at (left-at found)) in
+    let all = found .put-together .result in
+    numberAt (imageIn s) (worldFrom (stateIn s .sandboxes) (kept (all .held) (left-at found .answer .last .1 .0) (tableIn s))) (asked (told-at (left-at found)))
+    ≡ 0
+unrefused c =
+    let found = writing c in
+    let behind = left-at found in
+    let told = told-at behind in
+    let s = asking told in
+    not-refused (imageIn s) (asked told) (machineIn s) (poolIn s) _ (tableIn s) (found .put-together .result) (found .put-together .ensures .0)
+    (pool-stays found)
+    (behind .answer .ensures (worldIn (asking told)) (around told) .accepted (found .before .before .before .if2 .left) (writes c))
+
+abbrev pub written-at : tie.After-marks2 Inv-loop μ-loop → tie.After-write Inv-loop μ-loop
+written-at c = c .before .before .before .before .before .before .before
+
+pub written : (c : tie.After-marks2 Inv-loop μ-loop) (p : Playing) →
+    let did = written-at c in
+    let told = told-at (left-at (writing (did .before))) in
+    let s = asking told in
+    p ≡ withOne (stateIn s) (asked told .sandbox) (record { rec = own told .rec; runs = did .write .result .runs }) (did .write .result .held)
+    → Answers s (did .write .last .1 .1 .0) (did .write .last .1 .1 .1 .0) p (Value 0)
+written c p e =
+    let did = written-at c in
+    let found = writing (did .before) in
+    let told = told-at (left-at found) in
+    let s = asking told in
+    let all = found .put-together .result in
+    let st = kept (all .held) (left-at found .answer .last .1 .0) (tableIn s) in
+    let row = stateIn s .sandboxes in
+    let n = unrefused (did .before) in
+    put-back told _ _ p (record { rec = own told .rec; runs = did .write .result .runs }) (did .write .result .held) (Value 0) e
+    (stepped-back (imageIn s) (asked told) (machineIn s) (poolIn s) _ (tableIn s) all (found .put-together .ensures .0) (pool-stays found) _
+    (acted-write (imageIn s) (asked told) (own told) all st row (stands found) (writes (did .before)) n _ (did .write .result .runs)
+    (did .write .ensures row (own-asked (imageIn s) (asked told) (own told) all st row (stands found) n))))
+    (did .write .kept .1 .1 .0 ∙ ap length (pool-stays found)) (did .write .kept .1 .1 .1 .0)
+    (λ j. omega (arith, c .before .before .before .before .before .slice-known7 .given j))
+
 -- acted on, and put back
-abbrev pub acted-at : tie.After-marks2 Inv-loop μ-loop → tie.After-act Inv-loop μ-loop
+abbrev pub acting : tie.After-act-arg2 Inv-loop μ-loop → tie.After-put-together Inv-loop μ-loop
+acting c = c .before .before .before .before
+
+abbrev pub acted-at : tie.After-marks3 Inv-loop μ-loop → tie.After-act Inv-loop μ-loop
 acted-at c = c .before .before .before .before .before .before
 
-acted : (c : tie.After-marks2 Inv-loop μ-loop) (p : Playing) → let did = acted-at c in let told = told-at (left-at (did .before .before .before)) in let s = asking told in
+pub acted : (c : tie.After-marks3 Inv-loop μ-loop) (p : Playing) → let did = acted-at c in let told = told-at (left-at (acting (did .before))) in let s = asking told in
     p ≡ withOne (stateIn s) (asked told .sandbox) (did .act .result .sandbox) (did .act .result .held)
     → Answers s (did .act .last .1 .1 .0) (did .act .last .1 .1 .1 .0) p (did .act .result .answer)
 acted c p e =
     let did = acted-at c in
-    let found = did .before .before .before in
+    let found = acting (did .before) in
     let told = told-at (left-at found) in
     let s = asking told in
     put-back told _ _ p (did .act .result .sandbox) (did .act .result .held) (did .act .result .answer) e
     (stepped-back (imageIn s) (asked told) (machineIn s) (poolIn s) _ (tableIn s) (found .put-together .result)
     (found .put-together .ensures .0) (pool-stays found) _ (did .act .ensures (stateIn s .sandboxes) (stands found)))
     (did .act .kept .1 .1 .0 ∙ ap length (pool-stays found)) (did .act .kept .1 .1 .1 .0)
-    (λ j. omega (arith, c .before .before .before .before .slice-known7 .given j))
+    (λ j. omega (arith, c .before .before .before .before .slice-known9 .given j))
 
 -- refused without a look at a sandbox
-refused : (c : tie.After-asked Inv-loop μ-loop) → let s = c .before .before in
+pub refused : (c : tie.After-asked Inv-loop μ-loop) → let s = c .before .before in
     Answers s (poolIn s) (tableIn s) (stateIn s) (Refused (c .asked .given .0 .0))
 refused c =
     let s = c .before .before in
@@ -257,91 +307,3 @@ refused c =
       four = four s;
       bytes = loopOf s .loop .inv .1 .bytes;
     }
-
--- where the ways meet
-same-answers : (s : AfterAsk) (pool table pool′ table′ : List ℕ) (p p′ : Playing) (a a′ : Answer)
-    → pool ≡ pool′ → table ≡ table′ → p ≡ p′ → a ≡ a′ → Answers s pool′ table′ p′ a′ → Answers s pool table p a
-same-answers s pool table pool′ table′ p p′ a a′ e f g h t = rw (e, f, g, h) t
-
-refused-met : (c : tie.After-asked Inv-loop μ-loop) (pool table : List ℕ) (p : Playing) (a : Answer) → let s = c .before .before in
-    pool ≡ poolIn s → table ≡ tableIn s → p ≡ stateIn s → a ≡ Refused (c .asked .given .0 .0) → Answers s pool table p a
-refused-met c pool table p a e f g h =
-    let s = c .before .before in
-    same-answers s pool table (poolIn s) (tableIn s) p (stateIn s) a (Refused (c .asked .given .0 .0)) e f g h (refused c)
-
-in-place-met : (c : tie.Then2 Inv-loop μ-loop) (pool table : List ℕ) (p : Playing) (a : Answer) →
-    let behind = c .before .before .before in
-    let s = asking (told-at behind) in
-    pool ≡ behind .answer .last .1 .0 → table ≡ tableIn s → p ≡ stateIn s → a ≡ behind .answer .result .answer → Answers s pool table p a
-in-place-met c pool table p a e f g h =
-    let behind = c .before .before .before in
-    let s = asking (told-at behind) in
-    same-answers s pool table (behind .answer .last .1 .0) (tableIn s) p (stateIn s) a (behind .answer .result .answer) e f g h (in-place c)
-
-rewound-met : (c : tie.After-marks Inv-loop μ-loop) (pool table : List ℕ) (p : Playing) (a : Answer) →
-    let did = rewound-at c in
-    let told = rewinding (did .before) in
-    let s = asking told in
-    pool ≡ did .rewind-sandbox .last .1 .1 .0 → table ≡ did .rewind-sandbox .last .1 .1 .1 .0
-    → p ≡ withOne (stateIn s) (asked told .sandbox) (did .rewind-sandbox .result .sandbox) (did .rewind-sandbox .result .held)
-    → a ≡ did .rewind-sandbox .result .answer → Answers s pool table p a
-rewound-met c pool table p a e f g h =
-    let did = rewound-at c in
-    let s = asking (rewinding (did .before)) in
-    same-answers s pool table (did .rewind-sandbox .last .1 .1 .0) (did .rewind-sandbox .last .1 .1 .1 .0) p p a (did .rewind-sandbox .result .answer)
-    e f refl h (rewound c p g)
-
-acted-met : (c : tie.After-marks2 Inv-loop μ-loop) (pool table : List ℕ) (p : Playing) (a : Answer) →
-    let did = acted-at c in
-    let told = told-at (left-at (did .before .before .before)) in
-    let s = asking told in
-    pool ≡ did .act .last .1 .1 .0 → table ≡ did .act .last .1 .1 .1 .0
-    → p ≡ withOne (stateIn s) (asked told .sandbox) (did .act .result .sandbox) (did .act .result .held)
-    → a ≡ did .act .result .answer → Answers s pool table p a
-acted-met c pool table p a e f g h =
-    let did = acted-at c in
-    let s = asking (told-at (left-at (did .before .before .before))) in
-    same-answers s pool table (did .act .last .1 .1 .0) (did .act .last .1 .1 .1 .0) p p a (did .act .result .answer) e f refl h (acted c p g)
-
-pub met : (c : tie.At-match-came Inv-loop μ-loop) → Answers (c .before) (c .match .pool) (c .match .table) (c .match .playing) (c .match .answer)
-met c =
-    let ask = c .before in
-    let m = c .match in
-    ⊎-elim
-    (λ w. refused-met (record { before = record { before = ask; match = w .0 }; asked = w .1 }) (m .pool) (m .table) (m .playing) (m .answer)
-    (w .3) (w .4) (w .5) (w .6))
-    (λ rest. ⊎-elim
-    (λ w.
-    let told : tie.After-known-told2 Inv-loop μ-loop = record { before = record { before = record { before = ask; match = w .0 }; asked2 = w .1 }; known-told2 = w .2 } in
-    let it : tie.After-struct-known2 Inv-loop μ-loop = record { before = record { before = record { before = told; struct-known = w .3 }; b = w .4 }; struct-known2 = w .5 } in
-    let held : tie.After-held Inv-loop μ-loop = record { before = record { before = it; if1 = w .6 }; held = w .7 } in
-    let lent : tie.After-rewind-sandbox-arg2 Inv-loop μ-loop = record { before = record { before = held; rewind-sandbox-arg = w .8 }; rewind-sandbox-arg2 = w .9 } in
-    let did : tie.After-rewind-sandbox Inv-loop μ-loop = record { before = lent; rewind-sandbox = w .10 } in
-    let pooled : tie.After-slice-known4 Inv-loop μ-loop = record { before = record { before = did; pool = w .11 }; slice-known4 = w .12 } in
-    let tabled : tie.After-slice-known5 Inv-loop μ-loop = record { before = record { before = pooled; table = w .13 }; slice-known5 = w .14 } in
-    let marked : tie.After-marks Inv-loop μ-loop = record { before = record { before = tabled; after = w .15 }; marks = w .16 } in
-    rewound-met marked (m .pool) (m .table) (m .playing) (m .answer) (w .17) (w .18) (w .19) (w .20))
-    (λ others. ⊎-elim
-    (λ w.
-    let told : tie.After-known-told2 Inv-loop μ-loop = record { before = record { before = record { before = ask; match = w .0 }; asked2 = w .1 }; known-told2 = w .2 } in
-    let it : tie.After-struct-known2 Inv-loop μ-loop = record { before = record { before = record { before = told; struct-known = w .3 }; b = w .4 }; struct-known2 = w .5 } in
-    let lent : tie.After-answer-arg Inv-loop μ-loop = record { before = record { before = it; if1 = w .6 }; answer-arg = w .7 } in
-    let answer : tie.After-answer Inv-loop μ-loop = record { before = record { before = lent; answer-arg2 = w .8 }; answer = w .9 } in
-    let at : tie.Then2 Inv-loop μ-loop = record { before = record { before = record { before = answer; pool2 = w .10 }; slice-known6 = w .11 }; if2 = w .12 } in
-    in-place-met at (m .pool) (m .table) (m .playing) (m .answer) (w .13) (w .14) (w .15) (w .16))
-    (λ w.
-    let told : tie.After-known-told2 Inv-loop μ-loop = record { before = record { before = record { before = ask; match = w .0 }; asked2 = w .1 }; known-told2 = w .2 } in
-    let it : tie.After-struct-known2 Inv-loop μ-loop = record { before = record { before = record { before = told; struct-known = w .3 }; b = w .4 }; struct-known2 = w .5 } in
-    let lent : tie.After-answer-arg Inv-loop μ-loop = record { before = record { before = it; if1 = w .6 }; answer-arg = w .7 } in
-    let answer : tie.After-answer Inv-loop μ-loop = record { before = record { before = lent; answer-arg2 = w .8 }; answer = w .9 } in
-    let at : tie.Else2 Inv-loop μ-loop = record { before = record { before = record { before = answer; pool2 = w .10 }; slice-known6 = w .11 }; if2 = w .12 } in
-    let held : tie.After-held2 Inv-loop μ-loop = record { before = record { before = at; sandboxes = w .13 }; held2 = w .14 } in
-    let found : tie.After-put-together Inv-loop μ-loop = record { before = held; put-together = w .15 } in
-    let did : tie.After-act Inv-loop μ-loop = record { before = record { before = record { before = found; act-arg = w .16 }; act-arg2 = w .17 }; act = w .18 } in
-    let pooled : tie.After-slice-known7 Inv-loop μ-loop = record { before = record { before = did; pool3 = w .19 }; slice-known7 = w .20 } in
-    let tabled : tie.After-slice-known8 Inv-loop μ-loop = record { before = record { before = pooled; table2 = w .21 }; slice-known8 = w .22 } in
-    let marked : tie.After-marks2 Inv-loop μ-loop = record { before = record { before = tabled; after2 = w .23 }; marks2 = w .24 } in
-    acted-met marked (m .pool) (m .table) (m .playing) (m .answer) (w .25) (w .26) (w .27) (w .28))
-    others)
-    rest)
-    (m .came)

@@ -1,0 +1,2 @@
+-- The one file of laws.
+pub mod WriteLaws
