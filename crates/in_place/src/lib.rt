@@ -1,13 +1,14 @@
 // Calls answered in place: those that leave every sandbox and the page table as they are. Reads, reports, comparisons, and writes to a page that has a
 // front: of these only a byte of the pool changes. One sandbox is looked at, and the page of a read or a write is looked up once.
 // It promises: what `answer` answers is the outcome of `step` (step/specs/Step) in any sound world with this sandbox, pool and table; where it says that it
-// did not answer, nothing has changed. Which calls it answers is no part of the promise: whoever calls it performs those that it leaves.
+// did not answer, nothing has changed, and a write is one that is not refused. Which calls it answers is no part of the promise: whoever calls it performs
+// those that it leaves.
 // It stands on `few_rows` for what is refused, on `byte_at` and `values` for what is read, stored, counted and compared, and on `step` for what a call is.
 ghost use mathlib.Core.Path.{_≡_};
 ghost use mathlib.Core.Bool.{true, _||_};
 ghost use Prim.Native.Nat.{_<_};
 ghost use Rattle.interface.specs.Numbers.{Sandboxes};
-ghost use Rattle.interface.specs.Requests.{_is_, Read, Write, isCall};
+ghost use Rattle.interface.specs.Requests.{_is_, Read, Write};
 ghost use Rattle.in_place.specs.InPlace.{Stands, Answers};
 use crate::look::look;
 use byte_at::read;
@@ -29,7 +30,6 @@ pub struct InPlace {
 
 // A call on this sandbox, answered if it leaves every sandbox and the page table as they are. What it reads or stores lies in the pool or the image.
 pub fn answer(b: Sandbox, pool: &mut [u8], table: &[u16], image: &[u8], q: Request) -> InPlace
-    requires { ⌜ isCall q ≡ true ⌝ }
     requires { ⌜ q .sandbox < Sandboxes ⌝ }
     requires { ⌜ Stands (now image) q b (now pool) (now table) ⌝ }
     ensures { λ r. ⌜ Answers (now (image .entry)) q b (now (pool .entry)) (now (table .entry)) r (now (pool .exit)) ⌝ }

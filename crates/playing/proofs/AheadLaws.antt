@@ -40,7 +40,8 @@ module _ (image numbers roll out₀ out : List ℕ) (first k : ℕ) (w₀ w : Wo
   played-ahead zero ahead out′ v r = rw (add-zero, r .0, r .1) p
   played-ahead (suc n) ahead out′ v r =
       let before = played-ahead n (λ i l. ahead i (omega (arith, l))) (r .outThen) (r .worldThen) (r .so) in
-      let here = subst (λ (l : Line). Replied image (r .worldThen) l (first + (k + n)) ((k + n) * 19) (r .outThen) out′ v) (ahead n (omega arith)) (r .replied) in
+      let here = subst (λ (l : Line). Replied image (r .worldThen) l (first + (k + n)) ((k + n) * 19) (r .outThen) out′ v) (ahead n (omega arith))
+      (r .replied) in
       rw add-suc (rw add-one at (played-on image roll out₀ (r .outThen) out′ w₀ (r .worldThen) v (k + n) first before here))
 
 -- the same where their number and their first line are said otherwise

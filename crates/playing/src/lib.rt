@@ -1,6 +1,6 @@
-// A roll played over lent bytes: each line is read, answered and its reply printed, in order.
+// A roll played over lent bytes: lines are read ahead, then each is answered and its reply printed, in order; and so on until all are.
 // It promises that the replies are those of a run of the well-formed lines' requests, and refusal 1 for each other line (`Played` of `roll`).
-// It stands on `reader` for the lines, on `replying` for the reply to each, and on `roll` for what is played.
+// It stands on `read_ahead` for the lines, on `replying` for the replies to them, and on `roll` for what is played.
 ghost use mathlib.Core.Path.{_≡_};
 ghost use Prim.Native.Nat.{_+_, _*_, _≤_, min};
 ghost use lib.ListN.{length};

@@ -1,6 +1,6 @@
 // The roll's reader: the lent bytes, and the number of the line before which it stands.
 // It promises that what is read is what that line says (`lineAt` of `lines`): the 43 bytes there, or "A short last line"; and that it moves on by one line.
-// It stands on `parser`, whose `line_at` does the work. `roll` goes over a roll with one reader.
+// It stands on `parser`, whose `line_at` does the work. `read_ahead` goes over lines with one reader.
 ghost use mathlib.Core.Path.{_≡_};
 ghost use Prim.Native.Nat.{_+_, _<_, _^_};
 ghost use Rattle.lines.specs.Lines.{lineAt};

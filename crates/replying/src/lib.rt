@@ -1,8 +1,9 @@
-// One line of a roll answered: its request is called, and the reply is printed at its place.
-// It promises that the reply is that of the machine's step, or refusal 1 where the line is malformed, and that nothing else of the output changes
-// (`Turned` and `Replied` of `roll`).
-// It stands on `asking` for what a line asks, on `rewind_call`, `in_place` and `performing` for a call on one sandbox, on `totals` for what the sandboxes have
-// together, on `reply_text` for the reply printed, and on `roll` for what a reply is and for what is known of a state.
+// Lines of a roll answered one after the other: of each the request is called, and the reply is printed at its place.
+// It promises that each reply is that of the machine's step, or refusal 1 where the line is malformed, and that nothing else of the output changes
+// (`RepliedTo`, by `Turned` and `Replied` of `roll`).
+// It stands on `line_numbers` for the lines, on `asking` for what a line asks, on `rewind_call`, `in_place`, `writing` and `performing` for a call on one
+// sandbox, on `totals` for what the sandboxes have together, on `reply_text` for the reply printed, and on `roll` for what a reply is and for what is known
+// of a state.
 ghost use mathlib.Core.Path.{_≡_};
 ghost use Prim.Native.Nat.{_+_, _*_, _/_, _≤_};
 ghost use lib.ListN.{length};

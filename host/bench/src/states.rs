@@ -1,35 +1,41 @@
 //! The states in which calls are measured, each as the calls that lead to it.
 
-use crate::roll::{map, map_image, open, snapshot, write, READ, WRITE};
+use crate::roll::{call, map, map_image, open, snapshot, write, READ, WRITE};
 use model::Call;
 
 #[derive(Clone, Copy, PartialEq, Eq, Debug)]
 pub enum State {
-    /// All sandboxes closed, nothing held.
+    /// All sandboxes closed, nothing held, behind a line that is refused.
     Closed,
     /// Three sandboxes in use, the fourth closed; 23 frames held.
     Busy,
     /// All four sandboxes with 8 areas in present and snapshot, each page with a front
     /// and a back; all 128 frames held.
     Full,
+    /// No line was read yet: what comes pays for what a roll's first line pays for.
+    First,
 }
 
 impl State {
-    pub const ALL: [State; 3] = [State::Closed, State::Busy, State::Full];
+    pub const ALL: [State; 4] = [State::Closed, State::Busy, State::Full, State::First];
+    /// Those that differ in what they hold.
+    pub const TESTED: [State; 3] = [State::Closed, State::Busy, State::Full];
 
     pub fn name(self) -> &'static str {
         match self {
             State::Closed => "closed",
             State::Busy => "busy",
             State::Full => "full",
+            State::First => "first line",
         }
     }
 
     pub fn calls(self) -> Vec<Call> {
         match self {
-            State::Closed => Vec::new(),
+            State::Closed => vec![call(0, 0, [0; 5])],
             State::Busy => busy(),
             State::Full => full(),
+            State::First => Vec::new(),
         }
     }
 }

@@ -163,7 +163,7 @@ array-copy-out-b c = let low = in-row (c .before .before) in search needs
 answer-requires : tie.Need-answer-requires
 answer-requires c κs =
     let row = c .before .before .before .before .before in
-    (a-call (row .before .before .before .before .before .before), (in-row row, (worldIn (behindRow row), around row)))
+    (in-row row, (worldIn (behindRow row), around row))
 
 same-length-5 : tie.Need-same-length-5
 same-length-5 c = search needs

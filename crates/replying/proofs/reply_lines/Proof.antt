@@ -1,7 +1,8 @@
--- Lines answered one after the other. In each turn the five ways of a line meet before its reply is printed (`Proof/Ways.antt`, `Meeting.antt`), and from what is said there
--- follows what `Replied` asks; `Proof/Upto.antt` has what holds before each line.
+-- Lines answered one after the other. In each turn the five ways of a line (`Proof/Ways.antt`, `Left.antt`) meet before its reply is printed (`Meeting.antt`),
+-- and from what is said there follows what `Replied` asks; `Proof/Upto.antt` has what holds before each line.
 mod Upto
 mod Ways
+mod Left
 mod Meeting
 use mathlib.Core.Path.{_≡_, refl, sym, _∙_, ap, subst}
 use mathlib.Core.List.{List}
@@ -21,9 +22,9 @@ use borrow.Author.Needs.{needs}
 use Rattle.replying.proofs.reply_lines.Statement.{statement}
 use Rattle.replying.proofs.reply_lines.Tie as tie
 use Rattle.replying.proofs.reply_lines.Proof.Upto.{Inv-loop, μ-loop, SoFar, replied-none, replied-more, replied-all, room, numbered}
-use Rattle.replying.proofs.reply_lines.Proof.Ways.{startOf, loopOf, imageIn, worldIn, stateIn, lineOf, known, four, calls, asking, around, stands}
-use Rattle.replying.proofs.reply_lines.Proof.Ways.{told-at, left-at, writing, writes, unrefused, written-at, acting}
-use Rattle.replying.proofs.reply_lines.Proof.Ways.{acted-at, rewinding, rewound-at, unasked, stands-alone, asked, own}
+use Rattle.replying.proofs.reply_lines.Proof.Ways.{startOf, loopOf, imageIn, worldIn, stateIn, lineOf, known, four, calls, asking, asked, own}
+use Rattle.replying.proofs.reply_lines.Proof.Ways.{around, told-at, rewinding, rewound-at, unasked, stands-alone}
+use Rattle.replying.proofs.reply_lines.Proof.Left.{left-at, stands, writing, writes, unrefused, written-at, acting, acted-at}
 use Rattle.replying.proofs.reply_lines.Proof.Meeting.{met}
 
 -- ---- small laws
@@ -105,7 +106,7 @@ element-set-from-after c =
 answer-requires : tie.Need-answer-requires Inv-loop μ-loop
 answer-requires c κs =
     let told = c .before .before .before .before .before .before in
-    (calls told .coded, (calls told .low, (worldIn (asking told), around told)))
+    (calls told .low, (worldIn (asking told), around told))
 
 put-together-requires : tie.Need-put-together-requires Inv-loop μ-loop
 put-together-requires c κs = search needs

@@ -8,9 +8,9 @@ use Rattle.interface.specs.declared.answer.Answer.the-variants.{Value, Refused}
 use Rattle.replying.specs.declared.Playing.{Playing}
 use Rattle.replying.proofs.reply_lines.Tie as tie
 use Rattle.replying.proofs.reply_lines.Proof.Upto.{Inv-loop, μ-loop}
-use Rattle.replying.proofs.reply_lines.Proof.Ways.{AfterAsk, poolIn, tableIn, stateIn, asking, asked, own, withOne, Answers, told-at, left-at}
-use Rattle.replying.proofs.reply_lines.Proof.Ways.{rewound-at, rewinding, writing, written-at, acting, acted-at}
-use Rattle.replying.proofs.reply_lines.Proof.Ways.{refused, rewound, in-place, written, acted}
+use Rattle.replying.proofs.reply_lines.Proof.Ways.{AfterAsk, poolIn, tableIn, stateIn, asking, asked, own, withOne, Answers, told-at}
+use Rattle.replying.proofs.reply_lines.Proof.Ways.{rewound-at, rewinding, refused, rewound, in-place}
+use Rattle.replying.proofs.reply_lines.Proof.Left.{left-at, writing, written-at, acting, acted-at, written, acted}
 
 same-answers : (s : AfterAsk) (pool table pool′ table′ : List ℕ) (p p′ : Playing) (a a′ : Answer)
     → pool ≡ pool′ → table ≡ table′ → p ≡ p′ → a ≡ a′ → Answers s pool′ table′ p′ a′ → Answers s pool table p a
@@ -129,10 +129,12 @@ met c =
     let found : tie.After-put-together Inv-loop μ-loop = record { before = held; put-together = w .15 } in
     let known : tie.After-struct-known3 Inv-loop μ-loop = record { before = found; struct-known3 = w .16 } in
     let taken : tie.Then3 Inv-loop μ-loop = record { before = known; if3 = w .17 } in
-    let did : tie.After-write Inv-loop μ-loop = record { before = record { before = record { before = taken; write-arg = w .18 }; write-arg2 = w .19 }; write = w .20 } in
+    let passed : tie.After-write-arg2 Inv-loop μ-loop = record { before = record { before = taken; write-arg = w .18 }; write-arg2 = w .19 } in
+    let did : tie.After-write Inv-loop μ-loop = record { before = passed; write = w .20 } in
     let pooled : tie.After-slice-known7 Inv-loop μ-loop = record { before = record { before = did; pool3 = w .21 }; slice-known7 = w .22 } in
     let tabled : tie.After-slice-known8 Inv-loop μ-loop = record { before = record { before = pooled; table2 = w .23 }; slice-known8 = w .24 } in
-    let marked : tie.After-marks2 Inv-loop μ-loop = record { before = record { before = record { before = tabled; rec = w .25 }; runs = w .26 }; marks2 = w .27 } in
+    let run : tie.After-runs Inv-loop μ-loop = record { before = record { before = tabled; rec = w .25 }; runs = w .26 } in
+    let marked : tie.After-marks2 Inv-loop μ-loop = record { before = run; marks2 = w .27 } in
     written-met marked (m .pool) (m .table) (m .playing) (m .answer) (w .28) (w .29) (w .30) (w .31))
     (λ w.
     let told : tie.After-known-told2 Inv-loop μ-loop = record {
@@ -150,7 +152,8 @@ met c =
     let found : tie.After-put-together Inv-loop μ-loop = record { before = held; put-together = w .15 } in
     let known : tie.After-struct-known3 Inv-loop μ-loop = record { before = found; struct-known3 = w .16 } in
     let other : tie.Else3 Inv-loop μ-loop = record { before = known; if3 = w .17 } in
-    let did : tie.After-act Inv-loop μ-loop = record { before = record { before = record { before = other; act-arg = w .18 }; act-arg2 = w .19 }; act = w .20 } in
+    let passed : tie.After-act-arg2 Inv-loop μ-loop = record { before = record { before = other; act-arg = w .18 }; act-arg2 = w .19 } in
+    let did : tie.After-act Inv-loop μ-loop = record { before = passed; act = w .20 } in
     let pooled : tie.After-slice-known9 Inv-loop μ-loop = record { before = record { before = did; pool4 = w .21 }; slice-known9 = w .22 } in
     let tabled : tie.After-slice-known10 Inv-loop μ-loop = record { before = record { before = pooled; table3 = w .23 }; slice-known10 = w .24 } in
     let marked : tie.After-marks3 Inv-loop μ-loop = record { before = record { before = tabled; after2 = w .25 }; marks3 = w .26 } in

@@ -1,16 +1,15 @@
--- The five ways of a line in `reply_lines`: it is refused without a look at a sandbox, its sandbox is rewound and put back, it is answered in place, it is a
--- write that takes a frame, or its sandbox is acted on and put back. Of each the same is said (`Answers`).
-use mathlib.Core.Path.{_≡_, refl, sym, ap, subst, _∙_}
+-- Ways of a line in `reply_lines`: it is refused without a look at a sandbox, its sandbox is rewound and put back, or it is answered in place. `Left.antt` has
+-- the two others. Of each the same is said (`Answers`).
+use mathlib.Core.Path.{_≡_, refl, sym, subst, _∙_}
 use mathlib.Core.List.{List}
 use mathlib.Core.Bool.{true}
 use Prim.Native.Nat.{ℕ, _≤_, _<_}
 use native.Mathlib.Omega.{arith}
 use lib.ListN.{length, getD, set, length-set}
 use Rattle.interface.specs.declared.answer.Answer.{Answer}
-use Rattle.interface.specs.declared.answer.Answer.the-variants.{Value, Refused}
+use Rattle.interface.specs.declared.answer.Answer.the-variants.{Refused}
 use Rattle.interface.specs.declared.request.Request.{Request}
 use Rattle.interface.specs.Answers.{answered, valueOf}
-use Rattle.interface.specs.Requests.{Write}
 use Rattle.lines.specs.declared.Line.{Line}
 use Rattle.frames.specs.declared.Held.{Held}
 use Rattle.frames.specs.Frames.{noneHeld}
@@ -22,10 +21,9 @@ use Rattle.state.proofs.SharesLaws.{zeroSandbox}
 use Rattle.totals.specs.declared.together.Together.{Together}
 use Rattle.soundness.specs.Test.{soundb}
 use Rattle.memory.proofs.MemoryLaws.{read-own}
-use Rattle.step.specs.Step.{Stepped, numberAt}
-use Rattle.step.specs.Acted.{worldFrom, Stands}
-use Rattle.step.proofs.ActedLaws.{standing, stepped-back, own-asked}
-use Rattle.replying.proofs.WriteLaws.{not-refused, acted-write}
+use Rattle.step.specs.Step.{Stepped}
+use Rattle.step.specs.Acted.{Stands}
+use Rattle.step.proofs.ActedLaws.{standing}
 use Rattle.in_place.specs.InPlace.{Around}
 use Rattle.roll.specs.Known.{Known}
 use Rattle.roll.specs.Play.{Turned}
@@ -148,7 +146,7 @@ abbrev pub withOne : Playing → ℕ → Sandbox → Held → Playing
 withOne p k b marks =
     record { sandboxes = set (p .sandboxes) k b; held = marks; sound = p .sound; first = p .first; answered = p .answered }
 
-put-back : (c : tie.After-known-told2 Inv-loop μ-loop) (pool table : List ℕ) (p : Playing) (b : Sandbox) (marks : Held) (a : Answer) → let s = asking c in
+pub put-back : (c : tie.After-known-told2 Inv-loop μ-loop) (pool table : List ℕ) (p : Playing) (b : Sandbox) (marks : Held) (a : Answer) → let s = asking c in
     p ≡ withOne (stateIn s) (asked c .sandbox) b marks
     → Stepped (imageIn s) (worldIn s) (asked c)
     (record { answer = answered a; world = playedBy (withOne (stateIn s) (asked c .sandbox) b marks) pool table })
@@ -157,7 +155,8 @@ put-back : (c : tie.After-known-told2 Inv-loop μ-loop) (pool table : List ℕ) 
 put-back c pool table p b marks a e t lp lt bytes =
     let s = asking c in
     subst (λ (x : Playing). Answers s pool table x a) (sym e)
-    (of-step c pool table (withOne (stateIn s) (asked c .sandbox) b marks) a t lp lt refl refl (length-set (stateIn s .sandboxes) (asked c .sandbox) b ∙ four s) bytes)
+    (of-step c pool table (withOne (stateIn s) (asked c .sandbox) b marks) a t lp lt refl refl
+    (length-set (stateIn s .sandboxes) (asked c .sandbox) b ∙ four s) bytes)
 
 -- rewound
 abbrev pub rewound-at : tie.After-marks Inv-loop μ-loop → tie.After-rewind-sandbox Inv-loop μ-loop
@@ -203,93 +202,6 @@ in-place c =
     of-step told _ _ (stateIn s) (behind .answer .result .answer)
     (behind .answer .ensures (worldIn s) (around told) .done (c .if2 .taken)) (behind .answer .kept .1 .0) refl refl refl (four s)
     (λ j. omega (arith, c .before .slice-known6 .given j))
-
--- or left there, and the pool is as it was
-abbrev pub left-at : tie.After-put-together Inv-loop μ-loop → tie.After-answer Inv-loop μ-loop
-left-at c = c .before .before .before .before .before .before
-
-pool-stays : (c : tie.After-put-together Inv-loop μ-loop) → left-at c .answer .last .1 .0 ≡ poolIn (asking (told-at (left-at c)))
-pool-stays c =
-    let behind = left-at c in
-    let told = told-at behind in
-    behind .answer .ensures (worldIn (asking told)) (around told) .left (c .before .before .before .if2 .left)
-
-pub stands : (c : tie.After-put-together Inv-loop μ-loop) → let told = told-at (left-at c) in let s = asking told in let all = c .put-together .result in
-    Stands (imageIn s) (asked told) (own told) all (kept (all .held) (left-at c .answer .last .1 .0) (tableIn s)) (stateIn s .sandboxes)
-stands c =
-    let told = told-at (left-at c) in
-    let s = asking told in
-    let found = c .put-together in
-    standing (imageIn s) (asked told) (machineIn s) (poolIn s) _ (tableIn s) (found .result) (found .ensures .0) (pool-stays c)
-    (four s) (calls told .low) (passes told) (found .ensures .1 .0) (found .ensures .1 .1)
-
--- a write that takes a frame: it is not refused, and its runs are put back
-abbrev pub writing : tie.After-write-arg2 Inv-loop μ-loop → tie.After-put-together Inv-loop μ-loop
-writing c = c .before .before .before .before
-
-pub writes : (c : tie.After-write-arg2 Inv-loop μ-loop) → asked (told-at (left-at (writing c))) .code ≡ Write
-writes c = c .before .before .if3 .taken
-
-pub unrefused : (c : tie.After-write-arg2 Inv-loop μ-loop) →
-    let found = writing c in
-    let s = asking (told-at (left-at found)) in
-    let all = found .put-together .result in
-    numberAt (imageIn s) (worldFrom (stateIn s .sandboxes) (kept (all .held) (left-at found .answer .last .1 .0) (tableIn s))) (asked (told-at (left-at found)))
-    ≡ 0
-unrefused c =
-    let found = writing c in
-    let behind = left-at found in
-    let told = told-at behind in
-    let s = asking told in
-    not-refused (imageIn s) (asked told) (machineIn s) (poolIn s) _ (tableIn s) (found .put-together .result) (found .put-together .ensures .0)
-    (pool-stays found)
-    (behind .answer .ensures (worldIn (asking told)) (around told) .accepted (found .before .before .before .if2 .left) (writes c))
-
-abbrev pub written-at : tie.After-marks2 Inv-loop μ-loop → tie.After-write Inv-loop μ-loop
-written-at c = c .before .before .before .before .before .before .before
-
-pub written : (c : tie.After-marks2 Inv-loop μ-loop) (p : Playing) →
-    let did = written-at c in
-    let told = told-at (left-at (writing (did .before))) in
-    let s = asking told in
-    p ≡ withOne (stateIn s) (asked told .sandbox) (record { rec = own told .rec; runs = did .write .result .runs }) (did .write .result .held)
-    → Answers s (did .write .last .1 .1 .0) (did .write .last .1 .1 .1 .0) p (Value 0)
-written c p e =
-    let did = written-at c in
-    let found = writing (did .before) in
-    let told = told-at (left-at found) in
-    let s = asking told in
-    let all = found .put-together .result in
-    let st = kept (all .held) (left-at found .answer .last .1 .0) (tableIn s) in
-    let row = stateIn s .sandboxes in
-    let n = unrefused (did .before) in
-    put-back told _ _ p (record { rec = own told .rec; runs = did .write .result .runs }) (did .write .result .held) (Value 0) e
-    (stepped-back (imageIn s) (asked told) (machineIn s) (poolIn s) _ (tableIn s) all (found .put-together .ensures .0) (pool-stays found) _
-    (acted-write (imageIn s) (asked told) (own told) all st row (stands found) (writes (did .before)) n _ (did .write .result .runs)
-    (did .write .ensures row (own-asked (imageIn s) (asked told) (own told) all st row (stands found) n))))
-    (did .write .kept .1 .1 .0 ∙ ap length (pool-stays found)) (did .write .kept .1 .1 .1 .0)
-    (λ j. omega (arith, c .before .before .before .before .before .slice-known7 .given j))
-
--- acted on, and put back
-abbrev pub acting : tie.After-act-arg2 Inv-loop μ-loop → tie.After-put-together Inv-loop μ-loop
-acting c = c .before .before .before .before
-
-abbrev pub acted-at : tie.After-marks3 Inv-loop μ-loop → tie.After-act Inv-loop μ-loop
-acted-at c = c .before .before .before .before .before .before
-
-pub acted : (c : tie.After-marks3 Inv-loop μ-loop) (p : Playing) → let did = acted-at c in let told = told-at (left-at (acting (did .before))) in let s = asking told in
-    p ≡ withOne (stateIn s) (asked told .sandbox) (did .act .result .sandbox) (did .act .result .held)
-    → Answers s (did .act .last .1 .1 .0) (did .act .last .1 .1 .1 .0) p (did .act .result .answer)
-acted c p e =
-    let did = acted-at c in
-    let found = acting (did .before) in
-    let told = told-at (left-at found) in
-    let s = asking told in
-    put-back told _ _ p (did .act .result .sandbox) (did .act .result .held) (did .act .result .answer) e
-    (stepped-back (imageIn s) (asked told) (machineIn s) (poolIn s) _ (tableIn s) (found .put-together .result)
-    (found .put-together .ensures .0) (pool-stays found) _ (did .act .ensures (stateIn s .sandboxes) (stands found)))
-    (did .act .kept .1 .1 .0 ∙ ap length (pool-stays found)) (did .act .kept .1 .1 .1 .0)
-    (λ j. omega (arith, c .before .before .before .before .slice-known9 .given j))
 
 -- refused without a look at a sandbox
 pub refused : (c : tie.After-asked Inv-loop μ-loop) → let s = c .before .before in
