@@ -58,59 +58,66 @@ pub fn reply_lines<'a, 'b>(
         × (r .first ≡ playing .first) × (r .answered ≡ k + n) × (r .sound ≡ playing .sound) ⌝ }
 {
     let n = numbers.len() / NUMBERS;
-    for i in 0..n {
+    let mut i: usize = 0;
+    while i < n {
         let line = line_in(numbers, i);
+        i += 1;
         let at = playing.answered;
         let number = playing.first + at as u32;
+        playing.answered = at + 1;
         let asked = ask(playing.sound, line);
-        let mut answer = Answer::Value(0);
         match asked {
             Asked::Refused(why) => {
-                answer = Answer::Refused(why);
+                print_answer(out, at, number, Answer::Refused(why));
+                continue;
             }
             Asked::Call(q) => {
                 let k = q.sandbox as usize;
                 let b = playing.sandboxes[k];
+                let held = playing.held;
+                // a rewind asks nothing of the other sandboxes
                 if q.code == Request::REWIND {
-                    let held = playing.held;
                     let rewound = rewind_sandbox(b, held, pool, table, image, q);
                     let after = rewound.sandbox;
                     let marks = rewound.held;
                     playing.sandboxes[k] = after;
                     playing.held = marks;
-                    answer = rewound.answer;
-                } else {
-                    let tried = in_place::answer(b, pool, table, image, q);
-                    if tried.done {
-                        answer = tried.answer;
-                    } else {
-                        let sandboxes = playing.sandboxes;
-                        let held = playing.held;
-                        let all = put_together(sandboxes, held, q);
-                        if q.code == Request::WRITE {
-                            let left = write(b, all, pool, table, image, q);
-                            let rec = b.rec;
-                            let runs = left.runs;
-                            let marks = left.held;
-                            playing.sandboxes[k] = Sandbox {
-                                rec: rec,
-                                runs: runs,
-                            };
-                            playing.held = marks;
-                        } else {
-                            let acted = act(b, all, pool, table, image, q);
-                            let after = acted.sandbox;
-                            let marks = acted.held;
-                            playing.sandboxes[k] = after;
-                            playing.held = marks;
-                            answer = acted.answer;
-                        }
-                    }
+                    let answer = rewound.answer;
+                    print_answer(out, at, number, answer);
+                    continue;
                 }
+                // what leaves every sandbox
+                let tried = in_place::answer(b, pool, table, image, q);
+                if tried.done {
+                    let answer = tried.answer;
+                    print_answer(out, at, number, answer);
+                    continue;
+                }
+                let sandboxes = playing.sandboxes;
+                let all = put_together(sandboxes, held, q);
+                // a write that was left is not refused, and its page takes a frame
+                if q.code == Request::WRITE {
+                    let left = write(b, all, pool, table, image, q);
+                    let rec = b.rec;
+                    let runs = left.runs;
+                    let marks = left.held;
+                    playing.sandboxes[k] = Sandbox {
+                        rec: rec,
+                        runs: runs,
+                    };
+                    playing.held = marks;
+                    print_answer(out, at, number, Answer::Value(0));
+                    continue;
+                }
+                let acted = act(b, all, pool, table, image, q);
+                let after = acted.sandbox;
+                let marks = acted.held;
+                playing.sandboxes[k] = after;
+                playing.held = marks;
+                let answer = acted.answer;
+                print_answer(out, at, number, answer);
             }
         }
-        print_answer(out, at, number, answer);
-        playing.answered = at + 1;
     }
     playing
 }

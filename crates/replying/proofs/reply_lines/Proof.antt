@@ -1,36 +1,90 @@
--- Lines answered one after the other. In each turn the five ways of a line (`Proof/Ways.antt`, `Left.antt`) meet before its reply is printed (`Meeting.antt`),
--- and from what is said there follows what `Replied` asks; `Proof/Upto.antt` has what holds before each line.
+-- Lines answered one after the other. A line goes one of five ways (`Proof/Ways.antt`, `Left.antt`), of each of which the same is said, and from that follows
+-- what `Replied` asks (`go-on`); `Proof/Upto.antt` has what holds before each line.
 mod Upto
 mod Ways
 mod Left
-mod Meeting
-use mathlib.Core.Path.{_≡_, refl, sym, _∙_, ap, subst}
-use mathlib.Core.List.{List}
+use mathlib.Core.Path.{_≡_, refl, sym, _∙_, subst}
+use mathlib.Core.List.{List, _++_}
 use native.Mathlib.Nat.{add-zero}
-use Prim.Native.Nat.{ℕ, zero, suc, _+_, _*_, _/_, _≤_, _<_}
+use Prim.Native.Nat.{ℕ, _+_, _-_, _*_, _/_, _≤_, _<_}
 use native.Mathlib.Omega.{arith}
-use lib.ListN.{length}
+use lib.ListN.{length, take, drop}
 use Rattle.basics.proofs.TestLaws.{length-mapped}
-use Rattle.interface.specs.Answers.{answered}
-use Rattle.state.specs.World.{World}
+use Rattle.interface.specs.declared.answer.Answer.{Answer}
+use Rattle.interface.specs.Answers.{answered, numberOf, valueOf}
+use Rattle.columns.specs.Prints.{printedReply}
 use Rattle.step.proofs.ActedLaws.{own-asked}
 use Rattle.roll.specs.Known.{Known}
 use Rattle.roll.proofs.SmallLaws.{fits-line}
 use Rattle.roll.proofs.KnownLaws.{known-turned}
 use Rattle.replying.specs.Playing.{playedBy}
+use Rattle.replying.specs.declared.Playing.{Playing}
 use borrow.Author.Needs.{needs}
 use Rattle.replying.proofs.reply_lines.Statement.{statement}
 use Rattle.replying.proofs.reply_lines.Tie as tie
 use Rattle.replying.proofs.reply_lines.Proof.Upto.{Inv-loop, μ-loop, SoFar, replied-none, replied-more, replied-all, room, numbered}
-use Rattle.replying.proofs.reply_lines.Proof.Ways.{startOf, loopOf, imageIn, worldIn, stateIn, lineOf, known, four, calls, asking, asked, own}
+use Rattle.replying.proofs.reply_lines.Proof.Ways.{AfterAsk, Answers, startOf, loopOf, imageIn, worldIn, stateIn, lineOf, known, four, calls, asking, asked, own}
 use Rattle.replying.proofs.reply_lines.Proof.Ways.{around, told-at, rewinding, rewound-at, unasked, stands-alone}
 use Rattle.replying.proofs.reply_lines.Proof.Left.{left-at, stands, writing, writes, unrefused, written-at, acting, acted-at}
-use Rattle.replying.proofs.reply_lines.Proof.Meeting.{met}
+use Rattle.replying.proofs.reply_lines.Proof.Ways.{refused, rewound, in-place}
+use Rattle.replying.proofs.reply_lines.Proof.Left.{written, acted}
 
--- ---- small laws
+-- ---- a turn
 
 given-four : (s : tie.Start Inv-loop μ-loop) → length (s .args .t1 .sandboxes) ≡ 4
 given-four s = search length-mapped
+
+-- the reply of the line has room, and its number
+to-print : (s : AfterAsk) → (stateIn s .answered * 19 + 19 ≤ length (loopOf s .loop .out)) × (stateIn s .first + stateIn s .answered ≤ 999999)
+to-print s =
+    let at = loopOf s in
+    let begun = startOf at in
+    let far = at .loop .inv .1 in
+    let more = s .before .before .loop-test .taken in
+    (room _ _ _ _ _ _ (begun .pre .0) (far .answered) more (far .outKept), numbered _ _ _ _ _ _ (begun .pre .1) (far .first) (far .answered) more)
+
+-- and the end is nearer behind it
+nearer : (s : AfterAsk) → let n = length (startOf (loopOf s) .args .numbers .now) / 8 in n - (loopOf s .loop .i + 1) < n - loopOf s .loop .i
+nearer s = omega (arith, s .before .before .loop-test .taken)
+
+-- one line more is answered
+abbrev counted : AfterAsk → Playing → Playing
+counted s p = record { sandboxes = p .sandboxes; held = p .held; sound = p .sound; first = p .first; answered = stateIn s .answered + 1 }
+
+-- whichever way it went, with its reply printed there is one line more that was replied to
+go-on : (s : AfterAsk) (pool table out : List ℕ) (p : Playing) (a : Answer) → Answers s pool table p a → length out ≡ length (loopOf s .loop .out)
+    → (let before = loopOf s .loop .out in let place = stateIn s .answered * 19 in
+    out ≡ take place before ++ (printedReply (stateIn s .first + stateIn s .answered) (numberOf a) (valueOf a) ++ drop (place + 19) before))
+    → let begun = startOf (loopOf s) .args in let i = loopOf s .loop .i in
+    (i + 1 ≤ length (begun .numbers .now) / 8)
+    × SoFar (imageIn s) (begun .numbers .now) (begun .pool .now) (begun .table .now) (begun .out .now) (begun .t1) (i + 1) pool table out (counted s p)
+go-on s pool table out p a way kept prints =
+    let at = loopOf s in
+    let begun = startOf at in
+    let far = at .loop .inv .1 in (
+      omega (arith, s .before .before .loop-test .taken),
+      record {
+        poolKept = way .poolKept ∙ far .poolKept;
+        tableKept = way .tableKept ∙ far .tableKept;
+        outKept = kept ∙ far .outKept;
+        first = way .first ∙ far .first;
+        answered = omega (arith, far .answered);
+        sound = way .known ∙ far .sound;
+        four = way .four;
+        bytes = way .bytes;
+        known = subst (λ b. Known b (imageIn s) (playedBy p pool table)) (sym (way .known))
+            (known-turned (stateIn s .sound) (imageIn s) (worldIn s) (lineOf s) _ (known s) (way .turned));
+        replied = replied-more (imageIn s) (begun .args .numbers .now) (begun .args .t1 .first) (begun .args .t1 .answered) _ (begun .args .out .now)
+            (at .loop .i) (at .loop .out) out (worldIn s) (playedBy p pool table) (lineOf s) (stateIn s .first) (stateIn s .answered) (far .replied)
+            (s .before .line-in .ensures) (far .first) (far .answered)
+            (record {
+              answer = answered a;
+              turned = way .turned;
+              fits = fits-line (stateIn s .first + stateIn s .answered) a (to-print s .1) (way .small);
+              prints = prints;
+            });
+      },
+    )
 
 -- ---- the needs
 
@@ -66,11 +120,34 @@ add-number c =
     let far = at .loop .inv .1 in
     record { fits = omega (arith, far .answered, far .first, c .before .loop-test .taken, startOf at .pre .1) }
 
+add-playing : tie.Need-add-playing Inv-loop μ-loop
+add-playing c =
+    let at = c .before .before in
+    record { fits = omega (arith, at .loop .inv .1 .answered, c .before .loop-test .taken, startOf at .pre .1) }
+
+add-i : tie.Need-add-i Inv-loop μ-loop
+add-i c = search needs
+
 ask-requires : tie.Need-ask-requires Inv-loop μ-loop
 ask-requires c κs = search needs
 
 enum-known-asked : tie.Need-enum-known-asked Inv-loop μ-loop
 enum-known-asked c = search needs
+
+print-answer-requires : tie.Need-print-answer-requires Inv-loop μ-loop
+print-answer-requires c κs =
+    let way = c .before .before in
+    let print = to-print (way .before .before) in
+    (print .0, (print .1, refused way .small))
+
+loop-less : tie.Need-loop-less Inv-loop μ-loop
+loop-less c = nearer (c .before .before .before .before .before .before .before)
+
+loop-again : tie.Need-loop-again Inv-loop μ-loop
+loop-again c =
+    let printed = c .before .before in
+    let way = printed .before .before .before in
+    go-on (way .before .before) _ _ _ _ _ (refused way) (printed .print-answer .kept .0) (printed .print-answer .ensures)
 
 enum-known-asked-2 : tie.Need-enum-known-asked-2 Inv-loop μ-loop
 enum-known-asked-2 c = search needs
@@ -91,7 +168,7 @@ rewind-sandbox-requires : tie.Need-rewind-sandbox-requires Inv-loop μ-loop
 rewind-sandbox-requires c κs =
     let told = rewinding c in
     let s = asking told in
-    (c .before .before .before .if1 .taken, (calls told .low, (stateIn s .sandboxes, (unasked s, stands-alone c))))
+    (c .before .before .if1 .taken, (calls told .low, (stateIn s .sandboxes, (unasked s, stands-alone c))))
 
 mul-after : tie.Need-mul-after Inv-loop μ-loop
 mul-after c = let low = calls (rewinding (rewound-at c .before)) .low in search needs
@@ -103,10 +180,40 @@ element-set-from-after c =
     let all = four (asking told) in
     search needs
 
+print-answer-requires-2 : tie.Need-print-answer-requires-2 Inv-loop μ-loop
+print-answer-requires-2 c κs =
+    let way = c .before in
+    let print = to-print (asking (rewinding (rewound-at way .before))) in
+    (print .0, (print .1, rewound way .small))
+
+loop-less-2 : tie.Need-loop-less-2 Inv-loop μ-loop
+loop-less-2 c = nearer (asking (rewinding (rewound-at (c .before .before .before .before) .before)))
+
+loop-again-2 : tie.Need-loop-again-2 Inv-loop μ-loop
+loop-again-2 c =
+    let printed = c .before .before in
+    let way = printed .before .before in
+    go-on (asking (rewinding (rewound-at way .before))) _ _ _ _ _ (rewound way) (printed .print-answer2 .kept .0) (printed .print-answer2 .ensures)
+
 answer-requires : tie.Need-answer-requires Inv-loop μ-loop
 answer-requires c κs =
-    let told = c .before .before .before .before .before .before in
+    let told = c .before .before .before .before .before .before .before in
     (calls told .low, (worldIn (asking told), around told))
+
+print-answer-requires-3 : tie.Need-print-answer-requires-3 Inv-loop μ-loop
+print-answer-requires-3 c κs =
+    let way = c .before in
+    let print = to-print (asking (told-at (way .before .before .before))) in
+    (print .0, (print .1, in-place way .small))
+
+loop-less-3 : tie.Need-loop-less-3 Inv-loop μ-loop
+loop-less-3 c = nearer (asking (told-at (c .before .before .before .before .before .before .before)))
+
+loop-again-3 : tie.Need-loop-again-3 Inv-loop μ-loop
+loop-again-3 c =
+    let printed = c .before .before in
+    let way = printed .before .before in
+    go-on (asking (told-at (way .before .before .before))) _ _ _ _ _ (in-place way) (printed .print-answer3 .kept .0) (printed .print-answer3 .ensures)
 
 put-together-requires : tie.Need-put-together-requires Inv-loop μ-loop
 put-together-requires c κs = search needs
@@ -120,8 +227,8 @@ write-requires c κs =
     let row = stateIn s .sandboxes in
     (writes c, (row, own-asked (imageIn s) (asked told) (own told) all _ row (stands found) (unrefused c)))
 
-mul-t61 : tie.Need-mul-t61 Inv-loop μ-loop
-mul-t61 c = let low = calls (told-at (left-at (writing (written-at c .before)))) .low in search needs
+mul-t71 : tie.Need-mul-t71 Inv-loop μ-loop
+mul-t71 c = let low = calls (told-at (left-at (writing (written-at c .before)))) .low in search needs
 
 element-set-from-playing : tie.Need-element-set-from-playing Inv-loop μ-loop
 element-set-from-playing c =
@@ -129,6 +236,22 @@ element-set-from-playing c =
     let low = calls told .low in
     let all = four (asking told) in
     search needs
+
+print-answer-requires-4 : tie.Need-print-answer-requires-4 Inv-loop μ-loop
+print-answer-requires-4 c κs =
+    let way = c .before in
+    let print = to-print (asking (told-at (left-at (writing (written-at way .before))))) in
+    (print .0, (print .1, written way .small))
+
+loop-less-4 : tie.Need-loop-less-4 Inv-loop μ-loop
+loop-less-4 c = nearer (asking (told-at (left-at (writing (written-at (c .before .before .before .before) .before)))))
+
+loop-again-4 : tie.Need-loop-again-4 Inv-loop μ-loop
+loop-again-4 c =
+    let printed = c .before .before in
+    let way = printed .before .before in
+    go-on (asking (told-at (left-at (writing (written-at way .before))))) _ _ _ _ _ (written way) (printed .print-answer4 .kept .0)
+    (printed .print-answer4 .ensures)
 
 act-requires : tie.Need-act-requires Inv-loop μ-loop
 act-requires c κs =
@@ -146,63 +269,21 @@ element-set-from-after-2 c =
     let all = four (asking told) in
     search needs
 
-print-answer-requires : tie.Need-print-answer-requires Inv-loop μ-loop
-print-answer-requires c κs =
-    let ask = c .before .before in
-    let at = loopOf ask in
-    let s = startOf at in
-    let far = at .loop .inv .1 in
-    let more = ask .before .before .loop-test .taken in (
-      room _ _ _ _ _ _ (s .pre .0) (far .answered) more (far .outKept),
-      (numbered _ _ _ _ _ _ (s .pre .1) (far .first) (far .answered) more, met (c .before) .small),
-    )
+print-answer-requires-5 : tie.Need-print-answer-requires-5 Inv-loop μ-loop
+print-answer-requires-5 c κs =
+    let way = c .before in
+    let print = to-print (asking (told-at (left-at (acting (acted-at way .before))))) in
+    (print .0, (print .1, acted way .small))
 
-add-playing : tie.Need-add-playing Inv-loop μ-loop
-add-playing c =
-    let ask = c .before .before .before .before .before in
-    let at = loopOf ask in
-    record { fits = omega (arith, at .loop .inv .1 .answered, ask .before .before .loop-test .taken, startOf at .pre .1) }
+loop-less-5 : tie.Need-loop-less-5 Inv-loop μ-loop
+loop-less-5 c = nearer (asking (told-at (left-at (acting (acted-at (c .before .before .before .before) .before)))))
 
-add-i : tie.Need-add-i Inv-loop μ-loop
-add-i c = search needs
-
-loop-less : tie.Need-loop-less Inv-loop μ-loop
-loop-less c = search needs
-
-loop-again : tie.Need-loop-again Inv-loop μ-loop
-loop-again c =
+loop-again-5 : tie.Need-loop-again-5 Inv-loop μ-loop
+loop-again-5 c =
     let printed = c .before .before in
-    let here = printed .before .before in
-    let ask = here .before in
-    let at = loopOf ask in
-    let s = startOf at in
-    let far = at .loop .inv .1 in
-    let more = ask .before .before .loop-test .taken in
-    let a = met here in (
-      omega (arith, more),
-      record {
-        poolKept = a .poolKept ∙ far .poolKept;
-        tableKept = a .tableKept ∙ far .tableKept;
-        outKept = printed .print-answer .kept .0 ∙ far .outKept;
-        first = a .first ∙ far .first;
-        answered = omega (arith, far .answered);
-        sound = a .known ∙ far .sound;
-        four = a .four;
-        bytes = a .bytes;
-        known = subst (λ b. Known b (imageIn ask) (playedBy (here .match .playing) (here .match .pool) (here .match .table))) (sym (a .known))
-            (known-turned (stateIn ask .sound) (imageIn ask) (worldIn ask) (lineOf ask) _ (known ask) (a .turned));
-        replied = replied-more (imageIn ask) (s .args .numbers .now) (s .args .t1 .first) (s .args .t1 .answered) _ (s .args .out .now) (at .loop .i)
-            (at .loop .out) _ (worldIn ask) _ (lineOf ask) (stateIn ask .first) (stateIn ask .answered) (far .replied)
-            (ask .before .line-in .ensures) (far .first) (far .answered)
-            (record {
-              answer = answered (here .match .answer);
-              turned = a .turned;
-              fits = fits-line (stateIn ask .first + stateIn ask .answered) (here .match .answer)
-                  (numbered _ _ _ _ _ _ (s .pre .1) (far .first) (far .answered) more) (a .small);
-              prints = printed .print-answer .ensures;
-            });
-      },
-    )
+    let way = printed .before .before in
+    go-on (asking (told-at (left-at (acting (acted-at way .before))))) _ _ _ _ _ (acted way) (printed .print-answer5 .kept .0)
+    (printed .print-answer5 .ensures)
 
 same-length : tie.Need-same-length Inv-loop μ-loop
 same-length c = search needs
@@ -233,10 +314,15 @@ reply-lines-spec =
     μ-loop
     loop-holds
     line-in-requires
+    add-i
     cast-number
     add-number
+    add-playing
     ask-requires
     enum-known-asked
+    print-answer-requires
+    loop-less
+    loop-again
     enum-known-asked-2
     cast-k
     mul-b
@@ -244,19 +330,26 @@ reply-lines-spec =
     rewind-sandbox-requires
     mul-after
     element-set-from-after
+    print-answer-requires-2
+    loop-less-2
+    loop-again-2
     answer-requires
+    print-answer-requires-3
+    loop-less-3
+    loop-again-3
     put-together-requires
     write-requires
-    mul-t61
+    mul-t71
     element-set-from-playing
+    print-answer-requires-4
+    loop-less-4
+    loop-again-4
     act-requires
     mul-after-2
     element-set-from-after-2
-    print-answer-requires
-    add-playing
-    add-i
-    loop-less
-    loop-again
+    print-answer-requires-5
+    loop-less-5
+    loop-again-5
     same-length
     same-length-2
     same-length-3

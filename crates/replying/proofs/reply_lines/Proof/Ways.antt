@@ -146,17 +146,15 @@ abbrev pub withOne : Playing → ℕ → Sandbox → Held → Playing
 withOne p k b marks =
     record { sandboxes = set (p .sandboxes) k b; held = marks; sound = p .sound; first = p .first; answered = p .answered }
 
-pub put-back : (c : tie.After-known-told2 Inv-loop μ-loop) (pool table : List ℕ) (p : Playing) (b : Sandbox) (marks : Held) (a : Answer) → let s = asking c in
-    p ≡ withOne (stateIn s) (asked c .sandbox) b marks
-    → Stepped (imageIn s) (worldIn s) (asked c)
+pub put-back : (c : tie.After-known-told2 Inv-loop μ-loop) (pool table : List ℕ) (b : Sandbox) (marks : Held) (a : Answer) → let s = asking c in
+    Stepped (imageIn s) (worldIn s) (asked c)
     (record { answer = answered a; world = playedBy (withOne (stateIn s) (asked c .sandbox) b marks) pool table })
     → length pool ≡ length (poolIn s) → length table ≡ length (tableIn s)
-    → ((j : ℕ) → getD pool j 0 < 256) → Answers s pool table p a
-put-back c pool table p b marks a e t lp lt bytes =
+    → ((j : ℕ) → getD pool j 0 < 256) → Answers s pool table (withOne (stateIn s) (asked c .sandbox) b marks) a
+put-back c pool table b marks a t lp lt bytes =
     let s = asking c in
-    subst (λ (x : Playing). Answers s pool table x a) (sym e)
-    (of-step c pool table (withOne (stateIn s) (asked c .sandbox) b marks) a t lp lt refl refl
-    (length-set (stateIn s .sandboxes) (asked c .sandbox) b ∙ four s) bytes)
+    of-step c pool table (withOne (stateIn s) (asked c .sandbox) b marks) a t lp lt refl refl
+    (length-set (stateIn s .sandboxes) (asked c .sandbox) b ∙ four s) bytes
 
 -- rewound
 abbrev pub rewound-at : tie.After-marks Inv-loop μ-loop → tie.After-rewind-sandbox Inv-loop μ-loop
@@ -175,23 +173,27 @@ stands-alone c =
     let told = rewinding c in
     let s = asking told in
     standing (imageIn s) (asked told) (machineIn s) (poolIn s) (poolIn s) (tableIn s) (unasked s) refl refl
-    (four s) (calls told .low) (passes told) refl (λ e. absurd (omega (arith, e, c .before .before .before .if1 .taken)))
+    (four s) (calls told .low) (passes told) refl (λ e. absurd (omega (arith, e, c .before .before .if1 .taken)))
 
-pub rewound : (c : tie.After-marks Inv-loop μ-loop) (p : Playing) → let did = rewound-at c in let told = rewinding (did .before) in let s = asking told in
-    p ≡ withOne (stateIn s) (asked told .sandbox) (did .rewind-sandbox .result .sandbox) (did .rewind-sandbox .result .held)
-    → Answers s (did .rewind-sandbox .last .1 .1 .0) (did .rewind-sandbox .last .1 .1 .1 .0) p (did .rewind-sandbox .result .answer)
-rewound c p e =
+pub rewound : (c : tie.After-marks Inv-loop μ-loop) →
     let did = rewound-at c in
     let told = rewinding (did .before) in
     let s = asking told in
-    put-back told _ _ p (did .rewind-sandbox .result .sandbox) (did .rewind-sandbox .result .held) (did .rewind-sandbox .result .answer) e
+    let left = did .rewind-sandbox .result in
+    Answers s (did .rewind-sandbox .last .1 .1 .0) (did .rewind-sandbox .last .1 .1 .1 .0)
+    (withOne (stateIn s) (asked told .sandbox) (left .sandbox) (left .held)) (left .answer)
+rewound c =
+    let did = rewound-at c in
+    let told = rewinding (did .before) in
+    let s = asking told in
+    put-back told _ _ (did .rewind-sandbox .result .sandbox) (did .rewind-sandbox .result .held) (did .rewind-sandbox .result .answer)
     (did .rewind-sandbox .ensures (stateIn s .sandboxes) (unasked s) (stands-alone (did .before)))
     (did .rewind-sandbox .kept .1 .1 .0) (did .rewind-sandbox .kept .1 .1 .1 .0)
-    (λ j. omega (arith, c .before .before .before .before .slice-known4 .given j))
+    (λ j. omega (arith, c .before .before .before .before .slice-known5 .given j))
 
 -- answered in place
 abbrev pub told-at : tie.After-answer Inv-loop μ-loop → tie.After-known-told2 Inv-loop μ-loop
-told-at c = c .before .before .before .before .before .before .before
+told-at c = c .before .before .before .before .before .before .before .before
 
 pub in-place : (c : tie.Then2 Inv-loop μ-loop) → let behind = c .before .before .before in let s = asking (told-at behind) in
     Answers s (behind .answer .last .1 .0) (tableIn s) (stateIn s) (behind .answer .result .answer)
@@ -201,7 +203,7 @@ in-place c =
     let s = asking told in
     of-step told _ _ (stateIn s) (behind .answer .result .answer)
     (behind .answer .ensures (worldIn s) (around told) .done (c .if2 .taken)) (behind .answer .kept .1 .0) refl refl refl (four s)
-    (λ j. omega (arith, c .before .slice-known6 .given j))
+    (λ j. omega (arith, c .before .slice-known8 .given j))
 
 -- refused without a look at a sandbox
 pub refused : (c : tie.After-asked Inv-loop μ-loop) → let s = c .before .before in
