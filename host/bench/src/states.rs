@@ -30,6 +30,16 @@ impl State {
         }
     }
 
+    /// The number that a line before the measured ones is to have, which was told this: they are
+    /// accepted, but for a first line whose code is no call's.
+    pub fn before(line: usize, told: u32) -> u32 {
+        if line == 0 && told == 2 {
+            2
+        } else {
+            0
+        }
+    }
+
     pub fn calls(self) -> Vec<Call> {
         match self {
             State::Closed => vec![call(0, 0, [0; 5])],

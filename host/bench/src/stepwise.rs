@@ -49,8 +49,10 @@ pub fn expect_last(calls: &[model::Call], last: usize, number: u32) {
     let mut machine = Machine::start(crate::roll::image(), 128).expect("right lengths");
     for (index, &model::Call { code, sandbox, parameters }) in calls.iter().enumerate() {
         let told = machine.answer(&Call { code, sandbox, parameters });
-        let expected = if index < calls.len() - last { 0 } else { number };
-        assert_eq!(told.err().map_or(0, |why| why.number()), expected, "measured call {index}");
+        let told = told.err().map_or(0, |why| why.number());
+        let measured = calls.len() - last;
+        let expected = if index < measured { State::before(index, told) } else { number };
+        assert_eq!(told, expected, "measured call {index}");
     }
 }
 
