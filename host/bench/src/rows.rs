@@ -81,7 +81,10 @@ impl Row {
 pub fn rows() -> Vec<Row> {
     let unknown = call(0, 0, [0; 5]);
     // Only the first line of a roll is a first line: it cannot be made again.
-    let first = Row { number: 2, ..Row::new(State::First, "unknown code, refused 2", unknown, Back::Never) };
+    let first = Row {
+        number: 2,
+        ..Row::new(State::First, "unknown code, refused 2", unknown, Back::Never)
+    };
     let mut rows = vec![
         first,
         Row::new(State::Closed, "open", open(0, 16), Back::Never),

@@ -8,6 +8,7 @@ mod mutants;
 mod over_gaps;
 mod pairs;
 mod random_rolls;
+mod read_ahead;
 mod stepwise;
 mod still_clean;
 #[path = "unsound/main.rs"]
