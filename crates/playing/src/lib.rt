@@ -6,6 +6,7 @@ ghost use Prim.Native.Nat.{_+_, _*_, _≤_, min};
 ghost use lib.ListN.{length};
 ghost use Rattle.columns.specs.Sizes.{PrintedNumbers, ReplyBytes};
 ghost use Rattle.lines.specs.Lines.{linesOf};
+ghost use Rattle.read_ahead.specs.ReadAhead.{LinesAhead};
 ghost use Rattle.state.specs.World.{worldOf};
 ghost use Rattle.roll.specs.Known.{Known};
 ghost use Rattle.roll.specs.Play.{Played};
@@ -30,6 +31,7 @@ impl Player {
     // How many lines are read ahead, at the most, before they are answered; and their numbers. While lines that were read ahead are answered, the machine's
     // state stays where it is.
     pub const AHEAD: usize = 64;
+
     pub const NUMBERS_AHEAD: usize = 512;
     // The bytes of a program's pool: "with 128 frames"
     pub const POOL: usize = 32_768;
@@ -83,7 +85,7 @@ pub fn play(
 
 // How many of the lines that are left are read ahead.
 fn ahead(left: usize) -> usize
-    ensures { λ r. ⌜ r ≡ min left 64 ⌝ }
+    ensures { λ r. ⌜ r ≡ min left LinesAhead ⌝ }
 {
     if left < Player::AHEAD {
         return left;

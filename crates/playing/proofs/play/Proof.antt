@@ -85,8 +85,14 @@ block-lines c = rw (block-is c, length-read c) (omega arith)
 length-then : (c : Read) → length (numbersThen c) ≡ 512
 length-then c =
     let numbers = loopOf (counted c) .loop .numbers in
-    omega (arith, length-append (numbersRead c) (drop (many c * 8) numbers), length-read c, length-drop (many c * 8) numbers, room (counted c),
-    loopOf (counted c) .loop .inv .4)
+    omega (
+      arith,
+      length-append (numbersRead c) (drop (many c * 8) numbers),
+      length-read c,
+      length-drop (many c * 8) numbers,
+      room (counted c),
+      loopOf (counted c) .loop .inv .4,
+    )
 
 some : (c : Read) → (1 ≤ many c) × (loopOf (counted c) .loop .playing .answered + many c ≤ loopOf (counted c) .before .lines-of .result)
 some c = (omega (arith, counted c .ahead .ensures, counted c .before .if1 .taken), omega (arith, counted c .ahead .ensures, counted c .before .if1 .taken))
@@ -155,9 +161,11 @@ reply-lines-requires c κs =
     let inv = at .loop .inv in
     let lines = at .before .lines-of .ensures in
     let known = known-played (s .args .player .sound) _ _ (s .args .roll .now) _ _ _ _ _ (s .pre .1 .1) (inv .7) in
-    rw (block-lines read)
-    (omega (arith, some read .1, lines, inv .3, s .pre .0), omega (arith, some read .1, lines, inv .5, s .pre .1 .0),
-    subst (λ b. Known b (s .args .image .now) (playedBy (at .loop .playing) (at .loop .pool) (at .loop .table))) (sym (inv .6)) known)
+    rw (block-lines read) (
+      omega (arith, some read .1, lines, inv .3, s .pre .0),
+      omega (arith, some read .1, lines, inv .5, s .pre .1 .0),
+      subst (λ b. Known b (s .args .image .now) (playedBy (at .loop .playing) (at .loop .pool) (at .loop .table))) (sym (inv .6)) known,
+    )
 
 loop-less : tie.Need-loop-less Inv-loop μ-loop
 loop-less c =
@@ -196,8 +204,12 @@ returns : tie.Need-returns Inv-loop μ-loop
 returns c =
     let at = c .before .before .before .before in
     let s = startOf at in
-    let all : at .loop .playing .answered ≡ linesOf (length (s .args .roll .now)) = omega (arith, at .loop .inv .0, c .before .before .if1 .left,
-    at .before .lines-of .ensures) in
+    let all : at .loop .playing .answered ≡ linesOf (length (s .args .roll .now)) = omega (
+      arith,
+      at .loop .inv .0,
+      c .before .before .if1 .left,
+      at .before .lines-of .ensures,
+    ) in
     let before = worldOf (s .args .player .machine) (s .args .pool .now) (s .args .table .now) in
     subst (λ n. Played (s .args .image .now) before (s .args .roll .now) n (s .args .player .line) (s .args .out .now) (at .loop .out)
     (playedBy (at .loop .playing) (at .loop .pool) (at .loop .table))) all (at .loop .inv .7)
