@@ -4,6 +4,7 @@
 use bench::copying::Copying;
 use bench::document::with_part;
 use bench::rows::rows;
+use bench::states::State;
 use bench::table::{thousands, Purpose, Ratio, Table};
 use bench::TABLES;
 use gazhuppin::{Call, Machine};
@@ -66,7 +67,8 @@ fn timed_calls_return_to_their_state() {
         let mut machine = Machine::start(vec![7; 16 * 256], 128).expect("right lengths");
         let before = made(&mut machine, &row.state.calls());
         let Some(group) = row.group() else {
-            assert!([1, 7].contains(&row.call.code), "{}", row.title());
+            let once = [1, 7].contains(&row.call.code) || row.state == State::First;
+            assert!(once, "{}", row.title());
             continue;
         };
         let [once, twice] = [0, 1].map(|_| made(&mut machine, &group));
