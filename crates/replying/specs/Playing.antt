@@ -21,7 +21,7 @@ pub record Then (So : List ℕ → World → Type 0) (image : List ℕ) (line : 
   pub replied : Replied image worldThen line number at outThen out v
 
 -- the first n of the lines whose numbers these are, replied to one after the other; the first of them is line `first + k` of the roll, and k have a reply
--- already: "Each line's reply" stands behind those
+-- already, behind which the replies to these stand
 unfoldable pub RepliedTo : List ℕ → List ℕ → ℕ → ℕ → World → List ℕ → ℕ → List ℕ → World → Type 0
 RepliedTo image numbers first k w out₀ zero out v = (out ≡ out₀) × (v ≡ w)
 RepliedTo image numbers first k w out₀ (suc n) out v =
