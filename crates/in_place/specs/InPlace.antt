@@ -25,8 +25,8 @@ pub record Around (image : List ℕ) (q : Request) (b : Sandbox) (pool table : L
   pub sameTable : w .store .table ≡ table
 
 -- answered at once: the outcome is the step's, and of the world only the pool may have changed ("a write changes one byte inside one frame's 256 bytes of the
--- pool", and "reads take no frame"); or left to others, and nothing has changed. A write that is left is not refused: "a page without a front first takes a
--- frame"
+-- pool", and "reads take no frame"); or left to others, and nothing has changed. A write that is left is not refused, and its "page
+-- without a front first takes an unheld frame"
 pub record Tried (image : List ℕ) (w : World) (q : Request) (r : InPlace) (pool : List ℕ) : Type 0 where
   pub done : r .done ≡ true → Stepped image w q (record { answer = answered (r .answer); world = withPool pool w })
   pub left : r .done ≡ false → pool ≡ w .store .pool
