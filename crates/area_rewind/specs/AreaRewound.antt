@@ -1,13 +1,22 @@
--- What a rewind makes of the store at one committed area.
+-- What a rewind makes of the store at one committed area, and how many of its pages it finds changed.
 use mathlib.Core.Bool.{true}
 use mathlib.Core.List.{List}
 use Prim.Native.Nat.{ℕ, _-_}
 use Rattle.table.specs.Store.{Store, frontOf, freeTo, rewindTo}
 use Rattle.areas.specs.declared.area.Area.{Area}
 use Rattle.restoring.specs.Backed.{backingOn}
+use Rattle.restoring.specs.Changed.{changedTo}
 
--- the pages from this one on up to the area give up their fronts, and those of the area "keep their fronts, whose bytes become the snapshot's"
+-- the pages from this one on up to the area give up their fronts
+abbrev pub freedBefore : ℕ → Area → ℕ → Store → Store
+freedBefore s a page st = freeTo 256 (frontOf s page) st (a .first .0 - page)
+
+-- then those of the area "keep their fronts, whose bytes become the snapshot's"
 abbrev pub areaRewound : List ℕ → ℕ → Area → ℕ → Store → Store
 areaRewound image s a page st =
-    rewindTo 256 (frontOf s (a .first .0)) (λ i. true) (backingOn image (a .backing))
-    (freeTo 256 (frontOf s page) st (a .first .0 - page)) (a .pages)
+    rewindTo 256 (frontOf s (a .first .0)) (λ i. true) (backingOn image (a .backing)) (freedBefore s a page st) (a .pages)
+
+-- request A4: those whose bytes differed
+abbrev pub areaChanged : List ℕ → ℕ → Area → ℕ → Store → ℕ
+areaChanged image s a page st =
+    changedTo 256 (frontOf s (a .first .0)) (λ i. true) (backingOn image (a .backing)) (freedBefore s a page st) (a .pages)

@@ -32,7 +32,8 @@ use Rattle.simulation.specs.Agrees.{Agrees}
 use Rattle.simulation.proofs.ReadSteps.{page-read, frame-is, some-entry}
 use Rattle.simulation.proofs.SoundLaws.{shares-same, agrees-sound}
 use Rattle.simulation.proofs.StoreSteps.{write-page}
-use Rattle.simulation.proofs.Simulate.{held-counts, backs-count, step-answer, step-agrees}
+use Rattle.simulation.proofs.ValueSteps.{held-counts, backs-count}
+use Rattle.simulation.proofs.Simulate.{step-answer, step-agrees}
 use Rattle.simulation.proofs.TakenLaws.{some-frame}
 use Rattle.claims.specs.Demands.{AsSnapshot, Frames, Promise, Took, Demand3}
 use Rattle.claims.proofs.Runs.{list-agrees, demand-2}

@@ -1,4 +1,4 @@
--- What call 10 compares, as two tables: a page in the sandbox and in its snapshot, and the lowest difference of all 64 pages.
+-- The comparisons as three tables: a page in the sandbox and in its snapshot; the lowest difference of all 64 pages; the committed pages whose bytes differ.
 use Prim.Native.Nat.{ℕ}
 use mathlib.Core.Bool.{Bool, true, false, not, _&&_}
 use mathlib.Core.List.{List, [], _∷_}
@@ -9,7 +9,7 @@ use Rattle.interface.specs.declared.page.Backing.the-variants.{Anonymous, Image
 use Rattle.interface.specs.declared.page.Slot.{Slot}
 use Rattle.interface.specs.declared.page.Slot.the-variants.{Unmapped, Mapped}
 use Rattle.interface.specs.Slots.{Slots, withRights, withCommitted}
-use Rattle.comparison.specs.Compare.{agree, lowestDifference}
+use Rattle.comparison.specs.Compare.{agree, lowestDifference, changedPages}
 use Rattle.interface.specs.Edges.{full}
 
 -- a page in the sandbox and in the snapshot, whether its bytes are the same in both, and whether it agrees
@@ -94,6 +94,42 @@ unfoldable pub lowestFound : List Comparison → Bool
 lowestFound [] = true
 lowestFound (c ∷ cs) = eqb (lowestDifference (c .present) (c .snapshot) (c .sameBytes)) (c .differs) && lowestFound cs
 
--- of both tables
+-- the pages of the sandbox, at which the bytes are those of the snapshot, and how many are counted
+pub record Count : Type 0 where
+  pub present : Slots
+  pub sameBytes : ℕ → Bool
+  pub counted : ℕ
+
+abbrev pub counts : Slots → (ℕ → Bool) → ℕ → Count
+counts f x n = record { present = f; sameBytes = x; counted = n }
+
+-- all pages committed; but this one, which was unmapped since; but this one, which was mapped anew
+abbrev pub committed : Slots
+committed i = withCommitted (full i)
+
+abbrev pub unmappedAt : ℕ → Slots
+unmappedAt page = over page 1 (λ i. Unmapped) committed
+
+abbrev pub mappedAnew : ℕ → Slots
+mappedAnew page = over page 1 full committed
+
+abbrev pub changeCounts : List Count
+changeCounts =
+    -- "whose bytes differed": none, all, the first, the last, some
+    counts committed everywhere 0 ∷ counts committed (λ i. false) 64 ∷ counts committed (λ i. not (eqb i 0)) 1 ∷ counts committed (λ i. not (eqb i 63)) 1 ∷
+    counts committed (λ i. leb i 30) 33 ∷
+    -- "still mapped": neither a page that is unmapped nor one that was mapped anew
+    counts (unmappedAt 20) (λ i. false) 63 ∷ counts (mappedAnew 20) (λ i. false) 63 ∷ counts (mappedAnew 20) (λ i. not (eqb i 20)) 0 ∷
+    counts (unmappedAt 20) (λ i. not (eqb i 20)) 0 ∷
+    -- "committed pages"
+    counts full (λ i. false) 0 ∷ counts nothing (λ i. false) 0 ∷
+    -- rights do not count
+    counts (over 0 64 (λ i. withRights 1 (committed i)) nothing) everywhere 0 ∷ []
+
+unfoldable pub allCounted : List Count → Bool
+allCounted [] = true
+allCounted (c ∷ cs) = eqb (changedPages (c .present) (c .sameBytes)) (c .counted) && allCounted cs
+
+-- of all tables
 unfoldable pub differencesHold : Bool
-differencesHold = pairsAgree pairs && lowestFound comparisons
+differencesHold = pairsAgree pairs && (lowestFound comparisons && allCounted changeCounts)

@@ -1,5 +1,5 @@
--- THE THEOREMS: the statements of specs/TurnedBack, specs/StillClean, specs/OverGaps and specs/KeepsNothing, of every image and pool that a start accepts and
--- of every list of requests.
+-- THE THEOREMS: the statements of specs/TurnedBack, specs/StillClean, specs/PutBack, specs/OverGaps and specs/KeepsNothing, of every image and pool that a
+-- start accepts and of every list of requests.
 use mathlib.Core.List.{List}
 use Prim.Native.Nat.{ℕ}
 use Rattle.state.specs.Lengths.{lendings}
@@ -9,15 +9,18 @@ use Rattle.plain.specs.TurnedBack.{turnedBackCases}
 use Rattle.plain.specs.StillClean.{stillClean}
 use Rattle.plain.specs.OverGaps.{overGaps}
 use Rattle.plain.specs.KeptRuns.{keptRuns}
+use Rattle.plain.specs.PutBack.{putBack}
 use Rattle.simulation.specs.Lent.{Lent}
 use Rattle.consequences.specs.TurnedBack.{AllGet, WrongLength, AllGetLent, StrayEntry}
 use Rattle.consequences.specs.StillClean.{BacksCannotAlter, StillClean}
+use Rattle.consequences.specs.PutBack.{RewindsTell, PutBack}
 use Rattle.consequences.specs.OverGaps.{PassesOverGaps}
 use Rattle.consequences.specs.KeepsNothing.{KeepsNothing}
-use Rattle.consequences.proofs.TurnedBackLaws.{cases-get, turned-back-get, still-clean-get, over-gaps-get, kept-runs-get}
+use Rattle.consequences.proofs.TurnedBackLaws.{cases-get, turned-back-get, still-clean-get, over-gaps-get, kept-runs-get, put-back-get}
 use Rattle.consequences.proofs.TurnedBackLaws.{wrong-length, lendings-get, stray-entry}
 use Rattle.consequences.proofs.BacksLaws.{backs-cannot-alter}
 use Rattle.consequences.proofs.StillCleanLaws.{still-clean}
+use Rattle.consequences.proofs.PutBackLaws.{rewinds-tell, put-back}
 use Rattle.consequences.proofs.OverGapsLaws.{over-gaps}
 use Rattle.consequences.proofs.KeepsNothingLaws.{keeps-nothing}
 
@@ -67,3 +70,15 @@ claim-keeps-nothing = keeps-nothing
 -- every run over the table of "Keep the frames of a finished request" has the table's answers
 pub claim-kept-runs-cases : AllGet keptRuns
 claim-kept-runs-cases = kept-runs-get
+
+-- a rewind answers at most the fronts of committed pages, and 0 exactly where call 10, of the bytes of committed pages alone, finds nothing: of any world
+pub claim-rewinds-tell : (image : List ℕ) → RewindsTell image
+claim-rewinds-tell = rewinds-tell
+
+-- a rewind answers 0 right after another and after the snapshot, while a sandbox is rewound, and where call 10 answers 64
+pub claim-put-back : (g : Given) → Lent g → PutBack g
+claim-put-back = put-back
+
+-- every run over the table of "How many pages were put back?" has the table's answers
+pub claim-put-back-cases : AllGet putBack
+claim-put-back-cases = put-back-get

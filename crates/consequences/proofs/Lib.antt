@@ -2,6 +2,7 @@
 pub mod TurnedBackLaws
 pub mod BacksLaws
 pub mod StillCleanLaws
+pub mod PutBackLaws
 pub mod OverGapsLaws
 pub mod KeepsNothingLaws
 pub mod Claims

@@ -18,13 +18,13 @@ use Rattle.claims.proofs.Demand3Laws.{answer-at, took-then}
 use Rattle.consequences.specs.StillClean.{told, StillClean}
 
 -- call 10 leaves the plain machine as it was
-compare-leaves : (g : Given) (qs : List Request) (s : ℕ) → upTo g (qs ++ compareOf s ∷ []) ≡ upTo g qs
+pub compare-leaves : (g : Given) (qs : List Request) (s : ℕ) → upTo g (qs ++ compareOf s ∷ []) ≡ upTo g qs
 unfolding afterAll
 compare-leaves g qs s = after-append g fresh qs (compareOf s ∷ []) ∙ reads-change-nothing g (upTo g qs) (compareOf s) refl
 
 module _ (g : Given) (L : Lent g) where
   -- the answer to the second of two requests after a list
-  second : (qs : List Request) (q r : Request) (as′ : List Answered) → as′ ≡ answers g fresh (qs ++ q ∷ r ∷ [])
+  pub second : (qs : List Request) (q r : Request) (as′ : List Answered) → as′ ≡ answers g fresh (qs ++ q ∷ r ∷ [])
       → told as′ (length qs + 1) ≡ answer g (upTo g (qs ++ q ∷ [])) r
   second qs q r as′ e =
       ap (told as′) (sym (length-append qs (q ∷ [])))

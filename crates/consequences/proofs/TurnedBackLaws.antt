@@ -38,7 +38,8 @@ use Rattle.plain.specs.TurnedBack.{turnedBackCases}
 use Rattle.plain.specs.StillClean.{stillClean}
 use Rattle.plain.specs.OverGaps.{overGaps}
 use Rattle.plain.specs.KeptRuns.{keptRuns}
-use Rattle.plain.proofs.CaseLaws.{kept-runs}
+use Rattle.plain.specs.PutBack.{putBack}
+use Rattle.plain.proofs.CaseLaws.{kept-runs, put-back}
 use Rattle.plain_claims.proofs.Claims.{claim-cases, claim-turned-back, claim-still-clean, claim-over-gaps}
 use Rattle.simulation.specs.Lent.{Lent}
 use Rattle.simulation.proofs.StepLaws.{number-is, refused-leaves}
@@ -98,6 +99,10 @@ over-gaps-get = all-get overGaps refl claim-over-gaps
 pub kept-runs-get : AllGet keptRuns
 unfolding lentb
 kept-runs-get = all-get keptRuns refl kept-runs
+
+pub put-back-get : AllGet putBack
+unfolding lentb
+put-back-get = all-get putBack refl put-back
 
 -- ---- row 3
 

@@ -1,8 +1,9 @@
--- What a page of a sandbox reads, now and in the snapshot, and the lowest page at which the two differ.
+-- What a page of a sandbox reads, now and in the snapshot; the lowest page at which the two differ, and how many committed pages read something else.
+use mathlib.Core.Bool.{Bool}
 use mathlib.Core.List.{List}
 use Prim.Native.Nat.{ℕ}
 use Rattle.interface.specs.Slots.{isCommitted, backingAt}
-use Rattle.comparison.specs.Compare.{lowestDifference}
+use Rattle.comparison.specs.Compare.{lowestDifference, changedPages}
 use Rattle.pages.specs.Parts.{sameBytes}
 use Rattle.table.specs.Store.{Store, frontOf, backOf, contents, pageFrom, underFront}
 use Rattle.table.specs.Backing.{backingPage}
@@ -26,7 +27,14 @@ copyPage image b i = backingPage image (backingAt (slots (b .snapshot) i))
 unfoldable pub copyRead : List ℕ → Store → Record → ℕ → ℕ → List ℕ
 copyRead image st b s i = pageFrom (copyPage image b i) (contents 256 st (backOf s i))
 
+-- whether page i reads what it reads in the snapshot
+abbrev pub readsSame : List ℕ → Store → Record → ℕ → ℕ → Bool
+readsSame image st b s i = sameBytes 256 (pageRead image st b s i) (copyRead image st b s i)
+
 -- request A1: "the lowest page number at which the sandbox and its snapshot differ in being mapped, in rights or in bytes", by "comparing all 64 pages"
 unfoldable pub differing : List ℕ → Store → Record → ℕ → ℕ
-differing image st b s =
-    lowestDifference (slots (b .present)) (slots (b .snapshot)) (λ i. sameBytes 256 (pageRead image st b s i) (copyRead image st b s i))
+differing image st b s = lowestDifference (slots (b .present)) (slots (b .snapshot)) (readsSame image st b s)
+
+-- request A4: "the number of committed pages still mapped whose bytes differed from the snapshot"
+unfoldable pub changed : List ℕ → Store → Record → ℕ → ℕ
+changed image st b s = changedPages (slots (b .present)) (readsSame image st b s)

@@ -1,30 +1,29 @@
 // What an accepted request makes of the lent memory and of the sandbox's runs, computed.
 // It promises: the store and the runs after a request are those of memory/specs/Memory, whichever unheld frame a write takes and whichever frame of the
 // longest run it gives up.
-// It stands on `memory` for the definitions and their laws, on `writing`, `rewinding` and `freeing` for the frames, on `granting` and `gathering` for the
-// runs, on `totals` for what the sandboxes have together, and on `rules` for what a request within its limits is.
+// A rewind is performed elsewhere (`rewind_call`), since its value is told by what it does.
+// It stands on `memory` for the definitions and their laws, on `writing` and `freeing` for the frames, on `granting` for the runs, on `totals` for what the
+// sandboxes have together, and on `rules` for what a request within its limits is.
 ghost use mathlib.Core.Path.{_≡_};
 ghost use Prim.Native.Nat.{_<_};
 ghost use lib.ListN.{length};
 ghost use Rattle.interface.specs.Numbers.{PageBytes, Sandboxes, pagesIn};
-ghost use Rattle.interface.specs.Requests.{Map, Write};
+ghost use Rattle.interface.specs.Requests.{Map, Write, Rewind};
 ghost use Rattle.table.specs.Store.{kept, Ranged};
 ghost use Rattle.rules.specs.Ready.{Fit, Ready};
 ghost use Rattle.memory.specs.Parts.{SomeRow, OfEveryRow, LeftBy, StoreStepped};
 use frames::Held;
 use freeing::store::free_range;
-use gathering::gathered;
 use granting::Left;
 use granting::map;
 use interface::PageNo;
 use interface::Request;
-use rewinding::store::rewind;
 use state::sandbox::Sandbox;
 use table::entry::move_fronts;
 use totals::Together;
 use writing::write;
 
-// The store and the runs after an accepted request.
+// The store and the runs after an accepted request that is no rewind.
 pub fn store_after(
     b: Sandbox,
     all: Together,
@@ -33,6 +32,7 @@ pub fn store_after(
     image: &[u8],
     q: Request,
 ) -> Left
+    requires { ⌜ (q .code ≡ Rewind → ⊥) ⌝ }
     requires { ⌜ SomeRow (now image) q b all (kept (all .held) (now pool) (now table)) ⌝ }
     ensures { λ r. ⌜ (let before = kept (all .held) (now (pool .entry)) (now (table .entry)) in
         let after = kept (r .held) (now (pool .exit)) (now (table .exit)) in
@@ -47,7 +47,7 @@ pub fn store_after(
     }
 }
 
-// The store and the runs after a request that takes no frame: any but a map and a write.
+// The store and the runs after a request that takes no frame and restores none: any but a map, a write and a rewind.
 fn without_frames(
     held: Held,
     pool: &mut [u8],
@@ -58,6 +58,7 @@ fn without_frames(
 ) -> Left
     requires { ⌜ (q .code ≡ Map → ⊥) ⌝ }
     requires { ⌜ (q .code ≡ Write → ⊥) ⌝ }
+    requires { ⌜ (q .code ≡ Rewind → ⊥) ⌝ }
     requires { ⌜ q .sandbox < Sandboxes ⌝ }
     requires { ⌜ Fit q ⌝ }
     requires { ⌜ Ready (pagesIn (length (now image))) (b .rec) ⌝ }
@@ -81,15 +82,6 @@ fn without_frames(
             Left {
                 held: held,
                 runs: runs,
-            }
-        }
-        Request::REWIND => {
-            let present = b.rec.present;
-            let left = gathered(table, present, runs, s);
-            let h = rewind(held, pool, table, image, b.rec, s);
-            Left {
-                held: h,
-                runs: left,
             }
         }
         _ => Left {

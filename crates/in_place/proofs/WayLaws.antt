@@ -116,7 +116,7 @@ module _ {image : List ℕ} {q : Request} {b : Sandbox} {pool table : List ℕ} 
         stepped image w q _ n
         (performed image w q 0 (w .sandboxes) (kept marks after (w .store .table)) (own .runs)
         (written image q w (w .store) _ (own .runs) front e stored)
-        (no-value image q own (w .store) (λ x. omega arith) (λ x. omega arith) (λ x. omega arith) (λ x. omega arith) (λ x. omega arith))
+        (no-value image q own (w .store) (λ x. omega arith) (λ x. omega arith) (λ x. omega arith) (λ x. omega arith) (λ x. omega arith) (λ x. omega arith))
         row-left)
 
     pub tried-store : q .code ≡ Write → (stored : Bool) (after : List ℕ) → Stored q pool table stored after

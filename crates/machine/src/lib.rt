@@ -1,8 +1,8 @@
 // The machine: ten calls over a state by value and lent pool, page table and image.
 // It promises: whatever is handed to it, `call` ends with the number, value, state, pool and table of `step` (step/specs/Step), the frames that a write takes
 // and gives up being the only thing left open; a refused call leaves state, pool and table as they were. It asks nothing of its caller.
-// It stands on `soundness` for the test of a state, on `in_place` and `performing` for a call on one sandbox, and
-// on `totals` for what the sandboxes have together.
+// It stands on `soundness` for the test of a state, on `rewind_call`, `in_place` and `performing` for a call on one sandbox, and on `totals` for what the
+// sandboxes have together.
 ghost use mathlib.Core.Path.{_≡_};
 ghost use Rattle.state.specs.World.{worldOf};
 ghost use Rattle.step.specs.Step.{Stepped};
@@ -11,6 +11,7 @@ use interface::Answer;
 use interface::Refusal;
 use interface::Request;
 use performing::act;
+use rewind_call::rewind_sandbox;
 use soundness::sound::sound;
 use state::sandbox::Machine;
 use step::Reply;
@@ -34,6 +35,19 @@ pub fn call(machine: Machine, pool: &mut [u8], table: &mut [u16], image: &[u8], 
     let mut m = machine;
     let sandboxes = m.sandboxes;
     let b = sandboxes[k];
+    // a rewind asks nothing of the other sandboxes
+    if q.code == Request::REWIND {
+        let rewound = rewind_sandbox(b, m.held, pool, table, image, q);
+        let back = rewound.sandbox;
+        let marks = rewound.held;
+        let value = rewound.answer;
+        m.sandboxes[k] = back;
+        m.held = marks;
+        return Reply {
+            machine: m,
+            answer: value,
+        };
+    }
     let tried = in_place::answer(b, pool, table, image, q);
     if tried.done {
         let answer = tried.answer;

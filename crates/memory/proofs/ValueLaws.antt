@@ -5,7 +5,7 @@ use mathlib.Core.List.{List}
 use lib.ListN.{length, getD}
 use borrow.Author.Tests.{ne-eqb}
 use Rattle.interface.specs.declared.request.Request.{Request}
-use Rattle.interface.specs.Requests.{Map, Read, Snapshot, Report, Compare, pageOf, offsetOf}
+use Rattle.interface.specs.Requests.{Map, Read, Snapshot, Rewind, Report, Compare, pageOf, offsetOf}
 use Rattle.interface.specs.Slots.{mappedPages}
 use Rattle.interface.specs.Outcome.{firstOf}
 use Rattle.basics.specs.Ranges.{sum}
@@ -16,7 +16,7 @@ use Rattle.runs.specs.Row.{lengthsOf}
 use Rattle.kept.specs.Spare.{keptBy}
 use Rattle.areas.specs.Areas.{slots}
 use Rattle.state.specs.declared.sandbox.Sandbox.{Sandbox}
-use Rattle.content.specs.Content.{pageRead, differing}
+use Rattle.content.specs.Content.{pageRead, differing, changed}
 use Rattle.memory.specs.Memory.{heldBy, valueAt}
 
 module _ (image : List ℕ) (q : Request) (b : Sandbox) (st : Store) where
@@ -43,8 +43,19 @@ module _ (image : List ℕ) (q : Request) (b : Sandbox) (st : Store) where
   unfolding valueAt
   compare-value value e v = v ∙ rw e
 
-  pub no-value : (q .code ≡ Map → ⊥) → (q .code ≡ Read → ⊥) → (q .code ≡ Snapshot → ⊥) → (q .code ≡ Report → ⊥) → (q .code ≡ Compare → ⊥)
-      → 0 ≡ valueAt image q b st
+  pub rewind-value : (value : ℕ) → q .code ≡ Rewind → value ≡ changed image st (b .rec) (q .sandbox) → value ≡ valueAt image q b st
   unfolding valueAt
-  no-value m r s t d =
-      rw (ne-eqb (q .code) Map m, ne-eqb (q .code) Read r, ne-eqb (q .code) Snapshot s, ne-eqb (q .code) Report t, ne-eqb (q .code) Compare d)
+  rewind-value value e v = v ∙ rw e
+
+  pub no-value : (q .code ≡ Map → ⊥) → (q .code ≡ Read → ⊥) → (q .code ≡ Snapshot → ⊥) → (q .code ≡ Report → ⊥) → (q .code ≡ Compare → ⊥)
+      → (q .code ≡ Rewind → ⊥) → 0 ≡ valueAt image q b st
+  unfolding valueAt
+  no-value m r s t d w =
+      rw (
+        ne-eqb (q .code) Map m,
+        ne-eqb (q .code) Read r,
+        ne-eqb (q .code) Snapshot s,
+        ne-eqb (q .code) Report t,
+        ne-eqb (q .code) Compare d,
+        ne-eqb (q .code) Rewind w,
+      )

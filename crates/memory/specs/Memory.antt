@@ -22,7 +22,7 @@ use Rattle.areas.specs.Areas.{slots}
 use Rattle.records.specs.declared.Record.{Record}
 use Rattle.state.specs.declared.sandbox.Sandbox.{Sandbox}
 use Rattle.state.specs.World.{World, framesOf, rowsOf}
-use Rattle.content.specs.Content.{pageUnder, pageRead, copyPage, differing}
+use Rattle.content.specs.Content.{pageUnder, pageRead, copyPage, differing, changed}
 
 -- ---- frames
 
@@ -94,4 +94,5 @@ valueAt image q b st =
     mappedPages (slots (b .rec .present)) when q is Snapshot else
     heldBy st (q .sandbox) + keptBy (row (b .runs)) when q is Report else
     differing image st (b .rec) (q .sandbox) when q is Compare else
+    changed image st (b .rec) (q .sandbox) when q is Rewind else
     0

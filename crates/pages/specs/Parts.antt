@@ -1,6 +1,6 @@
 -- A part of a list, and a list with a part replaced; a frame is the part that its number and the size of a page say.
 use Prim.Native.Nat.{ℕ, zero, suc, _+_, _*_}
-use mathlib.Core.Bool.{Bool}
+use mathlib.Core.Bool.{Bool, not}
 use mathlib.Core.List.{List, [], _∷_, _++_}
 use lib.ListN.{length, getD, take, drop, replicate}
 use Rattle.basics.specs.Ranges.{alike}
@@ -35,3 +35,7 @@ setFrame size xs f ys = setPart xs (f * size) ys
 -- the first size bytes of two pages are the same
 unfoldable pub sameBytes : ℕ → List ℕ → List ℕ → Bool
 sameBytes size xs ys = alike (λ o. getD xs o 0) (λ o. getD ys o 0) size
+
+-- request A4, "whether any byte differed": the first size bytes of two pages are not all the same
+abbrev pub differs : ℕ → List ℕ → List ℕ → Bool
+differs size xs ys = not (sameBytes size xs ys)

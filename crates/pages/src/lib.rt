@@ -5,7 +5,7 @@ ghost use mathlib.Core.Path.{_≡_};
 ghost use Prim.Native.Nat.{_<_};
 ghost use lib.ListN.{length, getD, set};
 ghost use Rattle.interface.specs.Numbers.{PageBytes};
-ghost use Rattle.pages.specs.Parts.{zeros, sameBytes};
+ghost use Rattle.pages.specs.Parts.{zeros, sameBytes, differs};
 
 // "a page has 256 bytes"
 pub struct Page;
@@ -69,4 +69,46 @@ pub fn is_same(part: &[u8], other: &[u8]) -> bool
         same = same & (part[i] == other[i]);
     }
     same
+}
+
+// The bytes of the part become those of `src`, and whether any of them differed is told, in one pass over the part: a quarter of it is compared at a time, and
+// from the first quarter that differs on the bytes are copied. Those before it are the same already.
+pub fn restore(part: &mut [u8], src: &[u8]) -> bool
+    requires { ⌜ length (now part) ≡ length (now src) ⌝ }
+    ensures { λ r. ⌜ now (part .exit) ≡ now (src .entry) ⌝ }
+    ensures differed { λ r. ⌜ r ≡ differs (length (now (part .entry))) (now (part .entry)) (now (src .entry)) ⌝ }
+{
+    let half = src.len() / 2;
+    if restore_half(&mut part[..half], &src[..half]) {
+        fill(&mut part[half..], &src[half..]);
+        return true;
+    }
+    restore_half(&mut part[half..], &src[half..])
+}
+
+// A half of it, by quarters.
+fn restore_half(part: &mut [u8], src: &[u8]) -> bool
+    requires { ⌜ length (now part) ≡ length (now src) ⌝ }
+    ensures { λ r. ⌜ now (part .exit) ≡ now (src .entry) ⌝ }
+    ensures differed { λ r. ⌜ r ≡ differs (length (now (part .entry))) (now (part .entry)) (now (src .entry)) ⌝ }
+{
+    let half = src.len() / 2;
+    if restore_quarter(&mut part[..half], &src[..half]) {
+        fill(&mut part[half..], &src[half..]);
+        return true;
+    }
+    restore_quarter(&mut part[half..], &src[half..])
+}
+
+// A quarter of it: copied only where it differs.
+fn restore_quarter(part: &mut [u8], src: &[u8]) -> bool
+    requires { ⌜ length (now part) ≡ length (now src) ⌝ }
+    ensures { λ r. ⌜ now (part .exit) ≡ now (src .entry) ⌝ }
+    ensures differed { λ r. ⌜ r ≡ differs (length (now (part .entry))) (now (part .entry)) (now (src .entry)) ⌝ }
+{
+    if is_same(part, src) {
+        return false;
+    }
+    fill(part, src);
+    true
 }

@@ -1,6 +1,7 @@
-// A call on one sandbox: what is decided of it, and, where it is accepted, performed.
+// A call on one sandbox that is no rewind: what is decided of it, and, where it is accepted, performed.
 // It promises: with the sandbox put back in its place, what `act` leaves and answers is the step of any sound state of which it was handed a sandbox, the
 // frames that a write takes and gives up being the only thing left open.
+// A rewind is performed by `rewind_call`.
 // It stands on `decision` for what is refused, on `effects` and `values` for the lent memory, the runs and the value, on `rules` for the sandbox's record, and
 // on `totals` for what it is told of the other sandboxes.
 ghost use mathlib.Core.Path.{_≡_};
@@ -8,7 +9,7 @@ ghost use mathlib.Core.Bool.{true};
 ghost use mathlib.Core.List.{List};
 ghost use Prim.Native.Nat.{_<_};
 ghost use Rattle.interface.specs.Numbers.{Sandboxes};
-ghost use Rattle.interface.specs.Requests.{isCall};
+ghost use Rattle.interface.specs.Requests.{isCall, Rewind};
 ghost use Rattle.interface.specs.Answers.{answered};
 ghost use Rattle.table.specs.Store.{kept};
 ghost use Rattle.state.specs.declared.sandbox.Sandbox.{Sandbox as Owner};
@@ -36,6 +37,7 @@ pub fn act(
     q: Request,
 ) -> Acted
     requires { ⌜ isCall q ≡ true ⌝ }
+    requires { ⌜ (q .code ≡ Rewind → ⊥) ⌝ }
     requires { ⌜ q .sandbox < Sandboxes ⌝ }
     requires { ⌜ ((row : List Owner) × Stands (now image) q b all (kept (all .held) (now pool) (now table)) row) ⌝ }
     ensures { λ r. ⌜ ((row : List Owner) →

@@ -1,11 +1,12 @@
--- The starred cases, "Turned back", "Still clean?", "Unmapping over gaps" and "Keep the frames of a finished request", by computation.
+-- The starred cases, "Turned back", "Still clean?", "Unmapping over gaps", "Keep the frames of a finished request" and "How many pages were put back?", by
+-- computation.
 use mathlib.Core.Path.{_≡_, refl}
 use mathlib.Core.Bool.{true}
 use mathlib.Core.List.{List, [], _∷_}
 use Rattle.basics.specs.Ranges.{count, sum, every, lowest, inside, over, alike}
 use Rattle.basics.specs.Rows.{best, movedUp, push, walkTo, walked}
 use Rattle.interface.specs.Slots.{follows, joins, areas, mappedPages, uncommittedPages, lowestGap, chargeOf}
-use Rattle.comparison.specs.Compare.{agree, lowestDifference}
+use Rattle.comparison.specs.Compare.{agree, lowestDifference, changedPages}
 use Rattle.interface.specs.Limits.{within}
 use Rattle.interface.specs.Outcome.{firstOf, slotsAfter, copyAfter}
 use Rattle.interface.specs.Refusals.{allMapped, applies, refusal}
@@ -13,12 +14,14 @@ use Rattle.interface.specs.Requests.{Open}
 use Rattle.run_choice.specs.Runs.{runFor, granted, longestRun, runsRewound}
 use Rattle.interface.specs.Examples.{Line, _gives_, ok, call₁, mapAt}
 use Rattle.interface.specs.Edges.{closedEdges, bareEdges, fullEdges, eightEdges}
-use Rattle.plain.specs.Machine.{bytesAfter, frontAfter, backAfter, copiedBackAfter, runsAfter, framesHeld, differing, coreValue, answer, fresh}
+use Rattle.plain.specs.Machine.{bytesAfter, frontAfter, backAfter, copiedBackAfter, runsAfter, framesHeld, differing, changed, coreValue, answer}
+use Rattle.plain.specs.Machine.{fresh}
 use Rattle.plain.specs.Cases.{cases, casesOver, noImage, allGiven}
 use Rattle.plain.specs.TurnedBack.{turnedBack, small, smallCases, twoPages, eightAreas, eachAfter, turnedBackCases}
 use Rattle.plain.specs.StillClean.{stillCleanRolls, lastSeven, stillCleanImage, stillClean}
 use Rattle.plain.specs.OverGaps.{overGapsRolls, overGaps}
 use Rattle.plain.specs.KeptRuns.{keptRunsRolls, keptRunsImage, keptRuns}
+use Rattle.plain.specs.PutBack.{putBackRolls, putBack}
 use Rattle.plain.proofs.TableRuns.{played, allPlayed, reached, eachPlayed, played-given, each-given, given-append}
 
 -- what stands before the lines of a table of limits: nothing, an open sandbox, all pages mapped
@@ -46,10 +49,11 @@ all-computed :
     × (allPlayed noImage turnedBack ≡ true)
     × (allPlayed twoPages stillCleanRolls ≡ true)
     × (allPlayed noImage keptRunsRolls ≡ true)
+    × (allPlayed lastSeven putBackRolls ≡ true)
 unfolding played allPlayed reached eachPlayed count sum every lowest inside over alike follows joins areas mappedPages uncommittedPages lowestGap chargeOf agree
-    lowestDifference within firstOf slotsAfter copyAfter allMapped applies refusal bytesAfter frontAfter backAfter copiedBackAfter
-    best movedUp push walkTo walked runFor granted longestRun runsRewound runsAfter framesHeld differing coreValue answer
-all-computed = (refl, refl, refl, refl, refl, refl, refl, refl, refl, refl, refl, refl, refl, refl, refl, refl)
+    lowestDifference changedPages within firstOf slotsAfter copyAfter allMapped applies refusal bytesAfter frontAfter backAfter copiedBackAfter
+    best movedUp push walkTo walked runFor granted longestRun runsRewound runsAfter framesHeld differing changed coreValue answer
+all-computed = (refl, refl, refl, refl, refl, refl, refl, refl, refl, refl, refl, refl, refl, refl, refl, refl, refl)
 
 pub starred-cases : allGiven (casesOver noImage cases) ≡ true
 starred-cases = played-given noImage cases (all-computed .9)
@@ -76,3 +80,6 @@ pub kept-runs : allGiven keptRuns ≡ true
 kept-runs =
     given-append (casesOver noImage keptRunsRolls) (casesOver twoPages keptRunsImage) (played-given noImage keptRunsRolls (all-computed .15))
     (played-given twoPages keptRunsImage (all-computed .10))
+
+pub put-back : allGiven putBack ≡ true
+put-back = played-given lastSeven putBackRolls (all-computed .16)

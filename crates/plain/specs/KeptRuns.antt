@@ -19,6 +19,7 @@ reports frames = call Report gives ok frames
 abbrev opened : ℕ → List Line → List Line
 opened share rest = call₁ Open share gives ok 0 ∷ call Snapshot gives ok 0 ∷ rest
 
+-- no committed page was changed
 abbrev rewound : Line
 rewound = call Rewind gives ok 0
 
@@ -33,7 +34,8 @@ keptRunsRolls =
     opened 8 (mapAt 0 4 gives ok 0 ∷ written 0 ∷ written 1 ∷ written 2 ∷ written 3 ∷ call₃ Protect 2 2 1 gives ok 0 ∷ rewound ∷ reports 4 ∷
     mapAt 64 4 gives ok 0 ∷ written 0 ∷ written 1 ∷ reports 4 ∷ written 2 ∷ reports 5 ∷ []) ∷
     -- committed pages: their fronts stay theirs, and nothing is kept; a page mapped anew over one is uncommitted, and its frame is
-    (call₁ Open 8 gives ok 0 ∷ mapAt 0 2 gives ok 0 ∷ written 0 ∷ call Snapshot gives ok 2 ∷ written 0 ∷ written 1 ∷ reports 3 ∷ rewound ∷ reports 3 ∷
+    (call₁ Open 8 gives ok 0 ∷ mapAt 0 2 gives ok 0 ∷ written 0 ∷ call Snapshot gives ok 2 ∷ written 0 ∷ written 1 ∷ reports 3 ∷ call Rewind gives ok 1 ∷
+    reports 3 ∷
     mapAt 64 1 gives ok 2 ∷ written 2 ∷ reports 4 ∷ call₂ Unmap 0 3 gives ok 0 ∷ reports 1 ∷ mapAt 0 1 gives ok 0 ∷ call₂ Write 0 9 gives ok 0 ∷ reports 2 ∷
     rewound ∷ reports 2 ∷ call₁ Read 0 gives ok 7 ∷ mapAt 64 1 gives ok 2 ∷ written 2 ∷ reports 2 ∷ []) ∷
     -- "An anonymous map at 64 takes the shortest run at least as long as its pages": of 3, 1 and 2 for 2 pages the 2, for 3 the 3, for 1 the 1, and then none

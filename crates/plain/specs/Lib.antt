@@ -5,3 +5,4 @@ pub mod TurnedBack
 pub mod StillClean
 pub mod OverGaps
 pub mod KeptRuns
+pub mod PutBack

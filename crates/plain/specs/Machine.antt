@@ -16,7 +16,7 @@ use Rattle.interface.specs.declared.request.Request.{Request}
 use Rattle.interface.specs.Answers.{Answered}
 use Rattle.interface.specs.Requests.{_is_, Map, Unmap, Read, Write, Snapshot, Rewind, Report, Compare, pageOf, offsetOf, backingOf}
 use Rattle.interface.specs.Slots.{Slots, isCommitted, advance, mappedPages, copied}
-use Rattle.comparison.specs.Compare.{lowestDifference}
+use Rattle.comparison.specs.Compare.{lowestDifference, changedPages}
 use Rattle.interface.specs.Outcome.{firstOf, slotsAfter, copyAfter, shareAfter}
 use Rattle.interface.specs.Refusals.{View, refusal}
 use Rattle.run_choice.specs.Runs.{runPlaces, takesRun, runFor, granted, longestRun, givesUp, runsRewound}
@@ -165,16 +165,26 @@ keptAfter g q k = record { core = coreAfter g q (k .core); traces = tracesAfter 
 
 -- ---- the values
 
--- request A1: "the lowest page number at which the sandbox and its snapshot differ in being mapped, in rights or in bytes", all 256 bytes compared
-unfoldable pub differing : Core → ℕ
-differing c = lowestDifference (c .pages .slots) (copied (copySlots c)) (λ i. alike (c .pages .bytes i) (copyBytes (c .copy) i) PageBytes)
+-- whether page i has the copy's bytes, all 256 compared
+abbrev pub sameAt : Core → ℕ → Bool
+sameAt c i = alike (c .pages .bytes i) (copyBytes (c .copy) i) PageBytes
 
--- map: "Value: first page"; read: "Value: the byte"; snapshot: "Value: pages committed"; call 10: the page; "Value 0 where none is named"
+-- request A1: "the lowest page number at which the sandbox and its snapshot differ in being mapped, in rights or in bytes"
+unfoldable pub differing : Core → ℕ
+differing c = lowestDifference (c .pages .slots) (copied (copySlots c)) (sameAt c)
+
+-- request A4: "the number of committed pages still mapped whose bytes differed from the snapshot"
+unfoldable pub changed : Core → ℕ
+changed c = changedPages (c .pages .slots) (sameAt c)
+
+-- map: "Value: first page"; read: "Value: the byte"; snapshot: "Value: pages committed"; rewind: the pages that it changes back; call 10: the page;
+-- "Value 0 where none is named"
 unfoldable pub coreValue : Given → Request → Core → ℕ
 coreValue g q c =
     firstOf (c .pages .slots) q when q is Map else
     c .pages .bytes (pageOf q) (offsetOf q) when q is Read else
     mappedPages (c .pages .slots) when q is Snapshot else
+    changed c when q is Rewind else
     differing c when q is Compare else
     0
 

@@ -43,7 +43,7 @@ stillCleanRolls =
     (call₁ Open 8 gives ok 0 ∷ call Snapshot gives ok 0 ∷ call Compare gives ok 64 ∷ mapAt 0 1 gives ok 0 ∷ call Compare gives ok 0 ∷ []) ∷
     -- written, unmapped, protected, mapped; and rewound
     (call₁ Open 8 gives ok 0 ∷ mapAt 0 3 gives ok 0 ∷ call₂ Write 5 7 gives ok 0 ∷ call Snapshot gives ok 3 ∷ call₂ Write 5 9 gives ok 0 ∷
-    call₂ Unmap 1 1 gives ok 0 ∷ call₃ Protect 2 1 1 gives ok 0 ∷ mapAt 3 1 gives ok 3 ∷ call Compare gives ok 0 ∷ call Rewind gives ok 0 ∷
+    call₂ Unmap 1 1 gives ok 0 ∷ call₃ Protect 2 1 1 gives ok 0 ∷ mapAt 3 1 gives ok 3 ∷ call Compare gives ok 0 ∷ call Rewind gives ok 1 ∷
     call Compare gives ok 64 ∷ []) ∷
     -- it changes nothing: the same report, byte and answer after it
     (call₁ Open 8 gives ok 0 ∷ mapAt 0 2 gives ok 0 ∷ call₂ Write 5 7 gives ok 0 ∷ call Snapshot gives ok 2 ∷ call₂ Write 300 4 gives ok 0 ∷

@@ -79,7 +79,7 @@ unfolding within
 read-page images q e w = ltb-true (q .p1) 16384 (and-left (ltb (q .p1) 16384) _ (rw (eqb-true (q .code) Read e) at w))
 
 -- call 10 accepted: what it says of the sandbox
-accepted-compare : (g : Given) (p : Plain) (s : ℕ) → answer g p (compareOf s) ≡ ok 64
+pub accepted-compare : (g : Given) (p : Plain) (s : ℕ) → answer g p (compareOf s) ≡ ok 64
     → Accepted (viewOf g (shares p) (p s .core)) (compareOf s) × (differing (p s .core) ≡ 64)
 unfolding answer coreValue
 accepted-compare g p s e =

@@ -6,6 +6,7 @@ pub mod KeptLaws
 pub mod ReadLaws
 pub mod CleanLaws
 pub mod Claims
+pub mod PutBackLaws
 pub mod Corollaries
 pub mod OverGapsLaws
 pub mod KeepsNothingLaws

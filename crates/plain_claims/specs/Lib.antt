@@ -1,4 +1,5 @@
--- In reading order: lists of requests, what is claimed, the machine that keeps nothing.
+-- In reading order: lists of requests, what is claimed, the value of a rewind, the machine that keeps nothing.
 pub mod Lists
 pub mod Claims
+pub mod PutBack
 pub mod KeepsNothing

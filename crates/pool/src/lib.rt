@@ -1,4 +1,4 @@
-// The lent pool as frames of one page each, named by number: whole frames cleared, filled, loaded and copied.
+// The lent pool as frames of one page each, named by number: whole frames cleared, filled, loaded, copied and restored.
 // It promises that a function which is given a frame to change leaves the pool it got with "one frame's 256 bytes of the pool"
 // replaced, and no other byte changed.
 // It stands on `pages`, to which the frame's part of the pool is lent on, and on `frames` for the number of a frame.
@@ -6,7 +6,7 @@ ghost use mathlib.Core.Path.{_≡_};
 ghost use Prim.Native.Nat.{_+_, _*_, _≤_};
 ghost use lib.ListN.{length};
 ghost use Rattle.interface.specs.Numbers.{PageBytes};
-ghost use Rattle.pages.specs.Parts.{zeros, frame, setFrame};
+ghost use Rattle.pages.specs.Parts.{zeros, frame, setFrame, differs};
 use frames::FrameNo;
 use pages::Page;
 
@@ -47,6 +47,30 @@ pub fn copy_frame(pool: &mut [u8], from: FrameNo, to: FrameNo)
 {
     let page = load_frame(pool, from);
     fill_frame(pool, to, &page);
+}
+
+// Frame `f` gets the bytes of `src`, which is a page long, and whether any of them differed is told.
+pub fn restore_frame(pool: &mut [u8], f: FrameNo, src: &[u8]) -> bool
+    requires { ⌜ f .0 * PageBytes + PageBytes ≤ length (now pool) ⌝ }
+    requires { ⌜ length (now src) ≡ PageBytes ⌝ }
+    ensures { λ r. ⌜ now (pool .exit) ≡ setFrame PageBytes (now (pool .entry)) (f .0) (now (src .entry)) ⌝ }
+    ensures differed { λ r. ⌜ r ≡ differs PageBytes (frame PageBytes (now (pool .entry)) (f .0)) (now (src .entry)) ⌝ }
+{
+    let start = f.0 as usize * Page::SIZE;
+    pages::restore(&mut pool[start..start + Page::SIZE], src)
+}
+
+// Frame `to` gets the bytes of frame `from`, by way of a page by value, and whether any of them differed is told.
+pub fn restore_from(pool: &mut [u8], from: FrameNo, to: FrameNo) -> bool
+    requires { ⌜ from .0 * PageBytes + PageBytes ≤ length (now pool) ⌝ }
+    requires { ⌜ to .0 * PageBytes + PageBytes ≤ length (now pool) ⌝ }
+    ensures { λ r. ⌜ (let before = now (pool .entry) in
+        now (pool .exit) ≡ setFrame PageBytes before (to .0) (frame PageBytes before (from .0))) ⌝ }
+    ensures differed { λ r. ⌜ (let before = now (pool .entry) in
+        r ≡ differs PageBytes (frame PageBytes before (to .0)) (frame PageBytes before (from .0))) ⌝ }
+{
+    let bytes = load_frame(pool, from);
+    restore_frame(pool, to, &bytes)
 }
 
 // All bytes of the pool become zero.

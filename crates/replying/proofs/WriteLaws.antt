@@ -51,5 +51,5 @@ module _ (image : List ℕ) (q : Request) (b : Sandbox) (all : Together) (st : S
   acted-write after runs t =
       acted-accepted image q b all st row S 0 (b .rec) after runs n
       (no-value image q b st (λ x. omega (arith, e, x)) (λ x. omega (arith, e, x)) (λ x. omega (arith, e, x)) (λ x. omega (arith, e, x))
-      (λ x. omega (arith, e, x)))
+      (λ x. omega (arith, e, x)) (λ x. omega (arith, e, x)))
       record-stays t

@@ -1,18 +1,21 @@
--- The pages of an area behind its first ones: their backing, the image's pages for them, and the store after all of them.
-use mathlib.Core.Path.{_≡_, refl, ap, _∙_}
+-- The pages of an area behind its first ones: their backing, the image's pages for them, the store after all of them, and how many were changed.
+use mathlib.Core.Path.{_≡_, refl, sym, ap, ap₂, _∙_}
 use mathlib.Core.Bool.{true}
 use mathlib.Core.List.{List}
-use Prim.Native.Nat.{ℕ, _+_, _≤_, _<_}
+use Prim.Native.Nat.{ℕ, _+_, _-_, _≤_, _<_}
 use native.Mathlib.Omega.{arith}
 use lib.ListN.{length}
 use Rattle.interface.specs.declared.page.Backing.{Backing}
 use Rattle.interface.specs.declared.page.Backing.the-variants.{Anonymous, Image}
 use Rattle.interface.specs.Slots.{advance, startOf}
-use Rattle.table.specs.Store.{Store, rewindTo}
+use Rattle.table.specs.Store.{Store, entry, rewindTo}
 use Rattle.table.specs.Backing.{backingPage}
 use Rattle.table.proofs.TouchLaws.{backing-whole}
-use Rattle.table.proofs.RewindLaws.{rewindTo-join, rewindTo-same}
+use Rattle.table.proofs.RewindLaws.{rewindTo-join, rewindTo-same, rewindTo-none}
 use Rattle.restoring.specs.Backed.{backingOn, Backed}
+use Rattle.restoring.specs.Changed.{changedTo}
+use Rattle.restoring.specs.Restored.{RestoredTo}
+use Rattle.restoring.proofs.ChangedLaws.{changed-join, changed-alike, changed-frontless}
 
 advance-on : (b : Backing) (n i : ℕ) → advance (advance b n) i ≡ advance b (n + i)
 advance-on Anonymous n i = refl
@@ -32,13 +35,38 @@ module _ (image : List ℕ) (b : Backing) (n : ℕ) (B : Backed image b n) where
     there = λ k d. rw (advance-on b i k) (B .there (i + k) (omega arith));
   }
 
--- i pages restored, and then the m pages behind them
-pub restored-on : (image : List ℕ) (b : Backing) (at : ℕ) (s r q : Store) (i m : ℕ)
-    → r ≡ rewindTo 256 at (λ k. true) (backingOn image b) s i → q ≡ rewindTo 256 (at + i) (λ k. true) (backingOn image (advance b i)) r m
-    → q ≡ rewindTo 256 at (λ k. true) (backingOn image b) s (i + m)
-restored-on image b at s r q i m e f =
-    f
-    ∙ rewindTo-same 256 (at + i) (λ k. true) (λ k. true) (backingOn image (advance b i)) (λ k. backingOn image b (i + k)) r m
-    (λ k l. (refl, ap (backingPage image) (advance-on b i k)))
-    ∙ ap (λ (x : Store). rewindTo 256 (at + i) (λ k. true) (λ k. backingOn image b (i + k)) x m) e
-    ∙ rewindTo-join 256 at (λ k. true) (backingOn image b) s i m
+-- ---- so many pages restored, and then more
+
+module _ (image : List ℕ) (b : Backing) (at : ℕ) (s : Store) where
+  pub none-restored : RestoredTo image b at s s 0 0
+  unfolding rewindTo changedTo
+  none-restored = record { left = refl; told = refl }
+
+  -- and then the m pages behind them
+  pub restored-on : (r q : Store) (c d i m : ℕ) → RestoredTo image b at s r c i → RestoredTo image (advance b i) (at + i) r q d m → RestoredTo image b at s q (c + d) (i + m)
+  restored-on r q c d i m U W =
+      let on : (k : ℕ) → k < m → (true ≡ true) × (backingOn image (advance b i) k ≡ backingOn image b (i + k)) =
+      λ k l. (refl, ap (backingPage image) (advance-on b i k)) in record {
+        left =
+            W .left
+            ∙ rewindTo-same 256 (at + i) (λ k. true) (λ k. true) (backingOn image (advance b i)) (λ k. backingOn image b (i + k)) r m on
+            ∙ ap (λ (x : Store). rewindTo 256 (at + i) (λ k. true) (λ k. backingOn image b (i + k)) x m) (U .left)
+            ∙ rewindTo-join 256 at (λ k. true) (backingOn image b) s i m;
+        told =
+            ap₂ (λ (x y : ℕ). x + y) (U .told)
+            (W .told
+            ∙ changed-alike 256 (at + i) (λ k. true) (λ k. true) (backingOn image (advance b i)) (λ k. backingOn image b (i + k)) r m on
+            ∙ ap (λ (x : Store). changedTo 256 (at + i) (λ k. true) (λ k. backingOn image b (i + k)) x m) (U .left))
+            ∙ changed-join 256 at (λ k. true) (backingOn image b) s i m;
+      }
+
+  -- and then pages without a front, up to page j
+  pub restored-past : (r : Store) (c i j : ℕ) → RestoredTo image b at s r c i → i ≤ j → ((k : ℕ) → i ≤ k → k < j → entry r (at + k) ≡ 0) → RestoredTo image b at s r c j
+  restored-past r c i j U l h =
+      let none : (k : ℕ) → k < j - i → entry r (at + i + k) ≡ 0 =
+      λ k m. let place : at + i + k ≡ at + (i + k) = omega arith in rw place (h (i + k) (omega arith) (omega arith)) in
+      let same = rewindTo-none 256 (at + i) (λ k. true) (backingOn image (advance b i)) r (j - i) none in
+      let zero = changed-frontless 256 (at + i) (λ k. true) (backingOn image (advance b i)) r (j - i) none in
+      let end : i + (j - i) ≡ j = omega arith in
+      let sum : c + 0 ≡ c = omega arith in
+      rw (sum, end) at (restored-on r r c 0 i (j - i) U (record { left = sym same; told = sym zero }))

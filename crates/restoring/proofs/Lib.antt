@@ -1,1 +1,2 @@
+pub mod ChangedLaws
 pub mod BackedLaws

@@ -1,1 +1,3 @@
 pub mod Backed
+pub mod Changed
+pub mod Restored

@@ -1,25 +1,30 @@
-// Committed pages restored: a rewind gives their fronts the snapshot's bytes.
-// It promises: what is left is the store that table/specs/Store defines of it (`rewindTo`, all fronts kept), whatever marks there are; the laws of it stand
-// in `table`.
-// It stands on `page_fill` for the bytes that a frame gets, on `table` for entries and the store, and on `slots` and `interface` for a page's backing.
+// Committed pages restored: a rewind gives their fronts the snapshot's bytes, and counts those whose bytes differed.
+// It promises: what is left is the store that table/specs/Store defines of it (`rewindTo`, all fronts kept), whatever marks there are, and the number is the
+// one of specs/Changed (`changedTo`): together `RestoredTo`. The laws of the store stand in `table`.
+// It stands on `page_restore` for the bytes that a frame gets, on `table` for entries and the store, and on `slots` and `interface` for a page's backing.
 ghost use mathlib.Core.Path.{_≡_};
 ghost use mathlib.Core.Bool.{true};
-ghost use Prim.Native.Nat.{_+_, _*_, _≤_, _<_};
-ghost use lib.ListN.{length};
+ghost use Prim.Native.Nat.{ℕ, _+_, _*_, _≤_, _<_};
+ghost use lib.Dec.{ltb};
+ghost use lib.ListN.{length, getD};
+ghost use Rattle.basics.specs.Choice.{_when_else_};
+ghost use Rattle.basics.specs.Ranges.{one};
 ghost use Rattle.interface.specs.Numbers.{PageBytes, PageCount, TableEntries};
 ghost use Rattle.frames.specs.declared.Held.{Held as Words};
-ghost use Rattle.table.specs.Store.{kept, Ranged, rewindPage, rewindTo};
+ghost use Rattle.table.specs.Store.{kept, Ranged, rewindPage};
 ghost use Rattle.table.specs.Backing.{backingPage, backingEnd};
-ghost use Rattle.restoring.specs.Backed.{backingOn, Backed};
+ghost use Rattle.restoring.specs.Changed.{pageDiffers};
+ghost use Rattle.restoring.specs.Restored.{RestoredTo};
+ghost use Rattle.restoring.specs.Backed.{Backed};
 use interface::Backing;
 use interface::PageNo;
-use page_fill::fill_frame;
+use page_restore::restore_frame;
 use slots::advanced;
 use table::entry::GROUP;
 use table::entry::are_empty;
 use table::entry::frame_of;
 
-// So many committed pages are restored, eight of them looked at together. The first has its front entry at a place of the table, and this backing.
+// So many committed pages are restored, and how many had other bytes is told. The first has its front entry at a place of the table, and this backing.
 pub fn restore_pages(
     pool: &mut [u8],
     table: &[u16],
@@ -27,44 +32,53 @@ pub fn restore_pages(
     at: usize,
     pages: u8,
     backing: Backing,
-)
+) -> u8
     requires { ⌜ at + pages + PageCount ≤ TableEntries ⌝ }
     requires { ⌜ Ranged PageBytes (now pool) (now table) ⌝ }
     requires { ⌜ Backed (now image) backing pages ⌝ }
     requires { ⌜ pages ≤ PageCount ⌝ }
-    ensures { λ r. ⌜ ((h : Words) → let table = now (table .entry) in let image = now (image .entry) in
-        kept h (now (pool .exit)) table
-        ≡ rewindTo PageBytes at (λ i. true) (backingOn image backing) (kept h (now (pool .entry)) table) pages) ⌝ }
+    ensures { λ r. ⌜ ((h : Words) → let before = kept h (now (pool .entry)) (now (table .entry)) in
+        RestoredTo (now (image .entry)) backing at before (kept h (now (pool .exit)) (now (table .entry))) r pages) ⌝ }
 {
-    let groups = pages / GROUP;
-    for k in 0..groups {
-        let i = k * GROUP;
-        restore_group(pool, table, image, at + i as usize, advanced(backing, i));
+    let mut changed: u8 = 0;
+    let mut i = next_front(table, at, 0, pages);
+    while i < pages {
+        let n = group_of(pages - i);
+        changed = changed
+            + restore_each(pool, table, image, at + i as usize, n, advanced(backing, i));
+        i = next_front(table, at, i + n, pages);
     }
-    let done = groups * GROUP;
-    restore_each(
-        pool,
-        table,
-        image,
-        at + done as usize,
-        pages - done,
-        advanced(backing, done),
-    );
+    changed
 }
 
-// Eight committed pages are restored. Where none has a front, nothing is done.
-fn restore_group(pool: &mut [u8], table: &[u16], image: &[u8], at: usize, backing: Backing)
-    requires { ⌜ at + 8 + PageCount ≤ TableEntries ⌝ }
-    requires { ⌜ Ranged PageBytes (now pool) (now table) ⌝ }
-    requires { ⌜ Backed (now image) backing 8 ⌝ }
-    ensures { λ r. ⌜ ((h : Words) → let table = now (table .entry) in let image = now (image .entry) in
-        kept h (now (pool .exit)) table
-        ≡ rewindTo PageBytes at (λ i. true) (backingOn image backing) (kept h (now (pool .entry)) table) 8) ⌝ }
+// Eight pages, or as many as are left.
+fn group_of(left: u8) -> u8
+    ensures { λ r. ⌜ r ≡ (left when ltb left 8 else 8) ⌝ }
 {
-    if are_empty(table, at) {
-        return;
+    if left < GROUP {
+        return left;
     }
-    restore_each(pool, table, image, at, GROUP, backing);
+    GROUP
+}
+
+// From one page on, the page at which eight entries are not all empty; the end where there is none. So a rewind works in proportion to the fronts there are: of
+// the other entries, eight are looked at together.
+fn next_front(table: &[u16], at: usize, from: u8, pages: u8) -> u8
+    requires { ⌜ length (now table) ≡ TableEntries ⌝ }
+    requires { ⌜ at + pages + PageCount ≤ TableEntries ⌝ }
+    requires { ⌜ pages ≤ PageCount ⌝ }
+    requires { ⌜ from ≤ pages ⌝ }
+    ensures { λ r. ⌜ (from ≤ r) × (r ≤ pages) ⌝ }
+    ensures empty { λ r. ⌜ ((i : ℕ) → from ≤ i → i < r → getD (now (table .entry)) (at + i) 0 ≡ 0) ⌝ }
+{
+    let mut i = from;
+    while i < pages {
+        if !are_empty(table, at + i as usize) {
+            return i;
+        }
+        i = i + GROUP;
+    }
+    pages
 }
 
 // So many committed pages are restored, one by one.
@@ -75,32 +89,47 @@ fn restore_each(
     at: usize,
     pages: u8,
     backing: Backing,
-)
+) -> u8
     requires { ⌜ at + pages + PageCount ≤ TableEntries ⌝ }
     requires { ⌜ Ranged PageBytes (now pool) (now table) ⌝ }
     requires { ⌜ Backed (now image) backing pages ⌝ }
-    ensures { λ r. ⌜ ((h : Words) → let table = now (table .entry) in let image = now (image .entry) in
-        kept h (now (pool .exit)) table
-        ≡ rewindTo PageBytes at (λ i. true) (backingOn image backing) (kept h (now (pool .entry)) table) pages) ⌝ }
+    requires { ⌜ pages ≤ PageCount ⌝ }
+    ensures { λ r. ⌜ ((h : Words) → let before = kept h (now (pool .entry)) (now (table .entry)) in
+        RestoredTo (now (image .entry)) backing at before (kept h (now (pool .exit)) (now (table .entry))) r pages) ⌝ }
 {
+    let mut changed: u8 = 0;
     for i in 0..pages {
-        restore_page(pool, table, image, at + i as usize, advanced(backing, i));
+        let differed = restore_page(pool, table, image, at + i as usize, advanced(backing, i));
+        changed = changed + counted(differed);
     }
+    changed
 }
 
-// A committed page "keeps its front, whose bytes become the snapshot's". Without a front there is nothing to do.
-fn restore_page(pool: &mut [u8], table: &[u16], image: &[u8], at: usize, backing: Backing)
+// One page more, where it differed.
+fn counted(differed: bool) -> u8
+    ensures { λ r. ⌜ r ≡ one differed ⌝ }
+{
+    if differed {
+        return 1;
+    }
+    0
+}
+
+// A committed page "keeps its front, whose bytes become the snapshot's", and whether any of them differed is told. Without a front there is nothing to do.
+fn restore_page(pool: &mut [u8], table: &[u16], image: &[u8], at: usize, backing: Backing) -> bool
     requires { ⌜ at + PageCount < TableEntries ⌝ }
     requires { ⌜ Ranged PageBytes (now pool) (now table) ⌝ }
     requires { ⌜ backingEnd backing * PageBytes ≤ length (now image) ⌝ }
     ensures { λ r. ⌜ ((h : Words) → let table = now (table .entry) in let image = now (image .entry) in
         kept h (now (pool .exit)) table ≡ rewindPage PageBytes at (at + PageCount) true (backingPage image backing)
         (kept h (now (pool .entry)) table)) ⌝ }
+    ensures differed { λ r. ⌜ ((h : Words) → let table = now (table .entry) in let image = now (image .entry) in
+        r ≡ pageDiffers PageBytes at (at + PageCount) (backingPage image backing) (kept h (now (pool .entry)) table)) ⌝ }
 {
     let front = table[at];
     if front == 0 {
-        return;
+        return false;
     }
     let back = table[at + PageNo::COUNT];
-    fill_frame(pool, frame_of(front), back, image, backing);
+    restore_frame(pool, frame_of(front), back, image, backing)
 }

@@ -25,7 +25,8 @@ use rewinding::rewind;
 use state::sandbox::Sandbox;
 use step::Acted;
 
-// "Rewind puts the whole copy in place": the present areas become the snapshot's. The runs are found from the entries that there were.
+// "Rewind puts the whole copy in place": the present areas become the snapshot's. The runs are found from the entries that there were. "Rewind answers the
+// number of committed pages still mapped whose bytes differed from the snapshot" (A4).
 pub fn rewind_sandbox(
     b: Sandbox,
     held: Held,
@@ -58,7 +59,9 @@ pub fn rewind_sandbox(
             let snapshot = rec.snapshot;
             let runs = b.runs;
             let left = gathered(table, rec.present, runs, s);
-            let marks = rewind(held, pool, table, image, rec, s);
+            let restored = rewind(held, pool, table, image, rec, s);
+            let marks = restored.held;
+            let changed = restored.changed;
             let after = rec.with_present(snapshot);
             Acted {
                 sandbox: Sandbox {
@@ -66,7 +69,7 @@ pub fn rewind_sandbox(
                     runs: left,
                 },
                 held: marks,
-                answer: Answer::Value(0),
+                answer: Answer::Value(changed as u32),
             }
         }
     }

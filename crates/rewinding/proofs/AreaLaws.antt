@@ -1,4 +1,5 @@
--- A rewind area by area is the rewind page by page: a committed area keeps its fronts, and all pages between two such areas give theirs up.
+-- A rewind area by area is the rewind page by page: a committed area keeps its fronts, and all pages between two such areas give theirs up. The changed pages
+-- of the areas are those of all pages.
 use Prim.Native.Nat.{ℕ, _+_, _-_, _*_, _≤_, _<_}
 use mathlib.Core.Path.{_≡_, sym, ap, _∙_}
 use mathlib.Core.Bool.{Bool, true, false}
@@ -24,8 +25,10 @@ use Rattle.areas.specs.Walk.{Formed}
 use Rattle.areas.proofs.FewAreas.{area-slot}
 use Rattle.areas.proofs.WalkLaws.{settled, endOf, Before, before-start, before-gap, before-next, before-last}
 use Rattle.restoring.specs.Backed.{backingOn, Backed}
+use Rattle.restoring.specs.Changed.{changedTo}
+use Rattle.restoring.proofs.ChangedLaws.{changed-join, changed-alike, changed-freed}
 use Rattle.restoring.proofs.BackedLaws.{backed-whole}
-use Rattle.area_rewind.specs.AreaRewound.{areaRewound}
+use Rattle.area_rewind.specs.AreaRewound.{areaRewound, areaChanged}
 
 -- which pages keep their fronts, and the bytes of a page without a back, as the present areas say it
 abbrev pub keeps : Areas → ℕ → Bool
@@ -122,6 +125,14 @@ module _ (image : List ℕ) (few : pagesIn (length image) ≤ 64) (present : Are
         ∙ rewindTo-join 256 (s * 128) (keeps present) (bytes image present) st page (end - page)
         ∙ ap upTo e
 
+    -- what the present areas say of the pages of a committed one
+    as-area : (k : ℕ) → k < present .count → at k .committed ≡ true → (i : ℕ) → i < at k .pages → let first = at k .first .0 in
+        (true ≡ keeps present (first + i)) × (backingOn image (at k .backing) i ≡ bytes image present (first + i))
+    as-area k l c i u =
+        let first : ℕ = at k .first .0 in
+        let on : first + i - first ≡ i = omega arith in
+        (rw (of-area k l i u) (sym c), rw (of-area k l i u, on))
+
     -- those of a committed area
     over-area : (k : ℕ) → k < present .count → at k .committed ≡ true
         → rewindTo 256 (frontOf s (at k .first .0)) (λ i. true) (backingOn image (at k .backing)) (upTo (at k .first .0)) (at k .pages)
@@ -129,27 +140,56 @@ module _ (image : List ℕ) (few : pagesIn (length image) ≤ 64) (present : Are
     over-area k l c =
         let first : ℕ = at k .first .0 in
         rewindTo-same 256 (s * 128 + first) (λ i. true) (λ i. keeps present (first + i)) (backingOn image (at k .backing))
-        (λ i. bytes image present (first + i)) (upTo first) (at k .pages)
-        (λ i u. let on : first + i - first ≡ i = omega arith in
-        (rw (of-area k l i u) (sym c), rw (of-area k l i u, on)))
+        (λ i. bytes image present (first + i)) (upTo first) (at k .pages) (as-area k l c)
         ∙ rewindTo-join 256 (s * 128) (keeps present) (bytes image present) st first (at k .pages)
 
+    -- the pages found changed among the first
+    abbrev pub countTo : ℕ → ℕ
+    countTo n = changedTo 256 (s * 128) (keeps present) (bytes image present) st n
+
+    -- none in a gap
+    count-gap : (page end : ℕ) → page ≤ end → ((i : ℕ) → page ≤ i → i < end → keeps present i ≡ false) → countTo page ≡ countTo end
+    count-gap page end d h =
+        let e : page + (end - page) ≡ end = omega arith in
+        let none =
+        changed-freed 256 (s * 128 + page) (λ i. keeps present (page + i)) (λ i. bytes image present (page + i)) (upTo page) (end - page)
+        (λ i l. h (page + i) (omega arith) (omega arith)) in
+        let all = changed-join 256 (s * 128) (keeps present) (bytes image present) st page (end - page) in
+        let sum : countTo page ≡ countTo (page + (end - page)) = omega (arith, none, all) in
+        rw e at sum
+
+    -- those of a committed area
+    count-area : (k : ℕ) → k < present .count → at k .committed ≡ true
+        → countTo (at k .first .0)
+        + changedTo 256 (frontOf s (at k .first .0)) (λ i. true) (backingOn image (at k .backing)) (upTo (at k .first .0)) (at k .pages)
+        ≡ countTo (endOf present k)
+    count-area k l c =
+        let first : ℕ = at k .first .0 in
+        ap (λ (n : ℕ). countTo first + n)
+        (changed-alike 256 (s * 128 + first) (λ i. true) (λ i. keeps present (first + i)) (backingOn image (at k .backing))
+        (λ i. bytes image present (first + i)) (upTo first) (at k .pages) (as-area k l c))
+        ∙ changed-join 256 (s * 128) (keeps present) (bytes image present) st first (at k .pages)
+
     module _ (k page : ℕ) (L : Left present k page) where
-      -- an area more
-      pub area-more : k < present .count → (before q : Store) (r : ℕ) → before ≡ upTo page
+      -- an area more: what is left, and what is found
+      pub area-more : k < present .count → (before q : Store) (r c d : ℕ) → before ≡ upTo page → c ≡ countTo page
           → q ≡ (areaRewound image s (at k) page before when at k .committed else before) → r ≡ (endOf present k when at k .committed else page)
-          → (q ≡ upTo r) × Left present (k + 1) r
-      area-more l before q r b e f =
+          → d ≡ (c + areaChanged image s (at k) page before when at k .committed else c) → (q ≡ upTo r) × (d ≡ countTo r) × Left present (k + 1) r
+      area-more l before q r c d b n e f g =
           by-cases (at k .committed)
-          (λ c. let at-end : r ≡ endOf present k = f ∙ rw c in
+          (λ t. let at-end : r ≡ endOf present k = f ∙ rw t in
           let gap = over-gap page (at k .first .0) (left-first k page L l) (left-before k page L l) in
-          rw at-end (e ∙ rw (c, b, gap) (over-area k l c), left-done k page L l))
-          (λ c. let same : r ≡ page = f ∙ rw c in
-          rw same (e ∙ rw (c, b), left-passed k page L l c))
+          let none = count-gap page (at k .first .0) (left-first k page L l) (left-before k page L l) in
+          rw at-end (e ∙ rw (t, b, gap) (over-area k l t), g ∙ rw (t, n, b, gap, none) (count-area k l t), left-done k page L l))
+          (λ t. let same : r ≡ page = f ∙ rw t in
+          rw same (e ∙ rw (t, b), g ∙ rw (t, n), left-passed k page L l t))
 
       -- behind the last
       pub area-last : present .count ≤ k → page ≤ 64 → freeTo 256 (frontOf s page) (upTo page) (64 - page) ≡ upTo 64
       area-last l d = over-gap page 64 d (λ i g u. left-last k page L l i g)
+
+      pub count-last : present .count ≤ k → page ≤ 64 → countTo page ≡ countTo 64
+      count-last l d = count-gap page 64 d (λ i g u. left-last k page L l i g)
 
   -- what is carried along
   pub area-kept : (s k page : ℕ) (before q : Store) → k < present .count

@@ -1,1 +1,2 @@
 pub mod AreaLaws
+pub mod FoundLaws

@@ -3,9 +3,9 @@ ghost use mathlib.Core.Path.{_≡_};
 ghost use Prim.Native.Nat.{_*_, _<_};
 ghost use lib.ListN.{length};
 ghost use Rattle.interface.specs.Numbers.{PageBytes, PageCount, Sandboxes, pagesIn, SandboxEntries};
-ghost use Rattle.table.specs.Store.{kept, Ranged, rewindTo};
+ghost use Rattle.table.specs.Store.{kept, Filed, rewindTo};
 ghost use Rattle.rules.specs.Ready.{Ready};
-ghost use Rattle.content.specs.Content.{copyPage};
+ghost use Rattle.content.specs.Content.{copyPage, changed};
 ghost use Rattle.memory.specs.Memory.{keepsFront};
 use area_rewind::Rewound;
 use area_rewind::free_before;
@@ -14,6 +14,12 @@ use areas::area::Areas;
 use frames::Held;
 use interface::PageNo;
 use records::Record;
+
+// The held marks after a rewind, and "the number of committed pages still mapped whose bytes differed from the snapshot".
+pub struct Restored {
+    pub held: Held,
+    pub changed: u8,
+}
 
 // "Rewind": each front keeps its frame with the snapshot's bytes, or is freed and cleared. A committed page agrees with the snapshot's in backing, so
 // the present areas alone are looked up.
@@ -24,23 +30,30 @@ pub fn rewind(
     image: &[u8],
     b: Record,
     s: u8,
-) -> Held
+) -> Restored
     requires { ⌜ s < Sandboxes ⌝ }
     requires { ⌜ Ready (pagesIn (length (now image))) b ⌝ }
-    requires { ⌜ Ranged PageBytes (now pool) (now table) ⌝ }
+    requires { ⌜ Filed PageBytes (pagesIn (length (now pool))) (kept held (now pool) (now table)) ⌝ }
     ensures { λ r. ⌜ (let before = kept held (now (pool .entry)) (now (table .entry)) in
-        kept r (now (pool .exit)) (now (table .exit))
+        kept (r .held) (now (pool .exit)) (now (table .exit))
         ≡ rewindTo PageBytes (s * SandboxEntries) (keepsFront b) (copyPage (now (image .entry)) b) before PageCount) ⌝ }
+    ensures changed { λ r. ⌜ (let before = kept held (now (pool .entry)) (now (table .entry)) in r .changed ≡ changed (now (image .entry)) before b s) ⌝ }
 {
     let present = b.present;
     let count = present.count as usize;
     let mut done = Rewound {
         held: held,
         page: PageNo(0),
+        changed: 0,
     };
     for k in 0..count {
         let area = present.list[k];
         done = with_area(done, pool, table, image, area, s);
     }
-    free_before(done, pool, table, s, Areas::PAGES)
+    let changed = done.changed;
+    let marks = free_before(done, pool, table, s, Areas::PAGES);
+    Restored {
+        held: marks,
+        changed: changed,
+    }
 }

@@ -19,7 +19,7 @@ use Rattle.interface.specs.declared.answer.Answer.{Answer}
 use Rattle.interface.specs.declared.answer.Answer.the-variants.{Value, Refused}
 use Rattle.interface.specs.declared.page.Backing.{Backing}
 use Rattle.interface.specs.declared.page.Backing.the-variants.{Anonymous, Image}
-use Rattle.interface.specs.Requests.{_is_, isCall, Map, Read, Snapshot, Report, Compare, pageOf, offsetOf}
+use Rattle.interface.specs.Requests.{_is_, isCall, Map, Read, Snapshot, Rewind, Report, Compare, pageOf, offsetOf}
 use Rattle.interface.specs.Answers.{refusalNumber, numberOf, valueOf, answered}
 use Rattle.interface.specs.Slots.{isCommitted, backingAt}
 use Rattle.comparison.specs.Compare.{lowestDifference}
@@ -27,6 +27,7 @@ use Rattle.interface.specs.Outcome.{firstOf}
 use Rattle.interface.specs.Refusals.{refusal}
 use Rattle.interface.proofs.AcceptedLaws.{accepted, map-fits}
 use Rattle.interface.proofs.ChargeLaws.{mapped-small}
+use Rattle.comparison.proofs.CompareLaws.{changed-small}
 use Rattle.frames.specs.declared.Held.{Held}
 use Rattle.frames.specs.Frames.{held, countHeld}
 use Rattle.frames.proofs.FrameLaws.{held-lt}
@@ -41,7 +42,7 @@ use Rattle.areas.specs.Areas.{slots}
 use Rattle.records.specs.declared.Record.{Record}
 use Rattle.state.specs.World.{World, sandboxAt, recordAt}
 use Rattle.table.specs.Backing.{backingPage}
-use Rattle.content.specs.Content.{pageUnder, pageRead, differing}
+use Rattle.content.specs.Content.{pageUnder, pageRead, readsSame, differing, changed}
 use Rattle.memory.specs.Memory.{heldBy, valueAt}
 use Rattle.step.specs.Step.{viewAt, Outcome, Stepped, step, numberAt}
 use Rattle.roll.specs.Play.{FitsLine}
@@ -115,6 +116,10 @@ differing-low : (image : List ℕ) (st : Store) (b : Record) (s : ℕ) → diffe
 unfolding differing lowestDifference
 differing-low image st b s = lowest-range _ 0 64 .1
 
+changed-low : (image : List ℕ) (st : Store) (b : Record) (s : ℕ) → changed image st b s ≤ 64
+unfolding changed
+changed-low image st b s = changed-small (slots (b .present)) (readsSame image st b s)
+
 module _ (image : List ℕ) (w : World) (q : Request) (t : Bytes image) (u : Bytes (w .store .pool)) where
   value-low : numberAt image w q ≡ 0 → valueAt image q (sandboxAt w (q .sandbox)) (w .store) ≤ 65535
   unfolding valueAt
@@ -126,7 +131,9 @@ module _ (image : List ℕ) (w : World) (q : Request) (t : Bytes image) (u : Byt
       (λ _. when-cases (λ x. x ≤ 65535) (q is Snapshot) (λ e. let r = mapped-small (slots (b .rec .present)) in omega (arith, r))
       (λ _. when-cases (λ x. x ≤ 65535) (q is Report) (λ e. omega (arith, held-low (w .store) (q .sandbox), kept-low (row (b .runs))))
       (λ _. when-cases (λ x. x ≤ 65535) (q is Compare)
-      (λ e. let r = differing-low image (w .store) (b .rec) (q .sandbox) in omega (arith, r)) (λ _. omega arith)))))
+      (λ e. let r = differing-low image (w .store) (b .rec) (q .sandbox) in omega (arith, r))
+      (λ _. when-cases (λ x. x ≤ 65535) (q is Rewind)
+      (λ e. let r = changed-low image (w .store) (b .rec) (q .sandbox) in omega (arith, r)) (λ _. omega arith))))))
 
   pub value-small : (o : Outcome) → Stepped image w q o → o .answer .value ≤ 65535
   unfolding step

@@ -8,6 +8,7 @@ pub mod MapSteps
 pub mod StoreSteps
 pub mod GrantSteps
 pub mod RunSteps
+pub mod ValueSteps
 pub mod Simulate
 pub mod AnySound
 pub mod AcceptedLaws

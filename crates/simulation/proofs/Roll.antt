@@ -3,7 +3,8 @@ use Prim.Native.Nat.{ℕ}
 use mathlib.Core.Path.{_≡_, refl}
 use mathlib.Core.List.{List, [], _∷_}
 use lib.ListN.{getD}
-use Rattle.basics.specs.Ranges.{count, sum, every, lowest, inside, over}
+use Rattle.basics.specs.Ranges.{count, sum, every, lowest, inside, over, alike}
+use Rattle.comparison.specs.Compare.{changedPages}
 use Rattle.interface.specs.declared.request.Request.{Request}
 use Rattle.interface.specs.Answers.{Answered}
 use Rattle.interface.specs.Slots.{follows, joins, areas, mappedPages, uncommittedPages, lowestGap, chargeOf}
@@ -22,7 +23,7 @@ use Rattle.marks.specs.Named.{usedBelow}
 use Rattle.runs.specs.Row.{rowTo}
 use Rattle.kept.specs.Spare.{keptBy, rowRewound, leftOf, grantTo}
 use Rattle.kept.specs.Test.{runsTo, keptTo, blankb, spareb}
-use Rattle.pages.specs.Parts.{partAt, setPart, zeros, frame, setFrame}
+use Rattle.pages.specs.Parts.{partAt, setPart, zeros, frame, setFrame, sameBytes}
 use Rattle.marks.specs.Marks.{addEntry, marksTo, marksb}
 use Rattle.table.specs.Store.{contents, put, free, take, fill, storeByte, move, rewindPage, freeTo, moveTo, rewindTo, fresh}
 use Rattle.areas.specs.Areas.{slotIn}
@@ -34,7 +35,7 @@ use Rattle.record_soundness.specs.Test.{fieldsOk, recordOk}
 use Rattle.run_soundness.specs.Test.{noneKept, runsOk}
 use Rattle.soundness.specs.Test.{keptOk, sandboxOk, sandboxesOk, soundb}
 use Rattle.rules.specs.After.{packedAfter, takenAfter, snapshotAfter}
-use Rattle.content.specs.Content.{pageUnder, pageRead}
+use Rattle.content.specs.Content.{pageUnder, pageRead, copyRead, changed}
 use Rattle.memory.specs.Memory.{givesAt, runsAfter, touched, storeAfter, heldBy, valueAt}
 use Rattle.step.specs.Step.{numberAt, step}
 use Rattle.interface.specs.Examples.{Line, requestsOf, getsOf}
@@ -59,12 +60,12 @@ roll = getD cases 0 []
 
 roll-played : played (started 8) (requestsOf roll) ≡ getsOf roll
 unfolding chosen played roll
-    count sum every lowest inside over
+    count sum every lowest inside over alike
     follows joins areas mappedPages uncommittedPages lowestGap chargeOf
     within firstOf slotsAfter copyAfter allMapped applies refusal
     best movedUp rows.push walkTo walked runFor granted longestRun
     bit putBit held mark countHeld greatest leastHeld bothHeld apartHeld
-    partAt setPart zeros frame setFrame
+    partAt setPart zeros frame setFrame sameBytes changedPages
     addEntry marksTo marksb usedBelow
     contents put free take fill storeByte move rewindPage freeTo moveTo rewindTo fresh
     rowTo keptBy rowRewound leftOf grantTo runsTo keptTo blankb spareb
@@ -72,6 +73,6 @@ unfolding chosen played roll
     proper isApart isNone placeOk wellFormed
     pageOk pagesOk fieldsOk recordOk noneKept runsOk sandboxOk sandboxesOk keptOk soundb
     packedAfter takenAfter snapshotAfter
-    pageUnder pageRead givesAt runsAfter touched storeAfter heldBy valueAt
+    pageUnder pageRead copyRead changed givesAt runsAfter touched storeAfter heldBy valueAt
     numberAt step
 roll-played = refl

@@ -1,45 +1,35 @@
 -- A step of the machine and one of the plain machine give the same answer and keep the agreement.
 use mathlib.Core.Path.{_≡_, refl, sym, ap, _∙_, fun-ext}
 use mathlib.Core.Logic.{_⊎_, inl, inr, ⊎-elim}
-use mathlib.Core.Bool.{true, false, not, _&&_, false≢true}
+use mathlib.Core.Bool.{true, false, not, false≢true}
 use Prim.Native.Nat.{ℕ, _+_, _*_, _<_}
 use native.Mathlib.Omega.{arith}
 use lib.Dec.{ltb, eqb}
-use lib.ListN.{getD, length-set}
+use lib.ListN.{length-set}
 use lib.Seq.{getD-set-same, getD-set-other}
-use borrow.Author.Tests.{eq-eqb, eqb-true, eqb-false, ltb-true, ltb-false}
-use Rattle.basics.specs.Choice.{_when_else_}
-use Rattle.basics.specs.Ranges.{count, alike}
+use borrow.Author.Tests.{eq-eqb, eqb-true, eqb-false, ltb-true}
 use Rattle.basics.specs.Rows.{inPlace}
-use Rattle.basics.proofs.TestLaws.{by-cases, and-left}
+use Rattle.basics.specs.Choice.{_when_else_}
+use Rattle.basics.proofs.TestLaws.{by-cases}
 use Rattle.interface.specs.declared.request.Request.{Request}
-use Rattle.interface.specs.Requests.{_is_, Map, Read, Write, Snapshot, Report, Compare, isCall, pageOf, offsetOf}
-use Rattle.interface.specs.Slots.{Slots, isMapped, mappedPages, copied}
-use Rattle.interface.specs.Limits.{usesOne, within}
-use Rattle.interface.specs.Outcome.{firstOf, shareAfter}
-use Rattle.interface.specs.Refusals.{View, allMapped, applies, refusal}
+use Rattle.interface.specs.Requests.{_is_, Write, isCall, pageOf}
+use Rattle.interface.specs.Outcome.{shareAfter}
+use Rattle.interface.specs.Refusals.{View, applies, refusal}
 use Rattle.interface.specs.Accepted.{Accepted}
 use Rattle.interface.proofs.KindLaws.{kind}
 use Rattle.interface.proofs.AcceptedLaws.{accepted}
-use Rattle.comparison.proofs.CompareLaws.{agree-bytes, difference-same}
 use Rattle.frames.specs.Frames.{held}
-use Rattle.pages.specs.Parts.{sameBytes}
-use Rattle.pages.proofs.ListedLaws.{listed-at, same-listed}
-use Rattle.marks.specs.Named.{used, usedBelow}
-use Rattle.marks.specs.Marks.{from}
-use Rattle.marks.proofs.MarkLaws.{count-run}
 use Rattle.table.specs.Store.{Store, entry, frontOf, backOf, contents}
 use Rattle.state.specs.declared.sandbox.Sandbox.{Sandbox}
 use Rattle.runs.specs.declared.Runs.{Runs}
 use Rattle.runs.specs.Row.{row}
-use Rattle.kept.specs.Spare.{keptAt, keptBy, Spare}
+use Rattle.kept.specs.Spare.{keptAt, Spare}
 use Rattle.soundness.specs.Test.{soundb}
 use Rattle.state.specs.World.{World, sandboxAt, recordAt, closedSandbox, framesOf, sharesOf, rowsOf}
-use Rattle.content.specs.Content.{pageRead, copyRead, differing}
-use Rattle.memory.specs.Memory.{givesAt, longestOf, runsAfter, storeAfter, heldBy, valueAt}
+use Rattle.memory.specs.Memory.{givesAt, longestOf, runsAfter, storeAfter}
 use Rattle.step.specs.Step.{viewAt, sandboxThen, worldAfter, numberAt, step, Outcome, Stepped}
-use Rattle.plain.specs.Machine.{Given, Kept, Plain, copySlots, copyBytes, shares, viewOf, keptAfter, coreValue, answer, after}
-use Rattle.plain.specs.Machine.{framesHeld, differing as plainDiffering, valueAt as plainValue, numberAt as plainNumber}
+use Rattle.plain.specs.Machine.{Given, Kept, Plain, shares, viewOf, keptAfter, answer, after}
+use Rattle.plain.specs.Machine.{numberAt as plainNumber}
 use Rattle.plain_claims.proofs.KeptLaws.{holds-after}
 use Rattle.plain_claims.proofs.ReadLaws.{reads-after}
 use Rattle.plain_claims.proofs.OneSandbox.{after-others}
@@ -48,9 +38,8 @@ use Rattle.simulation.specs.Lent.{Lent}
 use Rattle.simulation.specs.Agrees.{AgreesAt, Agrees}
 use Rattle.simulation.proofs.StepLaws.{gave-up, frame-free}
 use Rattle.simulation.proofs.AreaSteps.{copy-same, slots-after, formed-after, copy-after, formed-copy-after, taken-after, untaken-after}
-use Rattle.simulation.proofs.HeldSteps.{used-count, used-one, holds-same}
-use Rattle.simulation.proofs.ReadSteps.{page-read, copy-read}
 use Rattle.simulation.proofs.MapSteps.{Stored}
+use Rattle.simulation.proofs.ValueSteps.{value-same}
 use Rattle.simulation.proofs.StoreSteps.{stored-after}
 use Rattle.simulation.proofs.RunSteps.{Runned, runned}
 use Rattle.simulation.proofs.SoundLaws.{frames-same, shares-same, agrees-tested}
@@ -89,25 +78,6 @@ module _ {C : ℕ → Type 0} (g : Given) (L : Lent g) (w : World) (p : Plain) (
       (λ r. past-four (viewAt (g .image) w (q .sandbox)) q (agrees-tested g w p A L) r
       ∙ sym (past-four (viewOf g (shares p) (p (q .sandbox) .core)) q refl r))
 
--- ---- the report
-
-module _ {C : ℕ → Type 0} (g : Given) (w : World) (p : Plain) (A : Agrees C g w p) (s : ℕ) where
-  pub held-counts : heldBy (w .store) s ≡ usedBelow (from (s * 128) (w .store .table)) 128
-  unfolding heldBy
-  held-counts =
-      rw (frames-same g w p A)
-      (count-run (g .frames) (A .tidy .filed .few) (w .store .marks) (entry (w .store)) (A .tidy .filed .names) (s * 128) 128)
-
-  pub backs-count : s < 4 → usedBelow (from (s * 128 + 64) (w .store .table)) 64 ≡ count (p s .traces .back) 64
-  backs-count l =
-      used-count (from (s * 128 + 64) (w .store .table)) (p s .traces .back) 64
-      (λ i m.
-      ap (λ (x : ℕ). used (getD (w .store .table) x 0)) (omega arith)
-      ∙ used-one (w .store) (backOf s i) (p s .traces .back i) _ (A .each s l .backs i m))
-
-  pub held-same : s < 4 → heldBy (w .store) s + keptBy (rowsOf w s) ≡ framesHeld (p s .traces)
-  held-same l = ap (λ (x : ℕ). x + keptBy (rowsOf w s)) held-counts ∙ holds-same g (w .store) s (sandboxAt w s) (p s) (A .each s l)
-
 -- ---- an accepted request
 
 module _ {C : ℕ → Type 0} (g : Given) (L : Lent g) (w : World) (p : Plain) (A : Agrees C g w p) (q : Request) (n : plainNumber g p q ≡ 0) where
@@ -119,47 +89,6 @@ module _ {C : ℕ → Type 0} (g : Given) (L : Lent g) (w : World) (p : Plain) (
 
   mine : AgreesAt g (w .store) (q .sandbox) (sandboxAt w (q .sandbox)) (p (q .sandbox))
   mine = A .each (q .sandbox) low
-
-  read-same : q .code ≡ Read → getD (pageRead (g .image) (w .store) (recordAt w (q .sandbox)) (q .sandbox) (pageOf q)) (offsetOf q) 0
-      ≡ p (q .sandbox) .core .pages .bytes (pageOf q) (offsetOf q)
-  unfolding within allMapped
-  read-same e =
-      let limits : (ltb (q .p1) 16384 && usesOne q) ≡ true = rw e at (met .inLimits) in
-      let there : isMapped (p (q .sandbox) .core .pages .slots (pageOf q)) ≡ true = rw e at (met .mapped) in
-      let page : pageOf q < 64 = omega (arith, ltb-true (q .p1) 16384 (and-left _ _ limits)) in
-      let h = A .holds .each (q .sandbox) in
-      rw (page-read g L (w .store) (q .sandbox) (sandboxAt w (q .sandbox)) (p (q .sandbox)) h (A .reads (q .sandbox)) mine (pageOf q) page there)
-      (listed-at 256 (p (q .sandbox) .core .pages .bytes (pageOf q)) (offsetOf q) (omega arith))
-
-  -- call 10: the bytes are compared only where the page is mapped in both, and there they are what the plain machine has
-  differing-same : differing (g .image) (w .store) (recordAt w (q .sandbox)) (q .sandbox) ≡ plainDiffering (p (q .sandbox) .core)
-  unfolding differing plainDiffering
-  differing-same =
-      let b : Sandbox = sandboxAt w (q .sandbox) in
-      let k : Kept = p (q .sandbox) in
-      let h = A .holds .each (q .sandbox) in
-      rw (mine .present, mine .copy)
-      (difference-same (k .core .pages .slots) (copied (copySlots (k .core)))
-      (λ i. sameBytes 256 (pageRead (g .image) (w .store) (b .rec) (q .sandbox) i) (copyRead (g .image) (w .store) (b .rec) (q .sandbox) i))
-      (λ i. alike (k .core .pages .bytes i) (copyBytes (k .core .copy) i) 256)
-      (λ i l. agree-bytes (k .core .pages .slots i) (copied (copySlots (k .core)) i) _ _
-      (λ m c. rw (
-        page-read g L (w .store) (q .sandbox) b k h (A .reads (q .sandbox)) mine i l m,
-        copy-read g L (w .store) (q .sandbox) b k h (A .reads (q .sandbox)) mine i l c,
-      )
-      (same-listed 256 (k .core .pages .bytes i) (copyBytes (k .core .copy) i)))))
-
-  value-same : valueAt (g .image) q (sandboxAt w (q .sandbox)) (w .store) ≡ plainValue g q (p (q .sandbox))
-  unfolding valueAt coreValue
-  value-same =
-      by-cases (q is Report)
-      (λ r. let c = eqb-true (q .code) Report r in
-      let m : (q is Map) ≡ false = rw c in let d : (q is Read) ≡ false = rw c in let s : (q is Snapshot) ≡ false = rw c in
-      rw (m, d, s, r) (held-same g w p A (q .sandbox) low)) λ r.
-      by-cases (q is Map) (λ m. rw (r, m) (ap (λ (f : Slots). firstOf f q) (mine .present))) λ m.
-      by-cases (q is Read) (λ d. rw (r, m, d) (read-same (eqb-true (q .code) Read d))) λ d.
-      by-cases (q is Snapshot) (λ s. rw (r, m, d, s) (ap mappedPages (mine .present))) λ s.
-      by-cases (q is Compare) (λ c. rw (r, m, d, s, c) differing-same) (λ c. rw (r, m, d, s, c))
 
   -- a sandbox that the request does not name
   agrees-other : (r : Store) (t : ℕ) (b : Sandbox) (k : Kept) → ((x : ℕ) → x < 128 → contents 256 r (t * 128 + x) ≡ contents 256 (w .store) (t * 128 + x))

@@ -1,4 +1,4 @@
-// The value of an accepted request, computed.
+// The value of an accepted request, computed without a change; a rewind's is told by what it does (`rewinding`).
 // It promises: the value is the one stated in memory/specs/Memory (`valueAt`). Nothing is changed.
 // It stands on `memory` for the definition and its laws, on `content` for what is read and compared, and on `area_counts` and `table_marks` for the
 // pages and frames that are counted.
@@ -6,6 +6,7 @@ ghost use mathlib.Core.Path.{_≡_};
 ghost use Prim.Native.Nat.{_≤_, _<_};
 ghost use lib.ListN.{length};
 ghost use Rattle.interface.specs.Numbers.{PageBytes, Sandboxes, MostFrames, pagesIn};
+ghost use Rattle.interface.specs.Requests.{Rewind};
 ghost use Rattle.frames.specs.declared.Held.{Held as Words};
 ghost use Rattle.table.specs.Store.{kept, Ranged};
 ghost use Rattle.rules.specs.Ready.{Fit, Ready};
@@ -26,6 +27,7 @@ pub fn value_of(pool: &[u8], table: &[u16], image: &[u8], b: Sandbox, q: Request
     requires { ⌜ Ready (pagesIn (length (now image))) (b .rec) ⌝ }
     requires { ⌜ Ranged PageBytes (now pool) (now table) ⌝ }
     requires { ⌜ pagesIn (length (now pool)) ≤ MostFrames ⌝ }
+    requires { ⌜ (q .code ≡ Rewind → ⊥) ⌝ }
     ensures { λ r. ⌜ ((h : Words) → let before = kept h (now (pool .entry)) (now (table .entry)) in
         r ≡ valueAt (now (image .entry)) q b before) ⌝ }
 {

@@ -1,5 +1,5 @@
--- An area that is not committed changes nothing; at any other the fronts before it are given up, then its own are restored.
-use Prim.Native.Nat.{ℕ, _-_}
+-- An area that is not committed changes nothing; at any other the fronts before it are given up, then its own are restored and its changed pages counted.
+use Prim.Native.Nat.{ℕ, _+_, _-_}
 use mathlib.Core.Path.{_≡_, ap, _∙_}
 use mathlib.Core.Bool.{Bool, true, false}
 use mathlib.Core.List.{List}
@@ -10,7 +10,9 @@ use Rattle.basics.specs.Choice.{_when_else_}
 use Rattle.table.specs.Store.{Store, kept, frontOf, rewindTo}
 use Rattle.table.proofs.FreeLaws.{freeTo-kept-as}
 use Rattle.restoring.specs.Backed.{backingOn}
-use Rattle.area_rewind.specs.AreaRewound.{areaRewound}
+use Rattle.restoring.specs.Changed.{changedTo}
+use Rattle.restoring.proofs.ChangedLaws.{changed-few}
+use Rattle.area_rewind.specs.AreaRewound.{areaRewound, areaChanged}
 use Rattle.area_rewind.proofs.with_area.Statement.{statement}
 use Rattle.area_rewind.proofs.with_area.Tie as tie
 
@@ -42,7 +44,7 @@ returns : tie.Need-returns
 returns c =
     let a = c .before .before .before .before .before .args in
     let e : a .area .committed ≡ false = not-true _ (c .if1 .taken) in
-    (rw e, rw e)
+    (rw e, (rw e, rw e))
 
 free-before-requires : tie.Need-free-before-requires
 free-before-requires c κs =
@@ -61,11 +63,20 @@ restore-pages-requires c κs =
     let n : ℕ = a .area .first .0 - a .done .page .0 in
     let k = freeTo-kept-as 256 (frontOf (a .s) (a .done .page .0)) st (between at) n (placed at .free-before .ensures) (s .pre .1 .1 .1 .1 .0) in (
       omega (arith, at .front-index .ensures, s .pre .0, s .pre .1 .1 .0),
-      (k .ranged, (s .pre .1 .1 .1 .1 .1, omega (arith, s .pre .1 .1 .0))),
+      (k .ranged, (s .pre .1 .1 .1 .1 .1 .0, omega (arith, s .pre .1 .1 .0))),
     )
 
-add-t21 : tie.Need-add-t21
-add-t21 c = let s = behind (c .before .before .before .before .before .before .before) in omega (arith, s .pre .1 .1 .0)
+add-t22 : tie.Need-add-t22
+add-t22 c = let s = behind (c .before .before .before .before .before .before .before) in omega (arith, s .pre .1 .1 .0)
+
+add-t24 : tie.Need-add-t24
+add-t24 c =
+    let restored = c .before .before .before .before in
+    let at = restored .before .before .before in
+    let s = behind at in
+    let a = s .args in
+    let few = changed-few 256 (at .front-index .result) (λ i. true) (backingOn (a .image .now) (a .area .backing)) (between at) (a .area .pages) in
+    omega (arith, restored .restore-pages .ensures (placed at .free-before .result) .told, few, s .pre .1 .0, s .pre .1 .1 .0, s .pre .1 .1 .1 .1 .1 .1)
 
 same-length : tie.Need-same-length
 same-length c = search needs
@@ -82,12 +93,20 @@ returns-2 c =
     let e : area .committed ≡ true = not-false _ (freed (placed at) .if1 .left) in
     let bytes : ℕ → List ℕ = backingOn (a .image .now) (area .backing) in
     let f = placed at .free-before in
+    let told = restored .restore-pages .ensures (f .result) in
     let whole : kept (f .result) (restored .restore-pages .last .0) (f .last .1 .1 .0)
     ≡ areaRewound (a .image .now) (a .s) area (a .done .page .0) (kept (a .done .held) (a .pool .now) (a .table .now)) =
-    restored .restore-pages .ensures (f .result)
+    told .left
     ∙ ap (λ (k : ℕ). rewindTo 256 k (λ i. true) bytes (between at) (area .pages)) (at .front-index .ensures)
     ∙ ap (λ (x : Store). rewindTo 256 (frontOf (a .s) (area .first .0)) (λ i. true) bytes x (area .pages)) (f .ensures) in
-    (whole ∙ chosen _ _ (area .committed) e, chosen _ _ (area .committed) e)
+    let counted : restored .restore-pages .result
+    ≡ areaChanged (a .image .now) (a .s) area (a .done .page .0) (kept (a .done .held) (a .pool .now) (a .table .now)) =
+    told .told
+    ∙ ap (λ (k : ℕ). changedTo 256 k (λ i. true) bytes (between at) (area .pages)) (at .front-index .ensures)
+    ∙ ap (λ (x : Store). changedTo 256 (frontOf (a .s) (area .first .0)) (λ i. true) bytes x (area .pages)) (f .ensures) in (
+      whole ∙ chosen _ _ (area .committed) e,
+      (chosen _ _ (area .committed) e, ap (λ (n : ℕ). a .done .changed + n) counted ∙ chosen _ _ (area .committed) e),
+    )
 
 pub with-area-spec : {M : Type 1} → statement M
 with-area-spec =
@@ -97,7 +116,8 @@ with-area-spec =
     free-before-requires
     front-index-requires
     restore-pages-requires
-    add-t21
+    add-t22
+    add-t24
     same-length
     same-length-2
     returns-2)

@@ -25,10 +25,10 @@ abbrev Row : tie.Start → List Sandbox → Type 0
 Row s row = AskedOf (s .args .image .now) (s .args .q) (s .args .b) (s .args .all) (storeIn s) row
 
 abbrev there : tie.Start → List Sandbox
-there s = s .pre .0
+there s = s .pre .1 .0
 
 abbrev its : (s : tie.Start) → Row s (there s)
-its s = s .pre .1
+its s = s .pre .1 .1
 
 abbrev asked : (s : tie.Start) → Asked (s .args .image .now) (s .args .q) (worldIn s (there s))
 asked s = its s .1
@@ -59,7 +59,7 @@ map-requires c κs =
     )
 
 write-requires : tie.Need-write-requires
-write-requires c κs = (c .before .before .match .keys2, behind (c .before .before .before) .pre)
+write-requires c κs = (c .before .before .match .keys2, behind (c .before .before .before) .pre .1)
 
 without-frames-requires : tie.Need-without-frames-requires
 without-frames-requires c κs =
@@ -67,7 +67,7 @@ without-frames-requires c κs =
     let s = behind (arm .before) in
     let a = asked s in
     let ranged = filed-ranged 256 (framesOf (worldIn s (there s))) (storeIn s) (a .filed) in
-    (arm .match .rest .0 .1, (arm .match .rest .1, (a .row, (a .fit, (rw (same-sandbox s (there s) (its s)) (a .ready), ranged)))))
+    (arm .match .rest .0 .1, (arm .match .rest .1, (s .pre .0, (a .row, (a .fit, (rw (same-sandbox s (there s) (its s)) (a .ready), ranged))))))
 
 same-length : tie.Need-same-length
 same-length c = search needs

@@ -1,20 +1,13 @@
 -- Each call leaves what it says of the store and the runs; the others leave both.
 use native.Mathlib.Omega.{arith}
-use lib.ListN.{length}
-use Rattle.interface.specs.Numbers.{pagesIn}
 use Rattle.table.specs.Store.{Store, kept}
-use Rattle.areas.proofs.WalkLaws.{settled}
-use Rattle.rules.specs.Ready.{Ready}
-use Rattle.memory.proofs.MemoryLaws.{unmapped, copied, rewound, left-alone}
+use Rattle.memory.proofs.MemoryLaws.{unmapped, copied, left-alone}
 use borrow.Author.Needs.{needs}
 use Rattle.effects.proofs.without_frames.Statement.{statement}
 use Rattle.effects.proofs.without_frames.Tie as tie
 
 abbrev storeIn : tie.Start → Store
 storeIn s = kept (s .args .held) (s .args .pool .now) (s .args .table .now)
-
-abbrev ready : (s : tie.Start) → Ready (pagesIn (length (s .args .image .now))) (s .args .b .rec)
-ready s = s .pre .1 .1 .1 .1 .0
 
 -- ---- where each arm starts
 
@@ -27,45 +20,29 @@ freeing c = c .before .before .before
 abbrev copying : tie.After-move-fronts-arg → tie.At-match-keys2
 copying c = c .before
 
-abbrev gathering : tie.After-gathered-arg → tie.At-match-keys3
-gathering c = c .before .before
-
-abbrev rewinding : tie.After-rewind-arg2 → tie.After-gathered
-rewinding c = c .before .before
-
 -- ---- the needs
 
 cast-s : tie.Need-cast-s
 cast-s c = search needs
 
-cast-t19 : tie.Need-cast-t19
-cast-t19 c =
+cast-t16 : tie.Need-cast-t16
+cast-t16 c =
     let arm = freeing c in
-    omega (arith, behind (arm .before) .pre .1 .1 .1 .0 .unmapped (arm .match .keys1))
+    omega (arith, behind (arm .before) .pre .1 .1 .1 .1 .0 .unmapped (arm .match .keys1))
 
 cast-free-range : tie.Need-cast-free-range
 cast-free-range c =
     let arm = freeing (c .before) in
-    omega (arith, behind (arm .before) .pre .1 .1 .1 .0 .unmapped (arm .match .keys1))
+    omega (arith, behind (arm .before) .pre .1 .1 .1 .1 .0 .unmapped (arm .match .keys1))
 
 free-range-requires : tie.Need-free-range-requires
 free-range-requires c κs =
     let arm = freeing (c .before) in
     let s = behind (arm .before) in
-    (s .pre .1 .1 .0, (s .pre .1 .1 .1 .0 .unmapped (arm .match .keys1), s .pre .1 .1 .1 .1 .1))
+    (s .pre .1 .1 .1 .0, (s .pre .1 .1 .1 .1 .0 .unmapped (arm .match .keys1), s .pre .1 .1 .1 .1 .1 .1))
 
 move-fronts-requires : tie.Need-move-fronts-requires
 move-fronts-requires c κs = search needs
-
-gathered-requires : tie.Need-gathered-requires
-gathered-requires c κs =
-    let s = behind (gathering c .before) in
-    let ranged = s .pre .1 .1 .1 .1 .1 in
-    let formed = settled (pagesIn (length (s .args .image .now))) (s .args .b .rec .present) (ready s .sound .present) (ready s .few) in
-    (s .pre .1 .1 .0, (formed, (ranged .entries, ranged .few)))
-
-rewind-requires : tie.Need-rewind-requires
-rewind-requires c κs = search needs
 
 same-length : tie.Need-same-length
 same-length c = search needs
@@ -91,44 +68,24 @@ returns-2 c =
     copied (s .args .image .now) (s .args .q) (s .args .b) (storeIn s) _ (arm .match .keys2)
     (moved .move-fronts .ensures (s .args .held) (s .args .pool .now))
 
-same-length-4 : tie.Need-same-length-4
-same-length-4 c = search needs
-
-same-length-5 : tie.Need-same-length-5
-same-length-5 c = search needs
-
 returns-3 : tie.Need-returns-3
 returns-3 c =
-    let wound = c .before .before .before .before in
-    let runs = rewinding (wound .before) in
-    let arm = gathering (runs .before) in
-    let s = behind (arm .before) in
-    rewound (s .args .image .now) (s .args .q) (s .args .b) (storeIn s) _ _ (arm .match .keys3) (wound .rewind .ensures)
-    (runs .gathered .ensures (s .args .held) (s .args .pool .now))
-
-returns-4 : tie.Need-returns-4
-returns-4 c =
     let s = behind (c .before) in
     let none = c .match .rest in
-    left-alone (s .args .image .now) (s .args .q) (s .args .b) (storeIn s) (s .pre .0) (none .0 .0 .1) (s .pre .1 .0) (none .0 .1) (none .1)
+    left-alone (s .args .image .now) (s .args .q) (s .args .b) (storeIn s) (s .pre .0) (none .0 .1) (s .pre .1 .0) (none .1) (s .pre .1 .1 .0)
 
 pub without-frames-spec : {M : Type 1} → statement M
 without-frames-spec =
     tie.close
     (tie.spec
     cast-s
-    cast-t19
+    cast-t16
     cast-free-range
     free-range-requires
     move-fronts-requires
-    gathered-requires
-    rewind-requires
     same-length
     same-length-2
     returns
     same-length-3
     returns-2
-    same-length-4
-    same-length-5
-    returns-3
-    returns-4)
+    returns-3)

@@ -9,9 +9,11 @@ use borrow.Author.Tests.{not-true, not-false}
 use Rattle.basics.proofs.TestLaws.{length-mapped}
 use Rattle.interface.specs.declared.answer.Refusal.the-variants.{NoSuchCall, Unsound, NotOpen}
 use Rattle.interface.specs.Requests.{isCall}
+use Rattle.frames.specs.Frames.{noneHeld}
 use Rattle.table.specs.Store.{kept}
 use Rattle.state.specs.declared.sandbox.Sandbox.{Sandbox}
-use Rattle.state.specs.World.{World, worldOf}
+use Rattle.state.specs.World.{World, worldOf, sharesIn}
+use Rattle.totals.specs.declared.together.Together.{Together}
 use Rattle.state.proofs.SharesLaws.{zeroSandbox}
 use Rattle.soundness.specs.Test.{soundb}
 use Rattle.memory.proofs.MemoryLaws.{read-own}
@@ -60,9 +62,15 @@ behindRow c = behindState (c .before .before)
 in-row : (c : tie.Else3) → behindRow c .args .q .sandbox < 4
 in-row c = omega (arith, c .if3 .left)
 
--- a sandbox is tried in place behind the tests; the world around it is the one handed in
+-- a sandbox is rewound or tried in place behind the tests; the world around it is the one handed in
+abbrev row-of : tie.Else4 → tie.Else3
+row-of c = c .before .before .before .before .before
+
+abbrev rewound-row : tie.Then4 → tie.Else3
+rewound-row c = c .before .before .before .before .before
+
 abbrev tried : tie.After-answer → tie.Else3
-tried c = c .before .before .before .before .before .before
+tried c = row-of (c .before .before .before)
 
 abbrev own : tie.Start → Sandbox
 own s = getD (s .args .machine .sandboxes) (s .args .q .sandbox) zeroSandbox
@@ -84,7 +92,7 @@ left-of c = c .before .before .before .before .before
 pool-stays : (c : tie.After-put-together) → let s = behindRow (tried (left-of c)) in left-of c .answer .last .1 .0 ≡ s .args .pool .now
 pool-stays c =
     let behind = left-of c in
-    behind .answer .ensures (worldIn (behindRow (tried behind))) (around (tried behind)) .left (c .before .before .if4 .left)
+    behind .answer .ensures (worldIn (behindRow (tried behind))) (around (tried behind)) .left (c .before .before .if5 .left)
 
 stands : (c : tie.After-put-together) → let s = behindRow (tried (left-of c)) in let all = c .put-together .result in
     Stands (imageIn s) (s .args .q) (own s) all (kept (all .held) (left-of c .answer .last .1 .0) (s .args .table .now)) (s .args .machine .sandboxes)
@@ -94,6 +102,24 @@ stands c =
     let found = c .put-together in
     standing (imageIn s) (s .args .q) (s .args .machine) (s .args .pool .now) _ (s .args .table .now) (found .result) (found .ensures .0) (pool-stays c)
     (four s) (in-row row) (passes (row .before .before)) (found .ensures .1 .0) (found .ensures .1 .1)
+
+-- a rewind: what is told of the other sandboxes does not matter
+abbrev unasked : tie.Start → Together
+unasked s = record { held = s .args .machine .held; shares = sharesIn (s .args .machine .sandboxes); kept = noneHeld }
+
+stands-alone : (c : tie.Then4) → let s = behindRow (rewound-row c) in
+    Stands (imageIn s) (s .args .q) (own s) (unasked s) (kept (s .args .machine .held) (s .args .pool .now) (s .args .table .now)) (s .args .machine .sandboxes)
+stands-alone c =
+    let row = rewound-row c in
+    let s = behindRow row in
+    standing (imageIn s) (s .args .q) (s .args .machine) (s .args .pool .now) (s .args .pool .now) (s .args .table .now) (unasked s) refl refl
+    (four s) (in-row row) (passes (row .before .before)) refl (λ e. absurd (omega (arith, e, c .if4 .taken)))
+
+abbrev rewound-at : tie.After-marks → tie.After-rewind-sandbox
+rewound-at c = c .before .before .before .before .before .before
+
+abbrev rewinding : tie.After-rewind-sandbox → tie.Then4
+rewinding c = c .before .before .before .before
 
 -- ---- the needs
 
@@ -160,10 +186,22 @@ mul-b c = let low = in-row (c .before .before) in search needs
 array-copy-out-b : tie.Need-array-copy-out-b
 array-copy-out-b c = let low = in-row (c .before .before) in search needs
 
-answer-requires : tie.Need-answer-requires
-answer-requires c κs =
-    let row = c .before .before .before .before .before in
-    (in-row row, (worldIn (behindRow row), around row))
+rewind-sandbox-requires : tie.Need-rewind-sandbox-requires
+rewind-sandbox-requires c κs =
+    let rewinds = c .before .before .before in
+    let row = rewound-row rewinds in
+    let s = behindRow row in
+    (rewinds .if4 .taken, (in-row row, (s .args .machine .sandboxes, (unasked s, stands-alone rewinds))))
+
+mul-back : tie.Need-mul-back
+mul-back c = let low = in-row (rewound-row (rewinding (rewound-at c))) in search needs
+
+element-set-from-back : tie.Need-element-set-from-back
+element-set-from-back c =
+    let row = rewound-row (rewinding (rewound-at c)) in
+    let low = in-row row in
+    let all = four (behindRow row) in
+    search needs
 
 same-length-5 : tie.Need-same-length-5
 same-length-5 c = search needs
@@ -173,9 +211,27 @@ same-length-6 c = search needs
 
 returns-4 : tie.Need-returns-4
 returns-4 c =
+    let did = rewound-at c in
+    let rewinds = rewinding did in
+    let s = behindRow (rewound-row rewinds) in
+    did .rewind-sandbox .ensures (s .args .machine .sandboxes) (unasked s) (stands-alone rewinds)
+
+answer-requires : tie.Need-answer-requires
+answer-requires c κs =
+    let row = row-of (c .before .before) in
+    (in-row row, (worldIn (behindRow row), around row))
+
+same-length-7 : tie.Need-same-length-7
+same-length-7 c = search needs
+
+same-length-8 : tie.Need-same-length-8
+same-length-8 c = search needs
+
+returns-5 : tie.Need-returns-5
+returns-5 c =
     let behind = c .before .before .before in
     let row = tried behind in
-    behind .answer .ensures (worldIn (behindRow row)) (around row) .done (c .if4 .taken)
+    behind .answer .ensures (worldIn (behindRow row)) (around row) .done (c .if5 .taken)
 
 put-together-requires : tie.Need-put-together-requires
 put-together-requires c κs = search needs
@@ -186,7 +242,7 @@ act-requires c κs =
     let row = tried (left-of told) in
     let s = behindRow row in (
       a-call (row .before .before .before .before .before .before),
-      (in-row row, (s .args .machine .sandboxes, stands told)),
+      (left-of told .before .before .before .if4 .left, (in-row row, (s .args .machine .sandboxes, stands told))),
     )
 
 mul-after : tie.Need-mul-after
@@ -199,14 +255,14 @@ element-set-from-after c =
     let all = four (behindRow row) in
     search needs
 
-same-length-7 : tie.Need-same-length-7
-same-length-7 c = search needs
+same-length-9 : tie.Need-same-length-9
+same-length-9 c = search needs
 
-same-length-8 : tie.Need-same-length-8
-same-length-8 c = search needs
+same-length-10 : tie.Need-same-length-10
+same-length-10 c = search needs
 
-returns-5 : tie.Need-returns-5
-returns-5 c =
+returns-6 : tie.Need-returns-6
+returns-6 c =
     let acted = c .before .before .before .before .before .before in
     let told = acted .before .before .before in
     let s = behindRow (tried (left-of told)) in
@@ -233,14 +289,20 @@ call-spec =
     cast-k
     mul-b
     array-copy-out-b
-    answer-requires
+    rewind-sandbox-requires
+    mul-back
+    element-set-from-back
     same-length-5
     same-length-6
     returns-4
+    answer-requires
+    same-length-7
+    same-length-8
+    returns-5
     put-together-requires
     act-requires
     mul-after
     element-set-from-after
-    same-length-7
-    same-length-8
-    returns-5)
+    same-length-9
+    same-length-10
+    returns-6)

@@ -30,10 +30,10 @@ abbrev Row : tie.Start → List Sandbox → Type 0
 Row s row = Stands (s .args .image .now) (s .args .q) (s .args .b) (s .args .all) (storeIn s) row
 
 abbrev there : tie.Start → List Sandbox
-there s = s .pre .1 .1 .0
+there s = s .pre .1 .1 .1 .0
 
 abbrev its : (s : tie.Start) → Row s (there s)
-its s = s .pre .1 .1 .1
+its s = s .pre .1 .1 .1 .1
 
 abbrev worldIn : tie.Start → World
 worldIn s = worldFrom (there s) (storeIn s)
@@ -97,7 +97,7 @@ cast-images c =
 decide-requires : tie.Need-decide-requires
 decide-requires c κs =
     let s = c .before .before .before .before in
-    (s .pre .0, (s .pre .1 .0, own-ready (s .args .image .now) (s .args .q) (s .args .b) (s .args .all) (storeIn s) (there s) (its s) (s .pre .1 .0)))
+    (s .pre .0, (s .pre .1 .1 .0, own-ready (s .args .image .now) (s .args .q) (s .args .b) (s .args .all) (storeIn s) (there s) (its s) (s .pre .1 .1 .0)))
 
 enum-known-verdict : tie.Need-enum-known-verdict
 enum-known-verdict c = search needs
@@ -112,14 +112,14 @@ value-of-requires c κs =
     let s = startOf decided in
     let a = asked-here decided (told .enum-told .given .1) (there s) (its s) .1 in
     let own = own-ready (s .args .image .now) (s .args .q) (s .args .b) (s .args .all) (storeIn s) (there s) (its s) (a .row) in
-    (a .row, (a .fit, (own, (filed-ranged 256 (framesOf (worldIn s)) (storeIn s) (a .filed), a .filed .few))))
+    (a .row, (a .fit, (own, (filed-ranged 256 (framesOf (worldIn s)) (storeIn s) (a .filed), (a .filed .few, s .pre .1 .0)))))
 
 store-after-requires : tie.Need-store-after-requires
 store-after-requires c κs =
     let told = valuedOf (c .before .before) in
     let decided = toldAs told in
     let s = startOf decided in
-    (there s, asked-here decided (told .enum-told .given .1) (there s) (its s))
+    (s .pre .1 .0, (there s, asked-here decided (told .enum-told .given .1) (there s) (its s)))
 
 record-after-requires : tie.Need-record-after-requires
 record-after-requires c κs =

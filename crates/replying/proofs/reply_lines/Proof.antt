@@ -193,7 +193,7 @@ act-requires : tie.Need-act-requires Inv-loop μ-loop
 act-requires c κs =
     let found = acting c in
     let told = told-at (left-at found) in
-    (calls told .coded, (calls told .low, (stateIn (asking told) .sandboxes, stands found)))
+    (calls told .coded, (left-at found .before .before .before .if1 .left, (calls told .low, (stateIn (asking told) .sandboxes, stands found))))
 
 mul-after-2 : tie.Need-mul-after-2 Inv-loop μ-loop
 mul-after-2 c = let low = calls (told-at (left-at (acting (acted-at c .before)))) .low in search needs

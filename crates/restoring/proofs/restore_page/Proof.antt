@@ -1,12 +1,15 @@
--- A page without a front stays as it is, and any other has it filled anew, whatever marks there are.
+-- A page without a front stays as it is and is not looked at; any other has it filled anew, and is compared, whatever marks there are.
 use mathlib.Core.Path.{refl, sym}
+use mathlib.Core.List.{List}
 use native.Mathlib.Omega.{arith}
 use borrow.Author.Needs.{needs}
-use Prim.Native.Nat.{_+_}
-use Rattle.table.specs.Store.{kept}
+use Prim.Native.Nat.{ℕ, _+_}
+use Rattle.frames.specs.declared.Held.{Held}
+use Rattle.table.specs.Store.{Store, kept}
 use Rattle.table.specs.Backing.{backingPage}
 use Rattle.table.proofs.RewindLaws.{rewind-none}
 use Rattle.table.proofs.PageLaws.{restore-fill}
+use Rattle.restoring.proofs.ChangedLaws.{none-differs, front-differs}
 use Rattle.restoring.proofs.restore_page.Statement.{statement}
 use Rattle.restoring.proofs.restore_page.Tie as tie
 
@@ -27,7 +30,7 @@ shared-slice-read-front : tie.Need-shared-slice-read-front
 shared-slice-read-front c = search needs
 
 returns : tie.Need-returns
-returns c = λ h. sym (rewind-none 256 _ _ _ _ _ (c .if1 .taken))
+returns c = (λ h. sym (rewind-none 256 _ _ _ _ _ (c .if1 .taken)), λ h. sym (none-differs 256 _ _ _ _ (c .if1 .taken)))
 
 add-back : tie.Need-add-back
 add-back c = search needs
@@ -44,8 +47,8 @@ frame-of-requires c κs =
     let s = fronted front in
     (omega (arith, front .if1 .left), s .pre .1 .0 .few (s .args .at))
 
-fill-frame-requires : tie.Need-fill-frame-requires
-fill-frame-requires c κs =
+restore-frame-requires : tie.Need-restore-frame-requires
+restore-frame-requires c κs =
     let s = fronted (framed c) in
     let ranged = s .pre .1 .0 in
     let back = s .args .at + 64 in (
@@ -57,12 +60,17 @@ same-length : tie.Need-same-length
 same-length c = search needs
 
 returns-2 : tie.Need-returns-2
-returns-2 c = λ h.
-    let fill = c .before .before in
-    let frame = fill .before in
+returns-2 c =
+    let restored = c .before .before in
+    let frame = restored .before in
     let a = fronted (framed frame) .args in
-    restore-fill 256 (a .at) (a .at + 64) _ (backingPage (a .image .now) (a .backing)) (kept h (a .pool .now) (a .table .now)) _ _ (fill .fill-frame .last .0)
-    refl refl (framed frame .if1 .left) refl (rw (← frame .frame-of .ensures) (fill .fill-frame .ensures))
+    let bytes : List ℕ = backingPage (a .image .now) (a .backing) in
+    let told = restored .restore-frame in
+    let st : Held → Store = λ h. kept h (a .pool .now) (a .table .now) in (
+      λ h. restore-fill 256 (a .at) (a .at + 64) _ bytes (st h) _ _ (told .last .0) refl refl (framed frame .if1 .left) refl
+          (rw (← frame .frame-of .ensures) (told .ensures .0)),
+      λ h. front-differs 256 (a .at) (a .at + 64) bytes (st h) _ _ _ refl (framed frame .if1 .left) refl (rw (← frame .frame-of .ensures) (told .ensures .1)),
+    )
 
 pub restore-page-spec : {M : Type 1} → statement M
 restore-page-spec =
@@ -75,6 +83,6 @@ restore-page-spec =
     mul-back
     shared-slice-read-back
     frame-of-requires
-    fill-frame-requires
+    restore-frame-requires
     same-length
     returns-2)

@@ -1,4 +1,4 @@
--- A rewind on one sandbox: refused with the number of the table, or the store, the runs and the record are those that the step leaves.
+-- A rewind on one sandbox: refused with the number of the table, or the value is the step's, and the store, the runs and the record are those that it leaves.
 use mathlib.Core.Path.{_≡_, sym, ap, subst, _∙_}
 use mathlib.Core.Bool.{true}
 use mathlib.Core.List.{List}
@@ -8,7 +8,7 @@ use Rattle.interface.specs.declared.request.Request.{Request}
 use Rattle.interface.specs.Numbers.{pagesIn}
 use Rattle.interface.specs.Requests.{Rewind}
 use Rattle.interface.proofs.AcceptedLaws.{accepted}
-use Rattle.table.specs.Store.{Store, kept, Ranged}
+use Rattle.table.specs.Store.{Store, kept, Ranged, Filed}
 use Rattle.table.proofs.FiledLaws.{filed-ranged}
 use Rattle.areas.proofs.WalkLaws.{settled}
 use Rattle.records.specs.declared.Record.{Record}
@@ -23,7 +23,7 @@ use Rattle.page_decision.specs.Decision.{verdictNumber}
 use Rattle.few_rows.specs.Decided.{namesNoPage}
 use Rattle.memory.specs.Parts.{LeftBy}
 use Rattle.memory.proofs.MemoryLaws.{stepped-none, rewound}
-use Rattle.memory.proofs.ValueLaws.{no-value}
+use Rattle.memory.proofs.ValueLaws.{rewind-value}
 use Rattle.step.specs.Step.{numberAt, viewAt}
 use Rattle.step.specs.Acted.{worldFrom, Stands}
 use Rattle.step.proofs.ActedLaws.{sound-here, own-ready, own-number, acted-refused, acted-accepted}
@@ -89,10 +89,11 @@ opened-here s all row a n =
     let e : q .code ≡ Rewind = s .pre .0 in
     ap (λ (x : Sandbox). x .rec .opened) (a .handed .own) ∙ accepted (viewAt (s .args .image .now) w (q .sandbox)) q n .opened (rw e)
 
+filed : (s : tie.Start) → Filed 256 (pagesIn (length (s .args .pool .now))) (storeIn s)
+filed s = sound-here (s .args .image .now) (s .args .q) (s .args .b) (all s) (storeIn s) (there s) (its s) .filed
+
 ranged : (s : tie.Start) → Ranged 256 (s .args .pool .now) (s .args .table .now)
-ranged s =
-    let w : World = worldFrom (there s) (storeIn s) in
-    filed-ranged 256 (framesOf w) (storeIn s) (sound-here (s .args .image .now) (s .args .q) (s .args .b) (all s) (storeIn s) (there s) (its s) .filed)
+ranged s = filed-ranged 256 (pagesIn (length (s .args .pool .now))) (storeIn s) (filed s)
 
 -- ---- where the runs are gathered
 
@@ -130,10 +131,13 @@ gathered-requires c κs =
 rewind-requires : tie.Need-rewind-requires
 rewind-requires c κs =
     let s = gathering (c .before .before .before) in
-    (s .pre .1 .0, (own s, ranged s))
+    (s .pre .1 .0, (own s, filed s))
 
 with-present-requires : tie.Need-with-present-requires
 with-present-requires c κs = search needs
+
+cast-t30 : tie.Need-cast-t30
+cast-t30 c = search needs
 
 returns : tie.Need-returns
 returns c row all a =
@@ -151,7 +155,7 @@ same-length-2 c = search needs
 
 returns-2 : tie.Need-returns-2
 returns-2 c row all a =
-    let restored = c .before .before .before .before .before in
+    let restored = c .before .before .before .before .before .before in
     let found = restored .before .before .before in
     let told = told-at (found .before) in
     let s = gathering (found .before) in
@@ -160,13 +164,13 @@ returns-2 c row all a =
     let e = s .pre .0 in
     let w : World = worldFrom row (storeIn s) in
     let n = accepted-here (told .before .before) (told .enum-told .given .1) all row a in
-    let after : Store = kept (restored .rewind .result) (restored .rewind .last .1 .0) (restored .rewind .last .1 .1 .0) in
-    acted-accepted image q (s .args .b) all (storeIn s) row a 0 _ after (found .gathered .result) n
-    (no-value image q (s .args .b) (storeIn s) (λ x. omega arith) (λ x. omega arith) (λ x. omega arith) (λ x. omega arith) (λ x. omega arith))
+    let after : Store = kept (restored .rewind .result .held) (restored .rewind .last .1 .0) (restored .rewind .last .1 .1 .0) in
+    acted-accepted image q (s .args .b) all (storeIn s) row a (restored .rewind .result .changed) _ after (found .gathered .result) n
+    (rewind-value image q (s .args .b) (storeIn s) _ e (restored .rewind .ensures .1))
     (c .with-present .ensures ∙ record-rewound q (s .args .b .rec) e (opened-here s all row a n))
     (stepped-none image q w after (found .gathered .result) (rw e)
     (subst (λ (x : Sandbox). LeftBy image q x (storeIn s) after (found .gathered .result)) (a .handed .own)
-    (rewound image q (s .args .b) (storeIn s) after (found .gathered .result) e (restored .rewind .ensures)
+    (rewound image q (s .args .b) (storeIn s) after (found .gathered .result) e (restored .rewind .ensures .0)
     (found .gathered .ensures (s .args .held) (s .args .pool .now)))))
 
 pub rewind-sandbox-spec : {M : Type 1} → statement M
@@ -181,6 +185,7 @@ rewind-sandbox-spec =
     gathered-requires
     rewind-requires
     with-present-requires
+    cast-t30
     returns
     same-length
     same-length-2

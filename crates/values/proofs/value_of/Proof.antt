@@ -1,4 +1,4 @@
--- Each call that has a value has the one that it says; the others have 0.
+-- Each call that has a value has the one that it says; the others, which are no rewinds, have 0.
 use mathlib.Core.Path.{refl}
 use lib.ListN.{length}
 use Rattle.interface.specs.Numbers.{pagesIn}
@@ -121,6 +121,7 @@ returns-6 c = λ h.
     let s = behind (c .before) in
     let none = c .match .rest in
     no-value (s .args .image .now) (s .args .q) (s .args .b) (lent s h) (none .0 .0 .0 .0 .1) (none .0 .0 .0 .1) (none .0 .0 .1) (none .0 .1) (none .1)
+    (s .pre .1 .1 .1 .1 .1)
 
 pub value-of-spec : {M : Type 1} → statement M
 value-of-spec =

@@ -1,6 +1,8 @@
 -- A report or a comparison: refused with the number of the table, or its value.
 use mathlib.Core.Path.{_≡_, sym, ap, _∙_}
 use native.Mathlib.Omega.{arith}
+use borrow.Author.Tests.{eqb-false}
+use Rattle.interface.specs.Requests.{Rewind}
 use Rattle.state.specs.World.{World}
 use Rattle.page_decision.specs.declared.Verdict.the-variants.{Accepted}
 use Rattle.page_decision.specs.Decision.{verdictNumber}
@@ -57,7 +59,7 @@ value-of-requires c κs =
     let w = s .pre .1 .1 .0 in
     let A = s .pre .1 .1 .1 in
     let parts = asked (s .args .image .now) w (s .args .q) (state A) (accepted deciding w A (c .enum-told .given .1)) in
-    (row, (parts .fit, (ready-here A row, (ranged-here A, few-frames A))))
+    (row, (parts .fit, (ready-here A row, (ranged-here A, (few-frames A, eqb-false (s .args .q .code) Rewind (look-stays (s .args .q) (s .pre .0)))))))
 
 returns : tie.Need-returns
 returns c w A =

@@ -1,4 +1,5 @@
--- The pages below the first one that is still to be rewound are restored, each as the present areas say it; where a front stays, the snapshot's say the same.
+-- The pages below the first one that is still to be rewound are restored, each as the present areas say it, and the changed ones counted; where a front stays,
+-- the snapshot's areas say the same.
 use mathlib.Core.Path.{_≡_, refl, ap, _∙_}
 use Prim.Native.Nat.{ℕ, _-_, _*_, _≤_}
 use native.Mathlib.Omega.{arith}
@@ -7,11 +8,15 @@ use lib.ListN.{length}
 use Rattle.interface.specs.Numbers.{pagesIn}
 use Rattle.table.specs.Store.{Store, kept, frontOf, Ranged, freeTo, rewindTo}
 use Rattle.table.specs.Backing.{backingPage}
+use Rattle.table.proofs.FiledLaws.{filed-ranged}
 use Rattle.areas.specs.Formed.{WellFormed}
 use Rattle.content.specs.Content.{copyPage}
 use Rattle.memory.specs.Memory.{keepsFront}
 use Rattle.memory.proofs.MemoryLaws.{rewind-alike}
-use Rattle.rewinding.proofs.AreaLaws.{keeps, bytes, Left, left-start, left-first, backed-area, area-more, area-last, area-kept}
+use Rattle.restoring.specs.Changed.{changedTo}
+use Rattle.restoring.proofs.ChangedLaws.{changed-few}
+use Rattle.rewinding.proofs.AreaLaws.{keeps, bytes, Left, left-start, left-first, backed-area, area-more, area-last, count-last, area-kept}
+use Rattle.rewinding.proofs.FoundLaws.{found-changed}
 use Rattle.rewinding.proofs.store.rewind.Statement.{statement}
 use Rattle.rewinding.proofs.store.rewind.Tie as tie
 
@@ -20,6 +25,7 @@ Inv-loop pool₀ table₀ image s present count done₀ k₀ pool table done k =
     (k ≤ present .count) × (length pool ≡ length pool₀) × (length table ≡ length table₀) × Ranged 256 pool table × (done .page .0 ≤ 64)
     × (kept (done .held) pool table
     ≡ rewindTo 256 (s * 128) (keeps present) (bytes image present) (kept (done₀ .held) pool₀ table₀) (done .page .0))
+    × (done .changed ≡ changedTo 256 (s * 128) (keeps present) (bytes image present) (kept (done₀ .held) pool₀ table₀) (done .page .0))
     × Left present k (done .page .0)
 
 abbrev μ-loop : tie.MeasureT-loop
@@ -40,16 +46,24 @@ behind c = c .before .before .before .before .before
 abbrev found : tie.At-loop Inv-loop μ-loop → Store
 found c = let l = c .loop in kept (l .done .held) (l .pool) (l .table)
 
+-- no more pages were found changed than were looked at
+few-found : (c : tie.At-loop Inv-loop μ-loop) → c .loop .done .changed ≤ c .loop .done .page .0
+few-found c =
+    let a = behind c .args in
+    let st : Store = kept (a .held) (a .pool .now) (a .table .now) in
+    let few = changed-few 256 (a .s * 128) (keeps (a .b .present)) (bytes (a .image .now) (a .b .present)) st (c .loop .done .page .0) in
+    omega (arith, c .loop .inv .6, few)
+
 -- ---- the needs
 
 cast-count : tie.Need-cast-count Inv-loop μ-loop
 cast-count c = search needs
 
 loop-holds : tie.Need-loop-holds Inv-loop μ-loop
-unfolding rewindTo
+unfolding rewindTo changedTo
 loop-holds c =
     let s = c .before .before .before .before in
-    (omega arith, refl, refl, s .pre .1 .1, omega arith, refl, left-start (s .args .b .present))
+    (omega arith, refl, refl, filed-ranged 256 _ _ (s .pre .1 .1), omega arith, refl, refl, left-start (s .args .b .present))
 
 mul-area : tie.Need-mul-area Inv-loop μ-loop
 mul-area c = search needs
@@ -68,8 +82,8 @@ with-area-requires c κs =
     let area = formed s .each (l .k) more in (
       s .pre .0,
       (
-        left-first (a .image .now) (ready .few) (a .b .present) (formed s) (l .k) (l .done .page .0) (l .inv .6) more,
-        (area .inside, (area .some, (l .inv .3, backed-area (a .image .now) (ready .few) (a .b .present) (formed s) (l .k) more))),
+        left-first (a .image .now) (ready .few) (a .b .present) (formed s) (l .k) (l .done .page .0) (l .inv .7) more,
+        (area .inside, (area .some, (l .inv .3, (backed-area (a .image .now) (ready .few) (a .b .present) (formed s) (l .k) more, few-found (turn .before))))),
       ),
     )
 
@@ -93,16 +107,17 @@ loop-again c =
     let q : Store = kept (f .result .held) (f .last .1 .0) (f .last .1 .1 .0) in
     let page : ℕ = l .done .page .0 in
     let next =
-    area-more (a .image .now) few (a .b .present) (formed s) (a .s) st (l .k) page (l .inv .6) more (found (turn .before)) q (f .result .page .0)
-    (l .inv .5) (f .ensures .0) (f .ensures .1) in
+    area-more (a .image .now) few (a .b .present) (formed s) (a .s) st (l .k) page (l .inv .7) more (found (turn .before)) q (f .result .page .0)
+    (l .done .changed) (f .result .changed) (l .inv .5) (l .inv .6) (f .ensures .0) (f .ensures .1 .0) (f .ensures .1 .1) in
     let k = area-kept (a .image .now) few (a .b .present) (formed s) (a .s) (l .k) page (found (turn .before)) q more (f .ensures .0) (l .inv .3) in (
       search needs,
       k .pool ∙ l .inv .1,
       k .table ∙ l .inv .2,
       k .ranged,
-      omega (arith, next .1 .low, next .1 .there .small),
+      omega (arith, next .2 .low, next .2 .there .small),
       next .0,
       next .1,
+      next .2,
     )
 
 free-before-requires : tie.Need-free-before-requires Inv-loop μ-loop
@@ -127,11 +142,16 @@ returns c =
     let few = s .pre .1 .0 .few in
     let st : Store = kept (a .held) (a .pool .now) (a .table .now) in
     let page : ℕ = l .done .page .0 in
-    last .free-before .ensures ∙ ap (λ (x : Store). freeTo 256 (frontOf (a .s) page) x (64 - page)) (l .inv .5)
-    ∙ area-last (a .image .now) few (a .b .present) (formed s) (a .s) st (l .k) page (l .inv .6) (omega (arith, last .before .before .before .loop-test .left))
-    (l .inv .4)
-    ∙ rewind-alike 256 (a .s * 128) (keepsFront (a .b)) (bytes (a .image .now) (a .b .present)) (copyPage (a .image .now) (a .b)) st
-    (λ i h. ap (backingPage (a .image .now)) (s .pre .1 .0 .sound .backing i h)) 64
+    let none : a .b .present .count ≤ l .k = omega (arith, last .before .before .before .loop-test .left) in (
+      last .free-before .ensures
+          ∙ ap (λ (x : Store). freeTo 256 (frontOf (a .s) page) x (64 - page)) (l .inv .5)
+          ∙ area-last (a .image .now) few (a .b .present) (formed s) (a .s) st (l .k) page (l .inv .7) none (l .inv .4)
+          ∙ rewind-alike 256 (a .s * 128) (keepsFront (a .b)) (bytes (a .image .now) (a .b .present)) (copyPage (a .image .now) (a .b)) st
+          (λ i h. ap (backingPage (a .image .now)) (s .pre .1 .0 .sound .backing i h)) 64,
+      l .inv .6
+          ∙ count-last (a .image .now) few (a .b .present) (formed s) (a .s) st (l .k) page (l .inv .7) none (l .inv .4)
+          ∙ found-changed (a .image .now) (a .b) (s .pre .1 .0) (a .s) st _ (s .pre .1 .1),
+    )
 
 pub rewind-spec : {M : Type 1} → statement M
 rewind-spec =

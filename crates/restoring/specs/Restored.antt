@@ -1,0 +1,14 @@
+-- What the restoring of so many committed pages leaves, and what it tells.
+use mathlib.Core.Path.{_≡_}
+use mathlib.Core.Bool.{true}
+use mathlib.Core.List.{List}
+use Prim.Native.Nat.{ℕ}
+use Rattle.interface.specs.declared.page.Backing.{Backing}
+use Rattle.table.specs.Store.{Store, rewindTo}
+use Rattle.restoring.specs.Backed.{backingOn}
+use Rattle.restoring.specs.Changed.{changedTo}
+
+-- the pages "keep their fronts, whose bytes become the snapshot's"; and those whose bytes differed are counted
+pub record RestoredTo (image : List ℕ) (backing : Backing) (at : ℕ) (before after : Store) (changed pages : ℕ) : Type 0 where
+  pub left : after ≡ rewindTo 256 at (λ i. true) (backingOn image backing) before pages
+  pub told : changed ≡ changedTo 256 at (λ i. true) (backingOn image backing) before pages
