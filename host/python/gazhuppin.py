@@ -17,6 +17,7 @@ It is looked for there, or where the environment's GAZHUPPIN_SO says. Nothing el
     >>> machine.compare(0)
     0
     >>> machine.rewind(0)
+    1
     >>> machine.read(0, address(page, 5))
     7
     >>> machine.compare(0) is None
@@ -213,12 +214,13 @@ class Machine:
 
     def rewind(self, sandbox):
         """Return to the sandbox's snapshot: its mappings, rights and bytes. The frames of anonymous areas mapped since are cleared and kept, within
-        the share, for maps to come."""
-        self.answer(8, sandbox)
+        the share, for maps to come. Gives the number of pages put back: those of the snapshot that were mapped all the while, since it or the last
+        rewind, and whose bytes differed."""
+        return self.answer(8, sandbox)
 
     def report(self, sandbox):
         """How many frames the sandbox holds: those of its pages, those of its snapshot, and those it keeps from finished requests. Of all answers
-        only this one may tell of a request that was rewound."""
+        after a rewind only this one may tell of the request that was rewound."""
         return self.answer(9, sandbox)
 
     def compare(self, sandbox):

@@ -25,9 +25,9 @@ def main():
     print(f"the tally is 100; the snapshot has {machine.snapshot(SANDBOX)} pages")
     for request in (1, 2, 3):
         serve(machine, request)
-        machine.rewind(SANDBOX)
+        pages = machine.rewind(SANDBOX)
         tally, other = machine.read(SANDBOX, TALLY), machine.read(SANDBOX, OTHER_PAGE)
-        print(f"rewound: tally {tally}, other page {other}, {machine.report(SANDBOX)} frames held")
+        print(f"{pages} pages put back: tally {tally}, other page {other}, {machine.report(SANDBOX)} frames held")
 
 
 if __name__ == "__main__":

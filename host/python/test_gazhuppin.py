@@ -25,7 +25,7 @@ class Calls(unittest.TestCase):
         machine.write(0, 5, 9)
         machine.write(0, 300, 4)
         self.assertEqual(machine.report(0), 3)
-        machine.rewind(0)
+        self.assertEqual(machine.rewind(0), 2)
         self.assertEqual((machine.read(0, 5), machine.read(0, 300), machine.report(0)), (7, 0, 3))
         self.refused(Refusal.SNAPSHOT_TAKEN, machine.snapshot, 0)
 
@@ -74,7 +74,7 @@ class Calls(unittest.TestCase):
         machine.unmap(0, 0, 64)
         self.assertEqual(machine.report(0), 3)
         machine.unmap(0, 0, 64)
-        machine.rewind(0)
+        self.assertEqual(machine.rewind(0), 0)
         self.assertEqual((machine.state, machine.pool, machine.table), memory)
 
     def test_frames_of_a_finished_request_are_kept(self):
@@ -88,7 +88,7 @@ class Calls(unittest.TestCase):
                 machine.write(0, address(page, 0), request)
                 machine.write(0, address(page, 255), request)
             self.assertEqual(machine.report(0), 3)
-            machine.rewind(0)
+            self.assertEqual(machine.rewind(0), 0)
             self.assertEqual((machine.report(0), machine.pool, machine.table), (3, bytes(16 * 256), (0,) * 512))
             self.assertIsNone(machine.compare(0))
         machine.map(0, 7, at=8)
@@ -121,6 +121,29 @@ class Calls(unittest.TestCase):
         self.assertEqual(machine.compare(0), 63)
         machine.rewind(0)
         self.assertIsNone(machine.compare(0))
+
+    def test_pages_put_back(self):
+        machine = Machine(image=bytes([7]) * 256, frames=32)
+        machine.open(0, 16)
+        machine.map(0, 3, at=0)
+        machine.map(0, 1, at=3, image_page=0)
+        machine.write(0, address(0, 9), 1)
+        machine.snapshot(0)
+        self.assertEqual(machine.rewind(0), 0)
+        for page in (0, 1, 3):
+            machine.write(0, address(page, 255), 2)
+        self.assertEqual((machine.rewind(0), machine.rewind(0)), (3, 0))
+        # Written back; unmapped; and mapped anew.
+        machine.write(0, address(0, 9), 2)
+        machine.write(0, address(0, 9), 1)
+        machine.write(0, address(1, 0), 2)
+        machine.write(0, address(2, 0), 2)
+        machine.unmap(0, 2, 1)
+        self.assertEqual(machine.rewind(0), 1)
+        machine.unmap(0, 0, 1)
+        machine.map(0, 1, at=0)
+        machine.write(0, address(0, 9), 2)
+        self.assertEqual(machine.rewind(0), 0)
 
     def test_archive(self):
         image = bytes([7]) * 512

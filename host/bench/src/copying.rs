@@ -1,6 +1,6 @@
 //! The machine that a snapshot by copying would be: one sandbox in flat arrays, whose
-//! snapshot copies all pages and mappings and whose rewind copies them all back. It
-//! makes no test of soundness and reads no text.
+//! snapshot copies all pages and mappings and whose rewind copies them all back and says how
+//! many pages differed. It makes no test of soundness and reads no text.
 
 use model::{PAGES, PAGE_BYTES};
 
@@ -41,9 +41,12 @@ impl Copying {
         self.copy.bytes.copy_from_slice(&self.present.bytes);
     }
 
-    pub fn rewind(&mut self) {
+    pub fn rewind(&mut self) -> usize {
+        let pages = self.present.bytes.iter().zip(&self.copy.bytes);
+        let differing = pages.filter(|(page, copy)| page != copy).count();
         self.present.mappings.copy_from_slice(&self.copy.mappings);
         self.present.bytes.copy_from_slice(&self.copy.bytes);
+        differing
     }
 
     pub fn store(&mut self, page: usize, offset: usize, byte: u8) {

@@ -21,7 +21,7 @@ pub mod meter;
 pub mod mixed;
 pub mod reach;
 pub mod rewind;
-mod roll;
+pub mod roll;
 mod rounds;
 pub mod rows;
 // Two machines from one set of files; see there.

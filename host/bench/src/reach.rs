@@ -9,8 +9,8 @@ pub const CALL: Ratio = Ratio { count: 1.0, time: Some(1.1) };
 /// The same of a line of the mixed roll.
 pub const MIXED: Ratio = Ratio { count: 0.8, time: Some(1.1) };
 /// The most that a rewind's own work is to cost beside a bare copy of the dirty pages, and at how
-/// many dirty pages.
-pub const REWIND: Ratio = Ratio { count: 2.0, time: Some(2.0) };
+/// many dirty pages. It compares as it copies: 2.0 was the most of one that did not.
+pub const REWIND: Ratio = Ratio { count: 2.5, time: Some(2.0) };
 pub const REWIND_AT: [u16; 2] = [7, 64];
 /// The most instructions of the test of soundness in the busy state.
 const MOST_OF_TEST: i64 = 6_000;
@@ -44,9 +44,12 @@ pub fn written(measured: &Measured) -> String {
             "(a) mixed roll, at most 0.8 × the trusting machine; in time 1.1 ×",
             within(&mixed::beside_trusting(mixed), &MIXED),
         ),
-        row("(b) a rewind's own work at 7 dirty pages, at most 2.0 × the bare copy", own_work(few)),
         row(
-            "(b) a rewind's own work at 64 dirty pages, at most 2.0 × the bare copy",
+            "(b) a rewind's own work at 7 dirty pages, at most 2.5 × the bare copy; in time 2.0 ×",
+            own_work(few),
+        ),
+        row(
+            "(b) a rewind's own work at 64 dirty pages, at most 2.5 × the bare copy; in time 2.0 ×",
             own_work(all),
         ),
         row(
@@ -62,7 +65,7 @@ pub fn written(measured: &Measured) -> String {
             at_most(rewind::line_and_full_copy(rewind, all)),
         ),
         row(
-            "beside (b): each further dirty page, at most 2.0 × the bare copy's",
+            "beside (b): each further dirty page, at most 2.5 × the bare copy's; in time 2.0 ×",
             within(&rewind::further_page(rewind), &REWIND),
         ),
     ];

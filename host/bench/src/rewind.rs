@@ -1,7 +1,7 @@
 //! (b) Rewind against dirty pages, beside the copying machine and a bare copy.
 
 use crate::reach;
-use crate::roll::{map, open, rewind, snapshot, text, write, WRITE};
+use crate::roll::{change, change_at, map, open, rewind, snapshot, store, text, write, WRITE};
 use crate::svg::{plot, Curve, Panel};
 use crate::table::{markdown, thousands, Cost, Costs, Purpose, Ratio, Table, NOT_MEASURED};
 use crate::work::{Player, Work};
@@ -11,46 +11,121 @@ pub const TABLE: Table = Table { name: "rewind", works, markdown: written, round
 
 pub const DIRTY: [u16; 9] = [0, 1, 2, 4, 7, 8, 16, 32, 64];
 const PLAYERS: [Player; 3] = [Player::Proved, Player::Trusting, Player::Unproved];
-const REPEATS: usize = 256;
-/// The works of a machine: the state's calls alone, with a rewind, and with a refused call.
+const REPEATS: usize = 64;
+/// The works of a machine: requests alone, each with a rewind, and each with a refused call.
 const KINDS: usize = 3;
 /// The works of one number of dirty pages: those of each machine, with backs and without, and
 /// the bare copy.
 const STRIDE: usize = 2 * KINDS * PLAYERS.len() + 1;
+/// Where the only byte of each dirty page lies that differs from the snapshot's.
+const PLACES: [(&str, Option<u16>); 5] = [
+    ("first byte", Some(0)),
+    ("byte 100", Some(100)),
+    ("byte 191", Some(191)),
+    ("last byte", Some(255)),
+    ("nowhere", None),
+];
+/// The machines for which it is told apart where that byte lies.
+const PLAYERS_OF_PLACES: usize = 2;
 
-/// One sandbox with all 64 pages mapped and a share of all 128 frames. With `backs` every
-/// page was written before the snapshot, else none was. Since then `dirty` pages were.
-pub fn state(dirty: u16, backs: bool) -> Vec<Call> {
+/// One sandbox with all 64 pages mapped and a share of all 128 frames, and its snapshot. With
+/// `backs` every page was written before it, else none was.
+fn taken(backs: bool) -> Vec<Call> {
     let mut calls = vec![open(0, 128), map(0, 0, 64, WRITE)];
     if backs {
         calls.extend((0..64).map(|page| write(0, page)));
     }
     calls.push(snapshot(0));
-    calls.extend((0..dirty).map(|page| write(0, page)));
     calls
 }
 
-/// The works of each number of dirty pages, then the copying machine's rewind. The refused call
-/// is one that is refused as soon as the state is known.
+/// The same; since then `dirty` pages were written, and differ from the snapshot's.
+pub fn state(dirty: u16, backs: bool) -> Vec<Call> {
+    let mut calls = taken(backs);
+    calls.extend((0..dirty).map(|page| change(0, page)));
+    calls
+}
+
+/// A request that writes one byte of each of so many pages: at this place, or, without a place, as
+/// it was in the snapshot.
+#[derive(Clone, Copy)]
+struct Request {
+    dirty: u16,
+    backs: bool,
+    place: Option<u16>,
+}
+
+impl Request {
+    fn writes(self) -> impl Iterator<Item = Call> {
+        (0..self.dirty).map(move |page| match (self.place, self.backs) {
+            (Some(offset), _) => change_at(0, page, offset),
+            (None, true) => write(0, page),
+            (None, false) => store(0, page, 0),
+        })
+    }
+
+    /// What a rewind answers to it.
+    fn put_back(self) -> u32 {
+        self.place.map_or(0, |_| u32::from(self.dirty))
+    }
+
+    /// A machine's works: so many requests alone, each with a rewind, and each with a call that is
+    /// refused as soon as the state is known. A rewind leaves no page that differs, so that each
+    /// has a request before it.
+    fn works(self, player: Player, repeats: usize) -> [Work; KINDS] {
+        [None, Some(rewind(0)), Some(open(0, 1))].map(|last| {
+            let round: Vec<Call> = self.writes().chain(last).collect();
+            let calls = [taken(self.backs), round.repeat(repeats)].concat();
+            self.check(player, &calls);
+            Work::play(player, text(&calls))
+        })
+    }
+
+    /// Asserts that the calls are answered as the tables suppose; the first is the only open that
+    /// is accepted.
+    fn check(self, player: Player, calls: &[Call]) {
+        let played = player.played(&text(calls));
+        for (line, call) in calls.iter().enumerate() {
+            let (number, value) = played.reply(line);
+            let refused = call.code == 1 && line > 0;
+            assert_eq!(number, if refused { 5 } else { 0 }, "line {line} of a measured roll");
+            assert!(call.code != 8 || value == self.put_back(), "a rewind answers {value}");
+        }
+    }
+}
+
+/// The works of each number of dirty pages; the copying machine's rewind, and a full copy; then
+/// the works of each place of the byte that differs.
 fn works(purpose: Purpose) -> Vec<Work> {
     let repeats = if purpose == Purpose::Time { REPEATS } else { 1 };
     let mut works = Vec::new();
     for dirty in DIRTY {
         for backs in [true, false] {
-            for player in PLAYERS {
-                works.push(Work::play(player, text(&state(dirty, backs))));
-                for (call, number) in [(rewind(0), 0), (open(0, 1), 5)] {
-                    let mut calls = state(dirty, backs);
-                    calls.extend(vec![call; repeats]);
-                    player.played(&text(&calls)).expect_last(repeats, number);
-                    works.push(Work::play(player, text(&calls)));
-                }
-            }
+            let request = Request { dirty, backs, place: Some(100) };
+            works.extend(PLAYERS.iter().flat_map(|&player| request.works(player, repeats)));
         }
         works.push(Work::BareCopy { pages: usize::from(dirty) });
     }
-    works.push(Work::CopyingRewind);
+    works.extend([Work::CopyingRewind, Work::CopyingSnapshot]);
+    for (_, request) in placed() {
+        let players = &PLAYERS[..PLAYERS_OF_PLACES];
+        works.extend(players.iter().flat_map(|&player| request.works(player, repeats)));
+    }
     works
+}
+
+/// The requests of the table of places, each with its name.
+fn placed() -> Vec<(String, Request)> {
+    let mut requests = Vec::new();
+    for dirty in reach::REWIND_AT {
+        for backs in [true, false] {
+            let kind = if backs { "with backs" } else { "without" };
+            requests.extend(PLACES.map(|(title, place)| {
+                (format!("{dirty} {kind}, {title}"), Request { dirty, backs, place })
+            }));
+        }
+    }
+    requests
 }
 
 /// What a machine's rewind costs.
@@ -62,23 +137,34 @@ struct Rewind {
     own_work: Cost,
 }
 
+impl Rewind {
+    /// By the works of a request that begin here.
+    fn of(costs: &Costs, at: usize) -> Rewind {
+        Rewind {
+            line: costs.of_call(at + 1, at, REPEATS),
+            own_work: costs.of_call(at + 1, at + 2, REPEATS),
+        }
+    }
+}
+
 fn rewind_of(costs: &Costs, index: usize, backs: bool, player: usize) -> Rewind {
     let kind = if backs { 0 } else { KINDS * PLAYERS.len() };
-    let at = STRIDE * index + kind + KINDS * player;
-    Rewind {
-        line: costs.of_call(at + 1, at, REPEATS),
-        own_work: costs.of_call(at + 1, at + 2, REPEATS),
-    }
+    Rewind::of(costs, STRIDE * index + kind + KINDS * player)
 }
 
 fn bare_copy(costs: &Costs, index: usize) -> Cost {
     costs.of(STRIDE * index + STRIDE - 1)
 }
 
-/// The copying machine's rewind, as it was counted: callgrind counts each byte of one long copy
-/// as an instruction.
-fn full_copy(costs: &Costs) -> Cost {
+/// The copying machine's rewind, which compares too.
+fn copying_rewind(costs: &Costs) -> Cost {
     costs.of(STRIDE * DIRTY.len())
+}
+
+/// A full copy alone, which is the copying machine's snapshot, as it was counted: callgrind counts
+/// each byte of one long copy as an instruction.
+fn full_copy(costs: &Costs) -> Cost {
+    costs.of(STRIDE * DIRTY.len() + 1)
 }
 
 /// The same with the instructions of a copy page by page.
@@ -96,17 +182,27 @@ fn written(costs: &Costs) -> String {
         let rows: Vec<Vec<String>> =
             (0..DIRTY.len()).map(|index| row(costs, index, backs)).collect();
         let kind = match backs {
-            true => "Dirty pages with a back (their bytes are copied)",
-            false => "Dirty pages without a back (they become zero)",
+            true => "Dirty pages with a back (their bytes are compared with it and copied)",
+            false => "Dirty pages without a back (they are compared with zero and become so)",
         };
         text.push_str(&format!("{kind}:\n\n{}\n", markdown(&HEAD, &rows)));
     }
-    let [few, all] = reach::REWIND_AT.map(|dirty| rewind_of(costs, index_of(dirty), true, 0).line);
-    let copy = full_copy(costs);
     text.push_str(&format!(
-        "The copying machine's rewind, a full copy whatever was written: 16,384 bytes, {} \
-         instructions, {} ns. A whole line of the proved machine's roll, with backs: {} ns at {} \
-         dirty pages, {} ns at {}.\n",
+        "A rewind's own work, by where the only byte of each dirty page lies that differs from the \
+         snapshot's:\n\n{}\n",
+        markdown(&HEAD_OF_PLACES, &place_rows(costs))
+    ));
+    let [few, all] = reach::REWIND_AT.map(|dirty| rewind_of(costs, index_of(dirty), true, 0).line);
+    let (rewind, copy) = (copying_rewind(costs), full_copy(costs));
+    text.push_str(&format!(
+        "Timed are {REPEATS} requests, each with its rewind, less as many with a call that is \
+         refused (for a line: less the requests alone), so that every rewind finds what the \
+         request wrote. The copying machine's rewind, which compares and copies all pages whatever \
+         was written: {} instructions, {} ns; a full copy alone, 16,384 bytes: {} instructions, {} \
+         ns. A whole line of the proved machine's roll, with backs: {} ns at {} dirty pages, {} ns \
+         at {}.\n",
+        rewind.instructions(),
+        rewind.nanoseconds(),
         copy.instructions(),
         copy.nanoseconds(),
         few.nanoseconds(),
@@ -115,6 +211,24 @@ fn written(costs: &Costs) -> String {
         reach::REWIND_AT[1],
     ));
     text
+}
+
+const HEAD_OF_PLACES: [&str; 5] =
+    ["dirty pages, the byte", "proved", "trusting", "proved, ns", "trusting, ns"];
+
+fn place_rows(costs: &Costs) -> Vec<Vec<String>> {
+    let first = STRIDE * DIRTY.len() + 2;
+    let row = |(index, (title, _)): (usize, (String, Request))| {
+        let own_work = |player: usize| {
+            Rewind::of(costs, first + KINDS * (PLAYERS_OF_PLACES * index + player)).own_work
+        };
+        let own_works: [Cost; PLAYERS_OF_PLACES] = std::array::from_fn(own_work);
+        let mut row = vec![title];
+        row.extend(own_works.iter().map(Cost::instructions));
+        row.extend(own_works.iter().map(Cost::nanoseconds));
+        row
+    };
+    placed().into_iter().enumerate().map(row).collect()
 }
 
 const HEAD: [&str; 16] = [

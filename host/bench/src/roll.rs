@@ -41,6 +41,16 @@ pub fn write(sandbox: u16, page: u16) -> Call {
     store(sandbox, page, 1 + page)
 }
 
+/// A write at the same place of another byte than `write`'s, which is not zero either.
+pub fn change(sandbox: u16, page: u16) -> Call {
+    change_at(sandbox, page, 100)
+}
+
+/// The same at this place of the page.
+pub fn change_at(sandbox: u16, page: u16, offset: u16) -> Call {
+    call(6, sandbox, [256 * page + offset, 65 + page, 0, 0, 0])
+}
+
 /// A write of a byte at the place of `write`.
 pub fn store(sandbox: u16, page: u16, byte: u16) -> Call {
     call(6, sandbox, [256 * page + 100, byte, 0, 0, 0])

@@ -1,7 +1,7 @@
 //! (e) Ten rounds of writes and a rewind, beside a machine whose rewind frees its fronts;
 //! and the adverse case, one large request.
 
-use crate::roll::{open, rewind, text, write};
+use crate::roll::{change, open, rewind, text};
 use crate::table::{markdown, thousands, Costs, Purpose, Table};
 use crate::work::{Player, Work};
 use model::Call;
@@ -21,7 +21,7 @@ fn state() -> Vec<Call> {
 }
 
 fn rounds(pages: u16) -> Vec<Call> {
-    let mut round: Vec<Call> = (0..pages).map(|page| write(0, page)).collect();
+    let mut round: Vec<Call> = (0..pages).map(|page| change(0, page)).collect();
     round.push(rewind(0));
     round.repeat(ROUNDS)
 }
@@ -90,7 +90,7 @@ const FIRST_REQUESTS: [u16; 2] = [1, 64];
 /// A first request and its rewind, then a request that writes one page.
 fn after_request(pages: u16) -> Vec<Call> {
     let mut calls = crate::rewind::state(pages, true);
-    calls.extend([rewind(0), write(0, 0)]);
+    calls.extend([rewind(0), change(0, 0)]);
     calls
 }
 
@@ -102,7 +102,8 @@ fn adverse_works(purpose: Purpose) -> Vec<Work> {
     for player in PLAYERS {
         for pages in FIRST_REQUESTS {
             // So that each rewind has a request before it.
-            for (last, number) in [([write(0, 0), rewind(0)], 0), ([write(0, 0), open(0, 1)], 5)] {
+            for (last, number) in [([change(0, 0), rewind(0)], 0), ([change(0, 0), open(0, 1)], 5)]
+            {
                 let mut calls = after_request(pages);
                 calls.extend(last.repeat(repeats));
                 let played = player.played(&text(&calls));

@@ -1,8 +1,8 @@
 //! The calls that (a) and (f) measure, each with its state and with what returns to it.
 
 use crate::roll::{
-    call, compare, map, open, protect, read, report, rewind, snapshot, unmap, write, ANYWHERE,
-    READ, WRITE,
+    call, change, compare, map, open, protect, read, report, rewind, snapshot, unmap, write,
+    ANYWHERE, READ, WRITE,
 };
 use crate::states::{full_pages, State};
 use crate::table::{Cost, Costs, Purpose, NOT_MEASURED};
@@ -99,6 +99,12 @@ pub fn rows() -> Vec<Row> {
     ]);
     rows.extend(full());
     rows.push(Row::refused(State::Full, "open again, refused 5", open(0, 1), 5));
+    rows.push(Row::new(
+        State::Changed,
+        "rewind, 16 fronts, all differ",
+        rewind(0),
+        Back::After("with 16 writes", full_pages().map(|page| change(0, page)).collect()),
+    ));
     rows
 }
 
@@ -146,10 +152,13 @@ fn busy() -> Vec<Row> {
         row("write, takes a frame over the image", write(1, 34), taken(34)),
         row("snapshot, 12 pages", snapshot(2), Back::Never),
         row(
-            "rewind, 6 fronts",
+            "rewind, 6 fronts, 2 differ",
             rewind(0),
-            // The map takes the frame that the rewind kept.
-            Back::After("with map", vec![map(0, ANYWHERE, 2, WRITE)]),
+            // The map takes the frame that the rewind kept; pages 3 and 9 have no back.
+            Back::After(
+                "with map, 2 writes",
+                vec![map(0, ANYWHERE, 2, WRITE), write(0, 3), write(0, 9)],
+            ),
         ),
         row("report", report(0), Back::AtOnce),
         row("compare, page 3 differs", compare(0), Back::AtOnce),
@@ -182,7 +191,7 @@ fn full() -> Vec<Row> {
         ),
         row("read, front", read(0, 57), Back::AtOnce),
         row("write, front there", write(0, 57), Back::AtOnce),
-        row("rewind, 16 fronts", rewind(0), Back::AtOnce),
+        row("rewind, 16 fronts, none differs", rewind(0), Back::AtOnce),
         row("report", report(0), Back::AtOnce),
         row("compare, 16 fronts, clean", compare(0), Back::AtOnce),
     ]

@@ -1,6 +1,6 @@
 //! The states in which calls are measured, each as the calls that lead to it.
 
-use crate::roll::{call, map, map_image, open, snapshot, write, READ, WRITE};
+use crate::roll::{call, change, map, map_image, open, snapshot, write, READ, WRITE};
 use model::Call;
 
 #[derive(Clone, Copy, PartialEq, Eq, Debug)]
@@ -10,14 +10,17 @@ pub enum State {
     /// Three sandboxes in use, the fourth closed; 23 frames held.
     Busy,
     /// All four sandboxes with 8 areas in present and snapshot, each page with a front
-    /// and a back; all 128 frames held.
+    /// and a back that hold the same; all 128 frames held.
     Full,
     /// No line was read yet: what comes pays for what a roll's first line pays for.
     First,
+    /// As the full state, but each front differs from its back in a byte.
+    Changed,
 }
 
 impl State {
-    pub const ALL: [State; 4] = [State::Closed, State::Busy, State::Full, State::First];
+    pub const ALL: [State; 5] =
+        [State::Closed, State::Busy, State::Full, State::First, State::Changed];
     /// Those that differ in what they hold.
     pub const TESTED: [State; 3] = [State::Closed, State::Busy, State::Full];
 
@@ -27,6 +30,7 @@ impl State {
             State::Busy => "busy",
             State::Full => "full",
             State::First => "first line",
+            State::Changed => "changed",
         }
     }
 
@@ -44,8 +48,9 @@ impl State {
         match self {
             State::Closed => vec![call(0, 0, [0; 5])],
             State::Busy => busy(),
-            State::Full => full(),
+            State::Full => full(write),
             State::First => Vec::new(),
+            State::Changed => full(change),
         }
     }
 }
@@ -76,15 +81,15 @@ fn busy() -> Vec<Call> {
     calls
 }
 
-/// Shares of 32, used up: 16 snapshot pages in 8 areas.
-fn full() -> Vec<Call> {
+/// Shares of 32, used up: 16 snapshot pages in 8 areas, each written again so.
+fn full(again: fn(u16, u16) -> Call) -> Vec<Call> {
     let mut calls = Vec::new();
     for sandbox in 0..4 {
         calls.push(open(sandbox, 32));
         calls.extend((0..8).map(|area| map(sandbox, 8 * area, 2, WRITE)));
         calls.extend(full_pages().map(|page| write(sandbox, page)));
         calls.push(snapshot(sandbox));
-        calls.extend(full_pages().map(|page| write(sandbox, page)));
+        calls.extend(full_pages().map(|page| again(sandbox, page)));
     }
     calls
 }

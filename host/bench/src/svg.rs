@@ -28,7 +28,7 @@ impl Curve {
     }
 
     pub fn copying(points: Vec<(f64, f64)>) -> Curve {
-        Curve { name: "copying machine, all 64 pages", colour: "#b22222", points }
+        Curve { name: "full copy of all 64 pages", colour: "#b22222", points }
     }
 }
 

@@ -2,7 +2,7 @@
 
 use crate::mixed;
 use crate::rewind;
-use crate::roll::{self, text, write};
+use crate::roll::{self, change, text};
 use crate::table::{markdown, thousands, Costs, Purpose, Table, NOT_MEASURED};
 use crate::work::{Player, Work};
 use model::{Call, LINES};
@@ -24,7 +24,7 @@ fn loads() -> [Load; 3] {
     let mixed = mixed::roll(LINES);
     let accepted = thousands(mixed::accepted(&mixed) as i64);
     let rewinds = repeated(&[roll::rewind(0)]);
-    let mut request: Vec<Call> = (0..DIRTY).map(|page| write(0, page)).collect();
+    let mut request: Vec<Call> = (0..DIRTY).map(|page| change(0, page)).collect();
     request.push(roll::rewind(0));
     let requests = repeated(&request);
     [
@@ -33,8 +33,9 @@ fn loads() -> [Load; 3] {
             roll: mixed,
             units: LINES,
         },
-        Load { title: format!("rewinds, {DIRTY} of 64 pages dirty"), ..rewinds },
-        Load { title: format!("requests of {DIRTY} writes and a rewind"), ..requests },
+        // One right behind the other: of all but the first, nothing differs.
+        Load { title: format!("rewinds, {DIRTY} of 64 pages with a front"), ..rewinds },
+        Load { title: format!("requests of {DIRTY} writes and a rewind of them"), ..requests },
     ]
 }
 

@@ -94,7 +94,7 @@ pub enum Work {
     },
     /// The copying machine's snapshot: all 64 pages and their mappings.
     CopyingSnapshot,
-    /// The copying machine's rewind: all 64 pages and their mappings.
+    /// The copying machine's rewind: all 64 pages, compared and copied, and their mappings.
     CopyingRewind,
     /// So many pages copied, one after the other.
     BareCopy {
@@ -161,7 +161,9 @@ impl Work {
             Work::CopyingRewind => {
                 let mut machine = Copying::new();
                 machine.snapshot();
-                Box::new(move || black_box(&mut machine).rewind())
+                Box::new(move || {
+                    black_box(black_box(&mut machine).rewind());
+                })
             }
             Work::BareCopy { pages } => {
                 let from = vec![1u8; pages * PAGE_BYTES];

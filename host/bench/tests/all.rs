@@ -4,5 +4,6 @@ mod archive;
 mod compare;
 mod kept;
 mod measures;
+mod put_back;
 mod runs;
 mod unproved;

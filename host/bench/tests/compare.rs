@@ -4,37 +4,37 @@
 use bench::{same_steps, unproved};
 use model::{call_line, Call};
 
-type Play = fn(&[u8], &[u8], &mut [u8], &mut [u16], &mut [u8]) -> usize;
-type Fields = [u16; 7];
+pub type Play = fn(&[u8], &[u8], &mut [u8], &mut [u16], &mut [u8]) -> usize;
+pub type Fields = [u16; 7];
 /// A reply's number and value.
-type Reply = (u32, u32);
+pub type Reply = (u32, u32);
 
-fn proved(r: &[u8], i: &[u8], pool: &mut [u8], table: &mut [u16], out: &mut [u8]) -> usize {
+pub fn proved(r: &[u8], i: &[u8], pool: &mut [u8], table: &mut [u16], out: &mut [u8]) -> usize {
     gazhuppin::play(r, i, pool, table, out).expect("out has room")
 }
 
 const COMPARE: Fields = [10, 0, 0, 0, 0, 0, 0];
-const SNAPSHOT: Fields = [7, 0, 0, 0, 0, 0, 0];
-const REWIND: Fields = [8, 0, 0, 0, 0, 0, 0];
-const OPEN: Fields = [1, 0, 128, 0, 0, 0, 0];
+pub const SNAPSHOT: Fields = [7, 0, 0, 0, 0, 0, 0];
+pub const REWIND: Fields = [8, 0, 0, 0, 0, 0, 0];
+pub const OPEN: Fields = [1, 0, 128, 0, 0, 0, 0];
 
-fn map(first: u16, pages: u16) -> Fields {
+pub fn map(first: u16, pages: u16) -> Fields {
     [2, 0, first, pages, 0, 0, 3]
 }
 
-fn map_image(first: u16, image_page: u16) -> Fields {
+pub fn map_image(first: u16, image_page: u16) -> Fields {
     [2, 0, first, 1, 1, image_page, 3]
 }
 
-fn unmap(page: u16) -> Fields {
+pub fn unmap(page: u16) -> Fields {
     [3, 0, page, 1, 0, 0, 0]
 }
 
-fn protect(page: u16, rights: u16) -> Fields {
+pub fn protect(page: u16, rights: u16) -> Fields {
     [4, 0, page, 1, rights, 0, 0]
 }
 
-fn write(address: u16, byte: u16) -> Fields {
+pub fn write(address: u16, byte: u16) -> Fields {
     [6, 0, address, byte, 0, 0, 0]
 }
 
@@ -45,8 +45,8 @@ fn image() -> Vec<u8> {
     image
 }
 
-/// What each line of call 10, of a code past it and each refused line is told.
-fn told(play: Play, lines: &[Fields]) -> Vec<Reply> {
+/// What each line is told.
+pub fn replies(play: Play, lines: &[Fields]) -> Vec<Reply> {
     let call = |&[code, sandbox, p1, p2, p3, p4, p5]: &Fields| {
         call_line(&Call { code, sandbox, parameters: [p1, p2, p3, p4, p5] })
     };
@@ -55,11 +55,16 @@ fn told(play: Play, lines: &[Fields]) -> Vec<Reply> {
     let (mut pool, mut table) = (vec![1; 128 * 256], [1; 512]);
     assert_eq!(play(&roll, &image(), &mut pool, &mut table, &mut out), lines.len());
     let text = String::from_utf8(out).expect("replies are text");
-    let replies = text.lines().map(|line| {
+    let reply = |line: &str| {
         let field = |at: usize| line[at..at + 6].trim().parse().expect("a number");
         (field(6), field(12))
-    });
-    let of_interest = lines.iter().zip(replies);
+    };
+    text.lines().map(reply).collect()
+}
+
+/// What each line of call 10, of a code past it and each refused line is told.
+fn told(play: Play, lines: &[Fields]) -> Vec<Reply> {
+    let of_interest = lines.iter().zip(replies(play, lines));
     of_interest.filter(|(line, told)| line[0] >= 10 || told.0 != 0).map(|(_, told)| told).collect()
 }
 

@@ -3,7 +3,7 @@
 
 use bench::copying::Copying;
 use bench::document::with_part;
-use bench::rows::rows;
+use bench::rows::{rows, Row};
 use bench::states::State;
 use bench::table::{thousands, Purpose, Ratio, Table};
 use bench::TABLES;
@@ -17,8 +17,12 @@ fn the_copying_machine_rewinds_to_its_snapshot() {
     machine.store(63, 255, 10);
     machine.store(0, 0, 11);
     assert_eq!((machine.byte(63, 255), machine.byte(0, 0)), (Some(10), Some(11)));
-    machine.rewind();
+    assert_eq!(machine.rewind(), 2);
     assert_eq!((machine.byte(63, 255), machine.byte(0, 0)), (Some(9), Some(1)));
+    // A page written back is not counted, and right after a rewind none is.
+    machine.store(5, 100, 7);
+    machine.store(5, 100, 1);
+    assert_eq!((machine.rewind(), machine.rewind()), (0, 0));
 }
 
 #[test]
@@ -77,7 +81,28 @@ fn timed_calls_return_to_their_state() {
         assert!(rewound || before == once, "{}", row.title());
         returning += usize::from(group.len() > 1);
     }
-    assert_eq!(returning, 12);
+    assert_eq!(returning, 13);
+}
+
+/// The rewinds of (a) find as many pages that differ as their names say, each time that they are
+/// made.
+#[test]
+fn measured_rewinds_put_back_the_pages_that_their_rows_say() {
+    let rewinds: Vec<Vec<u32>> =
+        rows().iter().filter(|row| row.call.code == 8).map(put_back).collect();
+    assert_eq!(rewinds, [[2; 3], [0; 3], [16; 3]]);
+}
+
+/// What a row's rewind answers, three times, with what returns to its state between.
+fn put_back(row: &Row) -> Vec<u32> {
+    let mut machine = Machine::start(bench::roll::image(), 128).expect("right lengths");
+    let mut value = |call: &model::Call| {
+        let &model::Call { code, sandbox, parameters } = call;
+        machine.answer(&Call { code, sandbox, parameters }).expect("accepted")
+    };
+    row.state.calls().iter().for_each(|call| _ = value(call));
+    let group = row.group().expect("it can be made again");
+    (0..3).map(|_| group.iter().map(&mut value).collect::<Vec<_>>()[0]).collect()
 }
 
 #[test]

@@ -1,4 +1,5 @@
-//! Which calls and archives were accepted, and which refusals were met.
+//! Which calls and archives were accepted, which refusals were met, and how many pages rewinds
+//! put back.
 
 use crate::archives::Archives;
 use gazhuppin::REPLY_BYTES;
@@ -25,12 +26,17 @@ const MALFORMED: usize = 0;
 const UNKNOWN: usize = 1;
 /// Number 0, accepted, and refusals 1 to 14: no call answers 15.
 const NUMBERS: usize = 15;
+const REWIND: u16 = 8;
+/// Rewinds that put back 0, 1, 2 pages, or more.
+const REWINDS: usize = 4;
 
 #[derive(Clone, Default, Debug)]
 pub struct Coverage {
     pub rolls: u64,
     pub lines: u64,
     answers: [[u64; NUMBERS]; NAMES.len()],
+    /// Accepted rewinds that put back 0, 1, 2 pages, or more.
+    pub rewinds: [u64; REWINDS],
     /// Frames of the pools, and bytes of the images.
     pub pools: BTreeSet<usize>,
     pub images: BTreeSet<usize>,
@@ -52,6 +58,9 @@ impl Coverage {
             };
             self.lines += 1;
             self.answers[row][usize::from(number(reply))] += 1;
+            if row == UNKNOWN + usize::from(REWIND) && number(reply) == 0 {
+                self.rewinds[(value(reply) as usize).min(REWINDS - 1)] += 1;
+            }
         }
     }
 
@@ -61,6 +70,7 @@ impl Coverage {
         self.archives.join(&other.archives);
         self.pools.extend(&other.pools);
         self.images.extend(&other.images);
+        self.rewinds.iter_mut().zip(&other.rewinds).for_each(|(count, more)| *count += more);
         for (row, others) in self.answers.iter_mut().zip(&other.answers) {
             row.iter_mut().zip(others).for_each(|(count, more)| *count += more);
         }
@@ -109,6 +119,8 @@ impl fmt::Display for Coverage {
             "\narchives: {written} written, {unsound} refused 3, {closed} refused 4, {none} refused 8, \
              {short} refused 15; {} lines played",
             self.archives.lines
-        )
+        )?;
+        let [none, one, two, more] = self.rewinds;
+        write!(to, "\nrewinds: {none} put back no page, {one} one, {two} two, {more} more")
     }
 }

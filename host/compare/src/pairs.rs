@@ -16,8 +16,12 @@ pub struct PairSeen {
     pub accepted: usize,
     /// How many of these were compares, whose value is told without exception.
     pub compares: usize,
+    /// How many of them were rewinds that put pages back, told without exception too.
+    pub rewinds: usize,
     /// Whether the sandbox differed before the rewind.
     pub secret: bool,
+    /// Whether the value of that rewind differed, which may depend on what came before it.
+    pub rewind_differs: bool,
     /// Whether the value of a report differed after it.
     pub report_differs: bool,
 }
@@ -25,9 +29,10 @@ pub struct PairSeen {
 /// Play both lists on the proved machine, and compare what it answers to the sandbox
 /// after the rewind. Both lists are compared with the plain machine as well.
 pub fn compare_pair(pair: &Pair) -> Result<PairSeen, String> {
-    let mut answers = Vec::new();
+    let (mut answers, mut put_back) = (Vec::new(), Vec::new());
     for list in &pair.lists {
         let replies = replies(pair, list).map_err(|difference| difference.to_string())?;
+        put_back.push(replies[list.rewind]);
         let compared = pair.compared_of(list, &replies);
         answers.push(compared.ok_or("the snapshot or the rewind was refused")?);
     }
@@ -42,7 +47,9 @@ pub fn compare_pair(pair: &Pair) -> Result<PairSeen, String> {
         compared: first.len(),
         accepted: first.iter().filter(|(_, (number, _))| *number == 0).count(),
         compares: first.iter().filter(|(call, reply)| call.code == 10 && reply.0 == 0).count(),
+        rewinds: first.iter().filter(|(call, reply)| call.code == 8 && reply.1 > 0).count(),
         secret: before != other_before,
+        rewind_differs: put_back[0] != put_back[1],
         report_differs: first != second,
     })
 }

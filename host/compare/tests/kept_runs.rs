@@ -1,38 +1,13 @@
-//! Kept frames of the proved machine, beside the random rolls: read off its own state, pool and
-//! table, so that nothing here leans on the model.
+//! Kept frames of the proved machine, beside the random rolls.
 
-use compare::layout::{rows, State};
+use crate::along::{along_rolls, entries, frame, record, Made};
+use compare::layout::rows;
 use compare::row::{length, smallest};
 use compare::{Frames, Kept, Lengths};
 use model::{parse_line, Call, LINE_BYTES, PAGES, PAGE_BYTES};
 use rolls::Case;
 
 const ROLLS: u64 = 1_500;
-
-/// Play the calls of many cases; after each accepted one look at what it found and left.
-fn along_rolls(mut look: impl FnMut(&Kept, &Kept, &Call)) {
-    for case in (0..ROLLS).map(|seed| Case::of_lines(seed, 150)) {
-        let mut kept = Kept::filled(Lengths::of(&case));
-        if kept.start(&case.image).number != 0 {
-            continue;
-        }
-        let mut before = kept.clone();
-        for call in case.roll.chunks(LINE_BYTES).filter_map(parse_line) {
-            before.clone_from(&kept);
-            if kept.call(&case.image, &call).number == 0 {
-                look(&before, &kept, &call);
-            }
-        }
-    }
-}
-
-fn frame(kept: &Kept, frame: usize) -> &[u8] {
-    &kept.pool[frame * PAGE_BYTES..][..PAGE_BYTES]
-}
-
-fn entries(kept: &Kept, sandbox: usize) -> &[u16] {
-    &kept.table[2 * PAGES * sandbox..][..2 * PAGES]
-}
 
 fn kept_frames(kept: &Kept, sandbox: usize) -> usize {
     rows(&kept.state)[sandbox].iter().map(|&run| length(run)).sum()
@@ -42,12 +17,12 @@ fn kept_frames(kept: &Kept, sandbox: usize) -> usize {
 #[test]
 fn a_rewound_sandbox_holds_snapshot_pages_or_zeros_within_its_share() {
     let (mut rewinds, mut with_runs, mut full) = (0, 0, 0);
-    along_rolls(|_, after, call| {
+    along_rolls(ROLLS, |&Made { after, call, .. }| {
         if call.code != 8 {
             return;
         }
         let sandbox = usize::from(call.sandbox);
-        let record = State::of(&after.state).expect("a state").sandboxes[sandbox];
+        let record = record(after, sandbox);
         for run in rows(&after.state)[sandbox] {
             for kept in (0..128).filter(|kept| run >> kept & 1 == 1) {
                 assert_eq!(frame(after, kept), [0; PAGE_BYTES], "kept frame {kept}");
@@ -76,7 +51,7 @@ fn a_rewound_sandbox_holds_snapshot_pages_or_zeros_within_its_share() {
 #[test]
 fn the_smallest_frame_is_given_up_and_the_greatest_unheld_one_taken() {
     let (mut takes, mut gives, mut same) = (0, 0, 0);
-    along_rolls(|before, after, call| {
+    along_rolls(ROLLS, |&Made { before, after, call, .. }| {
         if call.code != 6 {
             return;
         }

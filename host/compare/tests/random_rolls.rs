@@ -44,6 +44,7 @@ fn random_rolls() {
     }
     let played = coverage.archives.lines;
     assert!(played >= 40_000, "only {played} lines of archives were played");
+    assert!(coverage.rewinds.iter().all(|&met| met >= 4_000), "{:?}", coverage.rewinds);
     let accepted = coverage.of_number(0);
     assert!(2 * accepted > coverage.lines, "only {accepted} calls were accepted");
     assert!(coverage.pools.iter().copied().eq(1..=128), "{:?}", coverage.pools);

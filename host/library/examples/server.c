@@ -52,10 +52,11 @@ int main(void) {
         write_byte(OTHER_PAGE, request);
         printf("request %" PRIu32 ": the tally was %" PRIu32 " and is %" PRIu32 "\n", request,
                tally, read_byte(TALLY));
-        call(GAZHUPPIN_REWIND, 0, 0, 0, 0, 0);
+        uint32_t put_back = call(GAZHUPPIN_REWIND, 0, 0, 0, 0, 0);
         uint32_t frames = call(GAZHUPPIN_REPORT, 0, 0, 0, 0, 0);
-        printf("rewound: tally %" PRIu32 ", other page %" PRIu32 ", %" PRIu32 " frames held\n",
-               read_byte(TALLY), read_byte(OTHER_PAGE), frames);
+        printf("%" PRIu32 " pages put back: tally %" PRIu32 ", other page %" PRIu32 ", %" PRIu32
+               " frames held\n",
+               put_back, read_byte(TALLY), read_byte(OTHER_PAGE), frames);
     }
     return 0;
 }

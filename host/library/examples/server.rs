@@ -18,10 +18,10 @@ fn main() -> Result<(), Refusal> {
     println!("the tally is 100; the snapshot has {} pages", machine.snapshot(SANDBOX)?);
     for request in 1..=3 {
         serve(&mut machine, request)?;
-        machine.rewind(SANDBOX)?;
+        let pages = machine.rewind(SANDBOX)?;
         let (tally, other) = (machine.read(SANDBOX, TALLY)?, machine.read(SANDBOX, OTHER_PAGE)?);
         let frames = machine.report(SANDBOX)?;
-        println!("rewound: tally {tally}, other page {other}, {frames} frames held");
+        println!("{pages} pages put back: tally {tally}, other page {other}, {frames} frames held");
     }
     Ok(())
 }

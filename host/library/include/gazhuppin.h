@@ -51,7 +51,9 @@ enum gazhuppin_code {
     GAZHUPPIN_SNAPSHOT = 7, /* once for a sandbox. Value: pages of the snapshot */
     GAZHUPPIN_REWIND = 8,   /* mappings, rights and bytes of the snapshot return. Frames of
                                anonymous areas mapped since are cleared and kept, at most 8
-                               runs of them and within the share, for maps to come */
+                               runs of them and within the share, for maps to come. Value:
+                               pages put back: those of the snapshot that were mapped all the
+                               while, since it or the last rewind, and whose bytes differed */
     GAZHUPPIN_REPORT = 9,   /* Value: frames that the sandbox holds: those of its pages, those of
                                its snapshot, and those it keeps from finished requests */
     GAZHUPPIN_COMPARE = 10  /* still clean? Value: the lowest page at which the sandbox and its
@@ -132,11 +134,12 @@ uint32_t gazhuppin_start(uint8_t *state, size_t state_bytes,
  * refused call leaves every byte of state, pool and table as it was.
  *
  * If these rules are kept, and the start answered 0, the answers are those of document 01's
- * plain machine, and after a rewind nothing of what came before it since the snapshot can be
- * told from the sandbox's answers but the count of held frames. Whatever bytes are handed in,
- * the call ends and writes to state, pool and table alone; a state that is not sound, or bytes
- * that are no state, are refused (3, or 2 where the code is no call's). Bytes altered so that
- * another sound state results cannot be told, and are answered as that state. */
+ * plain machine, and after a rewind, whose own value counts the pages put back, nothing of what
+ * came before it since the snapshot can be told from the sandbox's answers but the count of held
+ * frames. Whatever bytes are handed in, the call ends and writes to state, pool and table alone;
+ * a state that is not sound, or bytes that are no state, are refused (3, or 2 where the code is
+ * no call's). Bytes altered so that another sound state results cannot be told, and are answered
+ * as that state. */
 struct gazhuppin_told gazhuppin_call(uint8_t *state, size_t state_bytes,
                                      uint8_t *pool, size_t pool_bytes,
                                      uint16_t *table, size_t table_entries,

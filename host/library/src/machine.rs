@@ -186,20 +186,29 @@ impl Machine {
     /// Return to the sandbox's snapshot: its mappings, rights and bytes. The frames of anonymous
     /// areas mapped since are cleared and kept, within the share, for maps at the lowest gap.
     ///
+    /// Gives the number of pages put back: those of the snapshot that were mapped all the while,
+    /// since it or the last rewind, and whose bytes differed. A page written back is not counted,
+    /// nor one that was unmapped, even if its number was mapped anew; rights do not count.
+    ///
     /// ```
-    /// # let mut machine = gazhuppin::Machine::start([], 8)?;
+    /// # use gazhuppin::{Address, Backing, Machine, Place, Rights};
+    /// # let mut machine = Machine::start([], 8)?;
     /// # machine.open(0, 8)?;
+    /// machine.map(0, Place::At(0), 3, Backing::Anonymous, Rights::ReadWrite)?;
     /// machine.snapshot(0)?;
-    /// machine.rewind(0)?;
+    /// machine.write(0, Address::of(0, 5), 7)?;
+    /// machine.write(0, Address::of(1, 5), 7)?;
+    /// assert_eq!(machine.rewind(0)?, 2);
+    /// assert_eq!(machine.rewind(0)?, 0); // nothing was disturbed since
     /// # Ok::<(), gazhuppin::Refusal>(())
     /// ```
-    pub fn rewind(&mut self, sandbox: u16) -> Result<(), Refusal> {
-        self.answer(&Call::rewind(sandbox)).map(|_| ())
+    pub fn rewind(&mut self, sandbox: u16) -> Result<u32, Refusal> {
+        self.answer(&Call::rewind(sandbox))
     }
 
     /// How many frames the sandbox holds: those of its pages, those of its snapshot, and those it
-    /// keeps from finished requests. Of all answers only this one may tell of a request that was
-    /// rewound.
+    /// keeps from finished requests. Of all answers after a rewind only this one may tell of the
+    /// request that was rewound.
     ///
     /// ```
     /// # use gazhuppin::{Address, Backing, Machine, Place, Refusal, Rights};

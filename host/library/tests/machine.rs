@@ -65,7 +65,7 @@ fn each_method_is_its_call() {
         both.same(|m| zero(m.unmap(2, 4..7)), [3, 2, 4, 3, 0, 0, 0]),
         both.same(|m| page_or_64(m.compare(2)), [10, 2, 0, 0, 0, 0, 0]),
         both.same(|m| m.report(2), [9, 2, 0, 0, 0, 0, 0]),
-        both.same(|m| zero(m.rewind(2)), [8, 2, 0, 0, 0, 0, 0]),
+        both.same(|m| m.rewind(2), [8, 2, 0, 0, 0, 0, 0]),
         both.same(|m| page_or_64(m.compare(2)), [10, 2, 0, 0, 0, 0, 0]),
         both.same(|m| m.read(2, Address::of(5, 0)), [5, 2, 1280, 0, 0, 0, 0]),
     ];
@@ -106,8 +106,35 @@ fn unmap_passes_over_gaps() {
     assert_eq!(machine.report(0), Ok(3), "the backs of pages 2, 5 and 9");
     assert_eq!(machine.unmap(0, 3..10), Ok(()));
     assert_eq!(machine.report(0), Ok(3), "the same");
-    machine.rewind(0).expect("a snapshot is taken");
+    assert_eq!(machine.rewind(0), Ok(0), "no page was written");
     assert!(machine == clean, "the rewound machine is another");
+}
+
+/// "Rewind answers the number of committed pages still mapped whose bytes differed from the
+/// snapshot".
+#[test]
+fn a_rewind_counts_the_pages_that_it_puts_back() {
+    let mut machine = Machine::start([7; 256], 32).expect("right lengths");
+    machine.open(0, 16).expect("open");
+    assert_eq!(machine.rewind(0), Err(Refusal::NoSnapshot));
+    let anonymous = machine.map(0, Place::At(0), 3, Backing::Anonymous, Rights::ReadWrite);
+    let image = machine.map(0, Place::At(3), 1, Backing::Image(0), Rights::ReadWrite);
+    assert_eq!((anonymous, image), (Ok(0), Ok(3)));
+    machine.write(0, Address::of(0, 9), 1).expect("page 0 gets a back");
+    machine.snapshot(0).expect("the first");
+    let mut put_back = |bytes: &[(u8, u8, u8)], unmapped: std::ops::Range<u8>| {
+        for &(page, offset, byte) in bytes {
+            machine.write(0, Address::of(page, offset), byte).expect("mapped");
+        }
+        machine.unmap(0, unmapped).expect("unmap passes over gaps");
+        [machine.rewind(0), machine.rewind(0)]
+    };
+    let nothing = 63..64;
+    assert_eq!(put_back(&[], nothing.clone()), [Ok(0), Ok(0)]);
+    // With a back, without, and over the image.
+    assert_eq!(put_back(&[(0, 9, 2), (1, 255, 2), (3, 0, 2)], nothing.clone()), [Ok(3), Ok(0)]);
+    assert_eq!(put_back(&[(0, 9, 2), (0, 9, 1), (3, 0, 7)], nothing), [Ok(0), Ok(0)]);
+    assert_eq!(put_back(&[(0, 9, 2), (1, 0, 2)], 1..2), [Ok(1), Ok(0)]);
 }
 
 /// "At rewind, the frames of each uncommitted anonymous area, if any, are cleared and kept as one
@@ -127,7 +154,7 @@ fn the_frames_of_a_finished_request_are_kept() {
             assert_eq!(machine.write(0, address, request), Ok(()));
         }
         assert_eq!(machine.report(0), Ok(3), "request {request}");
-        assert_eq!(machine.rewind(0), Ok(()));
+        assert_eq!(machine.rewind(0), Ok(0), "no page of the snapshot was disturbed");
         assert_eq!(machine.report(0), Ok(3), "they are kept, and no entry names them");
         assert_eq!(machine.table(), [0; 512]);
         assert_eq!(machine.pool(), [0; 16 * 256], "and they are zero");

@@ -203,11 +203,67 @@ pub enum Fault {
     GivesUpWholeRun,
     /// With a full share a write gives up a frame though its page has a front.
     GivesUpForFront,
+
+    // Slips near MACHINE 4.13 and 9.14: the pages that a rewind puts back, counted.
+    /// The value is 0, as before the request.
+    PutBackAnswersZero,
+    /// The value says whether a page differed, and not how many.
+    PutBackAnswersOneAtMost,
+    /// Bytes that differ are counted, and not pages.
+    PutBackCountsBytes,
+    /// Every front that is kept is counted, though its bytes are the snapshot's.
+    PutBackCountsFronts,
+    /// A page written since the snapshot or the rewind before is counted, though it was written
+    /// back.
+    PutBackCountsWritten,
+    /// A snapshot page that was unmapped and mapped anew with other bytes is counted too.
+    PutBackCountsMappedAnew,
+    /// Pages mapped since, where the snapshot has none, are counted too.
+    PutBackCountsNewPages,
+    /// Snapshot pages that are not mapped any more are counted too.
+    PutBackCountsUnmapped,
+    /// A committed page with other rights is counted, though its bytes are the snapshot's.
+    PutBackCountsRights,
+    /// A page that was written and then given rights 1 is not counted.
+    PutBackForgetsProtected,
+    /// The value is that of the rewind before, and 0 at the first.
+    PutBackToldOneBehind,
+    /// The value is the sum over all rewinds of the sandbox.
+    PutBackAddsUp,
+    /// The pages of all sandboxes that differ from their snapshots are counted.
+    PutBackCountsEverySandbox,
+    /// A rewind that is refused 6 has the value of one that is accepted.
+    PutBackToldThoughRefused,
+    /// Page 0 is not counted.
+    PutBackForgetsPage0,
+    /// Page 63 is not counted.
+    PutBackForgetsPage63,
+    /// The bytes of a page are compared up to the first that is the same: the first alone
+    /// decides.
+    PutBackLooksAtFirstByte,
+    /// Each byte's outcome takes the place of the one before: the last alone decides.
+    PutBackLooksAtLastByte,
+    /// The first byte of a page is not compared.
+    PutBackForgetsFirstByte,
+    /// The last byte of a page is not compared.
+    PutBackForgetsLastByte,
+    /// A page is compared with its zero or image bytes, though it has a back.
+    PutBackForgetsBack,
+    /// An image page without a back is compared with zeros.
+    PutBackTakesImageForZero,
+    /// Anonymous pages without a back are cleared and not compared.
+    PutBackForgetsZeroed,
+    /// Image pages without a back are not compared.
+    PutBackForgetsImage,
+    /// Comparing and copying a page back ends at the first byte that differs: those behind it stay.
+    PutBackStopsAtDifference,
+    /// Pages are compared and copied back as far as the first that differs: those behind it stay.
+    PutBackStopsAtPage,
 }
 
 impl Fault {
     /// Every fault, without `None`.
-    pub const ALL: [Fault; 91] = [
+    pub const ALL: [Fault; 117] = [
         Fault::HandsOutRewoundPlace,
         Fault::SearchesPastRewoundPlace,
         Fault::DropsSnapshotFrame,
@@ -299,10 +355,37 @@ impl Fault {
         Fault::GivesUpFromShortest,
         Fault::GivesUpWholeRun,
         Fault::GivesUpForFront,
+        Fault::PutBackAnswersZero,
+        Fault::PutBackAnswersOneAtMost,
+        Fault::PutBackCountsBytes,
+        Fault::PutBackCountsFronts,
+        Fault::PutBackCountsWritten,
+        Fault::PutBackCountsMappedAnew,
+        Fault::PutBackCountsNewPages,
+        Fault::PutBackCountsUnmapped,
+        Fault::PutBackCountsRights,
+        Fault::PutBackForgetsProtected,
+        Fault::PutBackToldOneBehind,
+        Fault::PutBackAddsUp,
+        Fault::PutBackCountsEverySandbox,
+        Fault::PutBackToldThoughRefused,
+        Fault::PutBackForgetsPage0,
+        Fault::PutBackForgetsPage63,
+        Fault::PutBackLooksAtFirstByte,
+        Fault::PutBackLooksAtLastByte,
+        Fault::PutBackForgetsFirstByte,
+        Fault::PutBackForgetsLastByte,
+        Fault::PutBackForgetsBack,
+        Fault::PutBackTakesImageForZero,
+        Fault::PutBackForgetsZeroed,
+        Fault::PutBackForgetsImage,
+        Fault::PutBackStopsAtDifference,
+        Fault::PutBackStopsAtPage,
     ];
+
     /// Whether it is a slip near kept runs. A roll that tells one maps and writes several areas
     /// and rewinds them, so that it has more lines than others.
     pub fn is_near_runs(self) -> bool {
-        self as usize >= Fault::NinthRunKept as usize
+        (Fault::NinthRunKept as usize..=Fault::GivesUpForFront as usize).contains(&(self as usize))
     }
 }

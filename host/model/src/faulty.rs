@@ -5,12 +5,13 @@
 
 use crate::fault::Fault;
 use crate::faulty_compare::{free_agreeing_fronts, wrong_difference};
+use crate::faulty_count::Found;
 use crate::faulty_gaps::{accept_unmapped, wrong_unmap};
 use crate::faulty_pages::{areas_with_split_image, lowest_new_area, newly_mapped};
 use crate::faulty_pages::{reads_image, reads_image_in_copy, unmapped_from};
 use crate::faulty_runs::{spoil_runs, take_though_refused};
 use crate::machine::{Answering, Machine, Refusal, Reply, SANDBOXES};
-use crate::page::{Backing, Page, PAGES, PAGE_BYTES};
+use crate::page::{Backing, Page, Pages, PAGES, PAGE_BYTES};
 use crate::roll::Call;
 use crate::sandbox::{Sandbox, AREAS};
 use std::sync::Arc;
@@ -21,6 +22,34 @@ struct Memory {
     rewinds: usize,
     /// First page, and page past the last, of what the last rewind took away.
     rewound: Option<(usize, usize)>,
+    /// The value of the last rewind, and of all together.
+    put_back: u32,
+    put_back_in_all: u32,
+    /// The pages written since the snapshot or the last rewind, one bit a page.
+    written: u64,
+}
+
+impl Memory {
+    /// What an accepted call leaves of the pages written; a rewind looks at it first.
+    fn note_written(&mut self, call: &Call) {
+        match call.code {
+            6 => self.written |= 1 << (usize::from(call.parameters[0]) / PAGE_BYTES),
+            7 => self.written = 0,
+            _ => {}
+        }
+    }
+
+    /// Against MACHINE 9.14: what is told of a rewind that put back so many pages.
+    fn told(&mut self, fault: Fault, put_back: u32) -> u32 {
+        let before = std::mem::replace(&mut self.put_back, put_back);
+        self.put_back_in_all += put_back;
+        self.written = 0;
+        match fault {
+            Fault::PutBackToldOneBehind => before,
+            Fault::PutBackAddsUp => self.put_back_in_all,
+            _ => put_back,
+        }
+    }
 }
 
 /// MACHINE 15: The plain machine built with a fault; with `Fault::None` it is the right one.
@@ -108,6 +137,9 @@ impl Faulty {
                 take_though_refused(call, sandbox);
                 return (number, 0);
             }
+            (Fault::PutBackToldThoughRefused, 8) if number == Refusal::OutsideLimits as u16 => {
+                return (number, put_back(sandbox));
+            }
             (Fault::SnapshotsAgain, 7) if number == Refusal::SnapshotTaken as u16 => {
                 return (0, sandbox.snapshot() as u32);
             }
@@ -128,6 +160,7 @@ impl Faulty {
     fn spoil_accepted(&mut self, call: &Call, before: Arc<Sandbox>, value: u32) -> Reply {
         let number = usize::from(call.sandbox);
         let memory = &mut self.memory[number];
+        memory.note_written(call);
         let all_shared_out = self.machine.shares() == self.machine.frames;
         let Machine { image, sandboxes, .. } = &mut self.machine;
         let wrong_runs = spoil_runs(self.fault, call, &before, sandboxes, value);
@@ -200,6 +233,17 @@ impl Faulty {
                 memory.rewinds += 1;
                 memory.rewound = lowest_new_area(&before);
                 spoil_rewind(self.fault, memory.rewinds, Arc::make_mut(sandbox), &before);
+                let image = image.as_deref().unwrap_or(&[]);
+                let pages = &mut Arc::make_mut(sandbox).pages;
+                let counted = miscount(self.fault, &before, image, memory.written, pages);
+                let others = match self.fault {
+                    // The named one is rewound by now, and adds nothing.
+                    Fault::PutBackCountsEverySandbox => {
+                        sandboxes.iter().map(|sandbox| put_back(sandbox)).sum()
+                    }
+                    _ => 0,
+                };
+                return (0, memory.told(self.fault, counted + others));
             }
             _ => {}
         }
@@ -228,6 +272,26 @@ impl Answering for Faulty {
             (reply, None) => reply,
         }
     }
+}
+
+/// MACHINE 9.14: how many pages a rewind would put back now.
+fn put_back(sandbox: &Sandbox) -> u32 {
+    sandbox.copy.as_ref().map_or(0, |copy| sandbox.pages_to_put_back(copy)) as u32
+}
+
+/// Against MACHINE 9.14: how many pages a wrong rewind counts, and what it leaves of them; `before`
+/// is the sandbox as it was.
+fn miscount(
+    fault: Fault,
+    before: &Sandbox,
+    image: &[[u8; PAGE_BYTES]],
+    written: u64,
+    pages: &mut Pages,
+) -> u32 {
+    let Some(copy) = &before.copy else { return 0 };
+    let found = Found { pages: &before.pages, copy, image, written };
+    found.leave_bytes(fault, pages);
+    found.wrong_count(fault) as u32
 }
 
 /// Against MACHINE 6.2: a refusal where none applies; the sandbox stays.

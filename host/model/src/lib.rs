@@ -2,10 +2,10 @@
 //! and the player of its roll.
 //!
 //! Sentences in quotation marks are the document's, or those of the requests that added call 10,
-//! let unmap pass over gaps, keep the frames of a finished request and write a snapshot as a roll;
-//! MACHINE and a number is a clause of docs/MACHINE.md, which states them whole. The machine knows
-//! no frames: where a program holds a frame, it keeps a front or a back mark on a page, or counts
-//! it in a run.
+//! let unmap pass over gaps, keep the frames of a finished request, count the pages that a rewind
+//! puts back and write a snapshot as a roll; MACHINE and a number is a clause of docs/MACHINE.md,
+//! which states them whole. The machine knows no frames: where a program holds a frame, it keeps a
+//! front or a back mark on a page, or counts it in a run.
 //!
 //! Read in this order:
 //! - `page`: one page, and how pages run together into areas;
@@ -15,9 +15,9 @@
 //! - `machine`: four sandboxes, and the refusals in their order;
 //! - `roll`: lines of calls, lines of replies, and the player;
 //! - `archive`: a snapshot as a roll that rebuilds it;
-//! - `fault`, `faulty`, `faulty_pages`, `faulty_compare`, `faulty_gaps` and `faulty_runs`: wrong
-//!   machines, which a test must tell from the right one; `archive_fault` and `faulty_archive`:
-//!   wrong writers of archives.
+//! - `fault`, `faulty`, `faulty_pages`, `faulty_compare`, `faulty_gaps`, `faulty_runs` and
+//!   `faulty_count`: wrong machines, which a test must tell from the right one; `archive_fault` and
+//!   `faulty_archive`: wrong writers of archives.
 
 mod archive;
 mod archive_fault;
@@ -25,6 +25,7 @@ mod fault;
 mod faulty;
 mod faulty_archive;
 mod faulty_compare;
+mod faulty_count;
 mod faulty_gaps;
 mod faulty_pages;
 mod faulty_runs;

@@ -235,8 +235,7 @@ fn carry_out(
         }
         Request::Rewind => {
             let copy = sandbox.copy.clone().ok_or(Refusal::NoSnapshot)?;
-            Arc::make_mut(sandbox).rewind(&copy);
-            0
+            Arc::make_mut(sandbox).rewind(&copy)
         }
         Request::Report => sandbox.held(),
         Request::Compare => {

@@ -102,6 +102,13 @@ impl Sandbox {
         (0..PAGES).find(differs).unwrap_or(PAGES)
     }
 
+    /// MACHINE 9.14: "the number of committed pages still mapped whose bytes differed from the
+    /// snapshot": unmap takes the mark away, so that a committed page is still mapped.
+    pub fn pages_to_put_back(&self, copy: &Pages) -> usize {
+        let pages = self.pages.iter().zip(copy);
+        pages.filter(|(page, kept)| page.committed && page.bytes != kept.bytes).count()
+    }
+
     // What the calls do.
 
     /// MACHINE 9.6: "Open makes the sandbox open and stores the share."
@@ -182,12 +189,14 @@ impl Sandbox {
 
     /// MACHINE 9.12: "Rewind puts the whole copy in place; a front mark stays only where
     /// the page was still committed." And: "At rewind, the frames of each uncommitted anonymous
-    /// area, if any, are cleared and kept as one run".
-    pub fn rewind(&mut self, copy: &Pages) {
+    /// area, if any, are cleared and kept as one run". Gives the pages put back.
+    pub fn rewind(&mut self, copy: &Pages) -> usize {
+        let put_back = self.pages_to_put_back(copy);
         self.runs.keep(self.fronts_to_keep());
         for (page, kept) in self.pages.iter_mut().zip(copy) {
             let front = page.front && page.committed;
             *page = Page { front, ..*kept };
         }
+        put_back
     }
 }

@@ -13,5 +13,6 @@ mod kept_runs;
 mod over_gaps;
 mod plausible_and_wrong;
 mod player;
+mod put_back;
 mod refusals;
 mod still_clean;

@@ -7,7 +7,7 @@ use model::{Answering, Machine};
 fn two_reads_and_two_reports_of_the_documents_roll() {
     let mut machine = after(&["1 0 8", "2 0 64 2 0 0 3", "6 0 5 7", "7 0", "6 0 5 9", "6 0 300 4"]);
     assert_eq!(call(&mut machine, "9 0"), (0, 3));
-    assert_eq!(call(&mut machine, "8 0"), (0, 0));
+    assert_eq!(call(&mut machine, "8 0"), (0, 2));
     assert_eq!(call(&mut machine, "5 0 5"), (0, 7));
     assert_eq!(call(&mut machine, "5 0 300"), (0, 0));
     assert_eq!(call(&mut machine, "9 0"), (0, 3));

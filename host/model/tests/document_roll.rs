@@ -1,4 +1,5 @@
-//! "This roll, without an image: [...] prints [...]".
+//! "This roll, without an image: [...] prints [...]"; by the request that counts the pages put
+//! back, "line 8 of document 01's roll then prints 2".
 
 use model::play;
 
@@ -23,7 +24,7 @@ const PRINTED: &str = "     1     0     0
      5     0     0
      6     0     0
      7     0     3
-     8     0     0
+     8     0     2
      9     0     7
     10     0     0
     11     0     3

@@ -64,6 +64,16 @@ fn kept_runs_tells_every_slip_of_keeping_frames() {
     }
 }
 
+/// The example of the request tells every wrong machine near it.
+#[test]
+fn put_back_tells_every_slip_of_counting_pages() {
+    let place = |wanted| Fault::ALL.iter().position(|&fault| fault == wanted).expect("a fault");
+    let slips = place(Fault::PutBackAnswersZero)..=place(Fault::PutBackStopsAtPage);
+    for &fault in &Fault::ALL[slips] {
+        assert!(telling_line("put-back", fault).is_some(), "{fault:?}");
+    }
+}
+
 /// The examples that show an archive: the machine after the roll, the sandbox, the archive.
 fn example_archives() -> Vec<(Machine, u16, Vec<u8>)> {
     let rolls = example_rolls().into_iter();

@@ -65,7 +65,7 @@ fn writable_pages(sandbox: &Sandbox) -> Vec<usize> {
 }
 
 /// The byte that a page reads before it is written.
-fn backing_byte(machine: &Machine, page: &Page, offset: usize) -> usize {
+pub(crate) fn backing_byte(machine: &Machine, page: &Page, offset: usize) -> usize {
     usize::from(match page.backing {
         Backing::Anonymous => 0,
         Backing::Image(image_page) => machine.image()[image_page][offset],

@@ -1,5 +1,6 @@
 //! A random roll with its image and its number of frames.
 
+use crate::count::Count;
 use crate::prng::Prng;
 use crate::spoil::{boundary_call, malformed_line, wild_call};
 use crate::steering::Steering;
@@ -53,13 +54,16 @@ impl Case {
             // Of a wrong length: every line is refused.
             false => (0, 80),
         };
+        // From numbers of its own, so that the lines before it are the same without it.
+        let mut count = Count::random(Prng::new(prng.clone().number()));
         let drawn = prng.within(fewest..=most);
-        let lines = lines.unwrap_or(drawn);
+        let lines = lines.unwrap_or(drawn + count.lines);
         let cut = if prng.chance(15) { prng.within(1..=42) } else { 0 };
         let mut steering = Steering::new(prng);
         let mut roll = Vec::new();
-        for _ in 0..lines {
-            let line = random_line(&mut steering, &machine);
+        for at in 0..lines {
+            let counted = if at + count.lines < lines { None } else { count.next_line(&machine) };
+            let line = counted.unwrap_or_else(|| random_line(&mut steering, &machine));
             if let Some(call) = parse_line(&line) {
                 machine.answer(&call);
             }

@@ -8,6 +8,7 @@
 //! - `put_back`: calls that undo what was changed since the snapshot;
 //! - `gaps`: ranges that meet unmapped pages;
 //! - `building`: areas of each kind, before a snapshot;
+//! - `count`: a snapshot's pages written and written back, and rewound;
 //! - `request`: areas mapped, written and rewound, again and again;
 //! - `spoil`: calls at and past the limits, and malformed lines;
 //! - `case`: a roll with its image and its number of frames;
@@ -16,6 +17,7 @@
 
 mod building;
 mod case;
+mod count;
 mod gaps;
 mod mood;
 mod pair;

@@ -83,7 +83,7 @@ impl Pair {
             let count = list.steering.prng.within(0..=40);
             list.go_on(count, |_| true);
             rewind[which] = list.calls.len();
-            assert_eq!(list.push(plain(8, 0, 0)), (0, 0), "a rewind after a snapshot");
+            assert_eq!(list.push(plain(8, 0, 0)).0, 0, "a rewind after a snapshot");
         }
 
         // The same calls naming the sandbox, with others' calls between them.

@@ -62,8 +62,11 @@ fn check_next_writes(machine: &Machine, number: usize) {
 
 /// "mappings and rights of the snapshot return", with its bytes; "In a rewound
 /// sandbox each front and back is that of a snapshot page".
-fn check_rewound(before: &Sandbox, after: &Sandbox) {
+fn check_rewound(before: &Sandbox, after: &Sandbox, value: u32) {
     let copy = after.copy.as_ref().expect("a snapshot");
+    // "Copying a page back now also says whether any byte differed": a front alone is copied to.
+    let copied = before.pages.iter().zip(&after.pages).filter(|(_, page)| page.front);
+    assert_eq!(copied.filter(|(was, page)| was.bytes != page.bytes).count(), value as usize);
     for ((page, was), kept) in after.pages.iter().zip(&before.pages).zip(&copy[..]) {
         assert_eq!(Page { front: false, ..*page }, *kept);
         assert_eq!(page.front, was.front && was.committed);
@@ -115,7 +118,7 @@ fn every_state_is_sound_and_every_refusal_changes_nothing() {
             for other in (0..4).filter(|&other| other != named) {
                 assert!(machine.sandbox(other) == before.sandbox(other), "seed {seed}: {call:?}");
             }
-            check_accepted(&call, before.sandbox(named), machine.sandbox(named));
+            check_accepted(&call, before.sandbox(named), machine.sandbox(named), value);
             assert!(machine.shares() <= case.frames);
         }
         for number in 0..4 {
@@ -135,12 +138,12 @@ fn check_unmapped(call: &Call, before: &Sandbox, after: &Sandbox) {
     assert!(*after == expected, "{call:?}");
 }
 
-fn check_accepted(call: &Call, before: &Sandbox, after: &Sandbox) {
+fn check_accepted(call: &Call, before: &Sandbox, after: &Sandbox, value: u32) {
     check(after);
     match call.code {
         3 => check_unmapped(call, before, after),
         5 | 9 | 10 => assert!(after == before, "a read, a report or a compare changed something"),
-        8 => check_rewound(before, after),
+        8 => check_rewound(before, after, value),
         _ => {}
     }
 }

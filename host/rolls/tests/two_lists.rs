@@ -39,9 +39,9 @@ fn the_lists_are_such_as_the_document_compares() {
     }
 }
 
-/// The values of the accepted compares.
-fn compare_values(answers: &[(Call, Reply)]) -> Vec<u32> {
-    let accepted = answers.iter().filter(|(call, (number, _))| call.code == 10 && *number == 0);
+/// The values of the accepted calls with a code.
+fn values_of(code: u16, answers: &[(Call, Reply)]) -> Vec<u32> {
+    let accepted = answers.iter().filter(|(call, (number, _))| call.code == code && *number == 0);
     accepted.map(|(_, (_, value))| *value).collect()
 }
 
@@ -59,7 +59,7 @@ fn only_the_value_of_an_accepted_report_is_struck_out() {
 
 #[test]
 fn answers_after_a_rewind_do_not_tell_what_was_before_it() {
-    let (mut compared, mut accepted, mut compares) = (0, 0, [0, 0]);
+    let (mut compared, mut accepted, mut compares, mut rewinds) = (0, 0, [0, 0], [0, 0]);
     let (mut secrets, mut reports_differ) = (0, 0);
     for seed in 0..PAIRS {
         let pair = Pair::random(seed);
@@ -70,22 +70,27 @@ fn answers_after_a_rewind_do_not_tell_what_was_before_it() {
         assert_eq!(without_report_values(&first), without_report_values(&second), "seed {seed}");
         compared += first.len();
         accepted += first.iter().filter(|(_, (number, _))| *number == 0).count();
-        // Compare is told without exception: as it was answered, nothing struck out.
-        let values = [&first, &second].map(|answers| compare_values(answers));
-        assert_eq!(values[0], values[1], "seed {seed}");
-        for value in &values[0] {
-            compares[usize::from(*value == 64)] += 1;
-        }
+        // Compare is told without exception, and so is each later rewind: as they were answered,
+        // nothing struck out.
+        let [of_compares, of_rewinds] = [10, 8].map(|code| {
+            let [values, others] = [&first, &second].map(|answers| values_of(code, answers));
+            assert_eq!(values, others, "seed {seed}");
+            values
+        });
+        of_compares.iter().for_each(|&value| compares[usize::from(value == 64)] += 1);
+        of_rewinds.iter().for_each(|&value| rewinds[usize::from(value == 0)] += 1);
         reports_differ += usize::from(first != second);
         secrets += usize::from(pair.before_rewind(0) != pair.before_rewind(1));
     }
     println!("{compared} calls compared, {accepted} of them accepted");
     println!("{compares:?} compares among them found a difference, or none");
+    println!("{rewinds:?} rewinds among them put pages back, or none");
     println!("{secrets} pairs differ before the rewind, {reports_differ} in a report after it");
     assert!(2 * accepted > compared, "too few accepted calls");
     assert!(secrets as u64 > PAIRS / 2, "too few secrets");
     assert!(reports_differ > 20, "the exception for reports is hardly met");
     assert!(compares.iter().all(|&count| count > 1_000), "too few compares: {compares:?}");
+    assert!(rewinds.iter().all(|&count| count > 400), "too few rewinds: {rewinds:?}");
 }
 
 /// Machines that let something through a rewind.
@@ -105,8 +110,12 @@ fn pairs_tell_the_machines_that_leak() {
         // charges them tells how many there are.
         Fault::KeptFramesNotCleared,
         Fault::KeptCharged,
-        // A front that outlasts the rewind is told by a compare.
+        // A front that outlasts the rewind is told by a compare, or by the next rewind.
         Fault::CompareTakesFrontForDifference,
+        Fault::PutBackCountsFronts,
+        // The next rewind tells what the first one put back.
+        Fault::PutBackToldOneBehind,
+        Fault::PutBackAddsUp,
     ];
     for fault in leaking {
         let seed = (0..PAIRS).find(|&seed| alike(&Pair::random(seed), fault) == Some(false));

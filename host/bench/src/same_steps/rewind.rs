@@ -6,24 +6,33 @@ use super::memory::Memory;
 use super::page::{PageNo, PAGES};
 use super::sandbox::Sandbox;
 
-/// Each front keeps its frame with the snapshot's bytes, or is freed and cleared.
+/// Each front keeps its frame with the snapshot's bytes, or is freed and cleared. Gives "the number
+/// of committed pages still mapped whose bytes differed from the snapshot".
 pub fn rewind<const KEEPS_FRONTS: bool>(
     sandbox: &Sandbox,
     held: &mut Held,
     memory: &mut Memory,
     s: usize,
-) {
+) -> u32 {
+    let mut put_back = 0;
     for page in (0..PAGES as u8).map(PageNo) {
         let Some(frame) = memory.front(s, page) else {
             continue;
         };
-        match sandbox.present.slot(page) {
-            Some(slot) if KEEPS_FRONTS && slot.committed => {
-                memory.fill(frame, memory.back(s, page), slot.backing);
+        if let Some(slot) = sandbox.present.slot(page).filter(|slot| slot.committed) {
+            let back = memory.back(s, page);
+            let differs = memory.differs(frame, back, slot.backing);
+            put_back += u32::from(differs);
+            if KEEPS_FRONTS {
+                if differs {
+                    memory.fill(frame, back, slot.backing);
+                }
+                continue;
             }
-            _ => memory.free_front(held, s, page),
         }
+        memory.free_front(held, s, page);
     }
+    put_back
 }
 
 /// "the frames of each uncommitted anonymous area, if any, are .. kept as one run": of each area

@@ -88,8 +88,7 @@ impl<const KEEPS_FRONTS: bool, const KEEPS_RUNS: bool, const TESTS: bool>
                 if KEEPS_RUNS {
                     gather(sandbox, memory, s);
                 }
-                rewind::<KEEPS_FRONTS>(sandbox, held, memory, s);
-                0
+                rewind::<KEEPS_FRONTS>(sandbox, held, memory, s)
             }
             9 if KEEPS_RUNS => frames_held(memory, s) + sandbox.runs.kept() as u32,
             9 => frames_held(memory, s),

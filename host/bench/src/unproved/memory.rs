@@ -101,6 +101,11 @@ impl Memory<'_> {
         }
     }
 
+    /// Whether a frame holds other bytes than another, or than the backing where there is none.
+    pub fn differs(&self, frame: FrameNo, from: Option<FrameNo>, backing: Backing) -> bool {
+        self.pool[bytes_of(frame)] != *self.bytes(from, backing)
+    }
+
     /// A page's front, if it has one, is freed: its frame is cleared and no longer held.
     pub fn free_front(&mut self, held: &mut Held, sandbox: usize, page: PageNo) {
         if let Some(frame) = self.front(sandbox, page) {
