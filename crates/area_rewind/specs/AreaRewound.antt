@@ -11,7 +11,7 @@ use Rattle.restoring.specs.Changed.{changedTo}
 abbrev pub freedBefore : ℕ → Area → ℕ → Store → Store
 freedBefore s a page st = freeTo 256 (frontOf s page) st (a .first .0 - page)
 
--- then those of the area "keep their fronts, whose bytes become the snapshot's"
+-- then each of the area "keeps its front, whose bytes become the snapshot's"
 abbrev pub areaRewound : List ℕ → ℕ → Area → ℕ → Store → Store
 areaRewound image s a page st =
     rewindTo 256 (frontOf s (a .first .0)) (λ i. true) (backingOn image (a .backing)) (freedBefore s a page st) (a .pages)

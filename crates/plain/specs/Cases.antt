@@ -9,7 +9,8 @@ use Rattle.plain.specs.Machine.{Given, fresh, answers}
 
 abbrev pub cases : List (List Line)
 cases =
-    -- the roll of "The roll and its player", all 12 lines: "the two reads and two reports above"; "line 8 of document 01's roll then prints 2" (A4)
+    -- the roll of "The roll and its player", all 12 lines: "the two reads and two reports above"; line 8 printed 0 in document 01, and "line 8 of document 01's
+    -- roll then prints 2" (A4)
     (call₁ Open 8 gives ok 0 ∷ mapAt 64 2 gives ok 0 ∷ call₂ Write 5 7 gives ok 0 ∷ call Snapshot gives ok 2 ∷ call₂ Write 5 9 gives ok 0 ∷
     call₂ Write 300 4 gives ok 0 ∷ call Report gives ok 3 ∷ call Rewind gives ok 2 ∷ call₁ Read 5 gives ok 7 ∷ call₁ Read 300 gives ok 0 ∷
     call Report gives ok 3 ∷ call Snapshot gives refused 7 ∷ []) ∷

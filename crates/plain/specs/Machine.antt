@@ -177,8 +177,8 @@ differing c = lowestDifference (c .pages .slots) (copied (copySlots c)) (sameAt 
 unfoldable pub changed : Core → ℕ
 changed c = changedPages (c .pages .slots) (sameAt c)
 
--- map: "Value: first page"; read: "Value: the byte"; snapshot: "Value: pages committed"; rewind: the pages that it changes back; call 10: the page;
--- "Value 0 where none is named"
+-- map: "Value: first page"; read: "Value: the byte"; snapshot: "Value: pages committed"; call 10: the page; else "Value 0 where none is named". Document 01
+-- names none for rewind; from A4 on "Rewind answers the number of committed pages still mapped whose bytes differed from the snapshot".
 unfoldable pub coreValue : Given → Request → Core → ℕ
 coreValue g q c =
     firstOf (c .pages .slots) q when q is Map else

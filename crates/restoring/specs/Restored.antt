@@ -8,7 +8,7 @@ use Rattle.table.specs.Store.{Store, rewindTo}
 use Rattle.restoring.specs.Backed.{backingOn}
 use Rattle.restoring.specs.Changed.{changedTo}
 
--- the pages "keep their fronts, whose bytes become the snapshot's"; and those whose bytes differed are counted
+-- each page "keeps its front, whose bytes become the snapshot's"; and those whose bytes differed are counted
 pub record RestoredTo (image : List ℕ) (backing : Backing) (at : ℕ) (before after : Store) (changed pages : ℕ) : Type 0 where
   pub left : after ≡ rewindTo 256 at (λ i. true) (backingOn image backing) before pages
   pub told : changed ≡ changedTo 256 at (λ i. true) (backingOn image backing) before pages
