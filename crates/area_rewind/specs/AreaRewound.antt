@@ -7,7 +7,7 @@ use Rattle.areas.specs.declared.area.Area.{Area}
 use Rattle.restoring.specs.Backed.{backingOn}
 use Rattle.restoring.specs.Changed.{changedTo}
 
--- the pages from this one on up to the area give up their fronts
+-- "All other fronts are freed and cleared": those of the pages from this one on up to the area
 abbrev pub freedBefore : ℕ → Area → ℕ → Store → Store
 freedBefore s a page st = freeTo 256 (frontOf s page) st (a .first .0 - page)
 
@@ -16,7 +16,7 @@ abbrev pub areaRewound : List ℕ → ℕ → Area → ℕ → Store → Store
 areaRewound image s a page st =
     rewindTo 256 (frontOf s (a .first .0)) (λ i. true) (backingOn image (a .backing)) (freedBefore s a page st) (a .pages)
 
--- request A4: those whose bytes differed
+-- request A4: those of its pages "whose bytes differed from the snapshot"
 abbrev pub areaChanged : List ℕ → ℕ → Area → ℕ → Store → ℕ
 areaChanged image s a page st =
     changedTo 256 (frontOf s (a .first .0)) (λ i. true) (backingOn image (a .backing)) (freedBefore s a page st) (a .pages)

@@ -25,6 +25,6 @@ lowestDifference present snapshot sameBytes = lowest (λ i. not (agree (present 
 unfoldable pub changedPages : Slots → (ℕ → Bool) → ℕ
 changedPages present sameBytes = count (λ i. isCommitted (present i) && not (sameBytes i)) PageCount
 
--- call 10 of the bytes of committed pages alone: the lowest that such a rewind counts, and 64 where it counts none
+-- call 10 of the bytes of committed pages alone: "the lowest page number" that a rewind counts, "and 64 if they nowhere differ"
 unfoldable pub lowestChanged : Slots → (ℕ → Bool) → ℕ
 lowestChanged present sameBytes = lowest (λ i. isCommitted (present i) && not (sameBytes i)) 0 PageCount

@@ -18,11 +18,10 @@ use Rattle.state.specs.World.{World, recordAt}
 use Rattle.content.specs.Content.{readsSame}
 use Rattle.step.specs.Step.{Outcome, Stepped}
 use Rattle.plain.specs.Machine.{Given}
-use Rattle.plain_claims.specs.Lists.{Rewound}
 use Rattle.plain_claims.specs.Claims.{compareOf}
 use Rattle.plain_claims.specs.PutBack.{rewindOf}
-use Rattle.claims.specs.Demands.{RunFrom, Took}
-use Rattle.consequences.specs.StillClean.{told}
+use Rattle.claims.specs.Demands.{RunFrom}
+use Rattle.consequences.specs.StillClean.{told, RightAfter, WhileRewound}
 
 -- ---- of any state
 
@@ -46,19 +45,12 @@ RewindsTell image = (w : World) (q : Request) (o : Outcome) → Stepped image w 
 
 -- ---- of every list
 
--- right after this call of sandbox s, accepted, a rewind answers 0
-abbrev pub NothingAfter : Given → ℕ → Type 0
-NothingAfter g call =
-    (s : ℕ) (qs : List Request) (q : Request) (as′ : List Answered) (v : World) → RunFrom g (qs ++ q ∷ rewindOf s ∷ []) as′ v
-    → Took s call q as′ (length qs) → told as′ (length qs + 1) ≡ ok 0
-
 pub record PutBack (g : Given) : Type 0 where
   -- a second rewind right after the first answers 0, and a first right after the snapshot
-  pub rewind : NothingAfter g Rewind
-  pub snapshot : NothingAfter g Snapshot
+  pub rewind : RightAfter g Rewind rewindOf (ok 0)
+  pub snapshot : RightAfter g Snapshot rewindOf (ok 0)
   -- and any of a rewound sandbox, for as long as it is one
-  pub rewound : (s : ℕ) (qs : List Request) (as′ : List Answered) (v : World) → Rewound g s qs → RunFrom g (qs ++ rewindOf s ∷ []) as′ v
-      → told as′ (length qs) ≡ ok 0
+  pub rewound : WhileRewound g rewindOf (ok 0)
   -- where call 10 answers 64, a rewind answers 0
   pub clean : (s : ℕ) (qs : List Request) (as′ : List Answered) (v : World) → RunFrom g (qs ++ compareOf s ∷ rewindOf s ∷ []) as′ v
       → told as′ (length qs) ≡ ok 64 → told as′ (length qs + 1) ≡ ok 0

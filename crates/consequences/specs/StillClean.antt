@@ -51,19 +51,23 @@ BacksCannotAlter image =
 abbrev pub told : List Answered → ℕ → Answered
 told as′ place = getD as′ place (refused 1)
 
--- right after this call of sandbox s, accepted, call 10 answers 64
-abbrev pub CleanAfter : Given → ℕ → Type 0
-CleanAfter g call =
-    (s : ℕ) (qs : List Request) (q : Request) (as′ : List Answered) (v : World) → RunFrom g (qs ++ q ∷ compareOf s ∷ []) as′ v
-    → Took s call q as′ (length qs) → told as′ (length qs + 1) ≡ ok 64
+-- right after this call of sandbox s, accepted, the next request is answered so
+abbrev pub RightAfter : Given → ℕ → (ℕ → Request) → Answered → Type 0
+RightAfter g call next a =
+    (s : ℕ) (qs : List Request) (q : Request) (as′ : List Answered) (v : World) → RunFrom g (qs ++ q ∷ next s ∷ []) as′ v
+    → Took s call q as′ (length qs) → told as′ (length qs + 1) ≡ a
+
+-- and so is the next request of a rewound sandbox, for as long as it is one
+abbrev pub WhileRewound : Given → (ℕ → Request) → Answered → Type 0
+WhileRewound g next a =
+    (s : ℕ) (qs : List Request) (as′ : List Answered) (v : World) → Rewound g s qs → RunFrom g (qs ++ next s ∷ []) as′ v → told as′ (length qs) ≡ a
 
 pub record StillClean (g : Given) : Type 0 where
   -- right after an accepted snapshot or rewind call 10 answers 64
-  pub snapshot : CleanAfter g Snapshot
-  pub rewind : CleanAfter g Rewind
+  pub snapshot : RightAfter g Snapshot compareOf (ok 64)
+  pub rewind : RightAfter g Rewind compareOf (ok 64)
   -- and of a rewound sandbox for as long as it is one
-  pub rewound : (s : ℕ) (qs : List Request) (as′ : List Answered) (v : World) → Rewound g s qs → RunFrom g (qs ++ compareOf s ∷ []) as′ v
-      → told as′ (length qs) ≡ ok 64
+  pub rewound : WhileRewound g compareOf (ok 64)
   -- where it answers 64, every read answers what the copy has
   pub reads : (s : ℕ) (qs : List Request) (q : Request) (as′ : List Answered) (v : World) → RunFrom g (qs ++ compareOf s ∷ q ∷ []) as′ v
       → told as′ (length qs) ≡ ok 64 → (q is Read) ≡ true → q .sandbox ≡ s → within (pagesIn (length (g .image))) q ≡ true

@@ -43,7 +43,8 @@ module _ (image : List ℕ) (b : Backing) (at : ℕ) (s : Store) where
   none-restored = record { left = refl; told = refl }
 
   -- and then the m pages behind them
-  pub restored-on : (r q : Store) (c d i m : ℕ) → RestoredTo image b at s r c i → RestoredTo image (advance b i) (at + i) r q d m → RestoredTo image b at s q (c + d) (i + m)
+  pub restored-on : (r q : Store) (c d i m : ℕ) → RestoredTo image b at s r c i → RestoredTo image (advance b i) (at + i) r q d m
+      → RestoredTo image b at s q (c + d) (i + m)
   restored-on r q c d i m U W =
       let on : (k : ℕ) → k < m → (true ≡ true) × (backingOn image (advance b i) k ≡ backingOn image b (i + k)) =
       λ k l. (refl, ap (backingPage image) (advance-on b i k)) in record {
@@ -61,7 +62,8 @@ module _ (image : List ℕ) (b : Backing) (at : ℕ) (s : Store) where
       }
 
   -- and then pages without a front, up to page j
-  pub restored-past : (r : Store) (c i j : ℕ) → RestoredTo image b at s r c i → i ≤ j → ((k : ℕ) → i ≤ k → k < j → entry r (at + k) ≡ 0) → RestoredTo image b at s r c j
+  pub restored-past : (r : Store) (c i j : ℕ) → RestoredTo image b at s r c i → i ≤ j → ((k : ℕ) → i ≤ k → k < j → entry r (at + k) ≡ 0)
+      → RestoredTo image b at s r c j
   restored-past r c i j U l h =
       let none : (k : ℕ) → k < j - i → entry r (at + i + k) ≡ 0 =
       λ k m. let place : at + i + k ≡ at + (i + k) = omega arith in rw place (h (i + k) (omega arith) (omega arith)) in

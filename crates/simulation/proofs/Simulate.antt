@@ -26,10 +26,10 @@ use Rattle.runs.specs.Row.{row}
 use Rattle.kept.specs.Spare.{keptAt, Spare}
 use Rattle.soundness.specs.Test.{soundb}
 use Rattle.state.specs.World.{World, sandboxAt, recordAt, closedSandbox, framesOf, sharesOf, rowsOf}
-use Rattle.memory.specs.Memory.{givesAt, longestOf, runsAfter, storeAfter}
+use Rattle.memory.specs.Memory.{givesAt, longestOf, runsAfter, storeAfter, valueAt}
 use Rattle.step.specs.Step.{viewAt, sandboxThen, worldAfter, numberAt, step, Outcome, Stepped}
 use Rattle.plain.specs.Machine.{Given, Kept, Plain, shares, viewOf, keptAfter, answer, after}
-use Rattle.plain.specs.Machine.{numberAt as plainNumber}
+use Rattle.plain.specs.Machine.{numberAt as plainNumber, valueAt as plainValue}
 use Rattle.plain_claims.proofs.KeptLaws.{holds-after}
 use Rattle.plain_claims.proofs.ReadLaws.{reads-after}
 use Rattle.plain_claims.proofs.OneSandbox.{after-others}
@@ -89,6 +89,9 @@ module _ {C : ℕ → Type 0} (g : Given) (L : Lent g) (w : World) (p : Plain) (
 
   mine : AgreesAt g (w .store) (q .sandbox) (sandboxAt w (q .sandbox)) (p (q .sandbox))
   mine = A .each (q .sandbox) low
+
+  values : valueAt (g .image) q (sandboxAt w (q .sandbox)) (w .store) ≡ plainValue g q (p (q .sandbox))
+  values = value-same g L w p A q met low mine
 
   -- a sandbox that the request does not name
   agrees-other : (r : Store) (t : ℕ) (b : Sandbox) (k : Kept) → ((x : ℕ) → x < 128 → contents 256 r (t * 128 + x) ≡ contents 256 (w .store) (t * 128 + x))
@@ -215,7 +218,7 @@ module _ {C : ℕ → Type 0} (g : Given) (L : Lent g) (w : World) (p : Plain) (
   unfolding step answer
   step-answer =
       rw (s .equals, number-same g L w p A q)
-      (by-cases (eqb (plainNumber g p q) 0) (λ e. rw (e, value-same g L w p A q (eqb-true _ 0 e))) (λ e. rw e))
+      (by-cases (eqb (plainNumber g p q) 0) (λ e. rw (e, values g L w p A q (eqb-true _ 0 e))) (λ e. rw e))
 
   pub step-agrees : Agrees C g (o .world) (after g p q)
   unfolding step

@@ -17,7 +17,6 @@ use Rattle.interface.specs.Outcome.{firstOf}
 use Rattle.interface.specs.Refusals.{allMapped}
 use Rattle.interface.specs.Accepted.{Accepted}
 use Rattle.interface.proofs.SlotLaws.{committed-mapped}
-use Rattle.interface.proofs.AcceptedLaws.{accepted}
 use Rattle.comparison.proofs.CompareLaws.{agree-bytes, difference-same, changed-same}
 use Rattle.pages.proofs.ListedLaws.{listed-at, same-listed}
 use Rattle.marks.specs.Named.{used, usedBelow}
@@ -30,7 +29,7 @@ use Rattle.state.specs.World.{World, sandboxAt, recordAt, rowsOf}
 use Rattle.content.specs.Content.{pageRead, readsSame, differing, changed}
 use Rattle.memory.specs.Memory.{heldBy, valueAt}
 use Rattle.plain.specs.Machine.{Given, Core, Kept, Plain, copySlots, copyBytes, shares, viewOf, sameAt, coreValue}
-use Rattle.plain.specs.Machine.{framesHeld, differing as plainDiffering, changed as plainChanged, valueAt as plainValue, numberAt as plainNumber}
+use Rattle.plain.specs.Machine.{framesHeld, differing as plainDiffering, changed as plainChanged, valueAt as plainValue}
 use Rattle.simulation.specs.Lent.{Lent}
 use Rattle.simulation.specs.Agrees.{AgreesAt, Agrees}
 use Rattle.simulation.proofs.HeldSteps.{used-count, used-one, holds-same}
@@ -58,16 +57,9 @@ module _ {C : ℕ → Type 0} (g : Given) (w : World) (p : Plain) (A : Agrees C 
 
 -- ---- of an accepted request
 
-module _ {C : ℕ → Type 0} (g : Given) (L : Lent g) (w : World) (p : Plain) (A : Agrees C g w p) (q : Request) (n : plainNumber g p q ≡ 0) where
-  met : Accepted (viewOf g (shares p) (p (q .sandbox) .core)) q
-  met = accepted _ q n
-
-  low : q .sandbox < 4
-  low = omega (arith, met .inRow)
-
-  mine : AgreesAt g (w .store) (q .sandbox) (sandboxAt w (q .sandbox)) (p (q .sandbox))
-  mine = A .each (q .sandbox) low
-
+module _ {C : ℕ → Type 0} (g : Given) (L : Lent g) (w : World) (p : Plain) (A : Agrees C g w p) (q : Request)
+    (met : Accepted (viewOf g (shares p) (p (q .sandbox) .core)) q) (low : q .sandbox < 4)
+    (mine : AgreesAt g (w .store) (q .sandbox) (sandboxAt w (q .sandbox)) (p (q .sandbox))) where
   read-same : q .code ≡ Read → getD (pageRead (g .image) (w .store) (recordAt w (q .sandbox)) (q .sandbox) (pageOf q)) (offsetOf q) 0
       ≡ p (q .sandbox) .core .pages .bytes (pageOf q) (offsetOf q)
   unfolding within allMapped

@@ -60,7 +60,8 @@ loop-holds c =
       next .0 .1,
       refl,
       s .pre .1 .0,
-      λ h. restored-past (a .image .now) (a .backing) (a .at) (st h) (st h) 0 0 _ (none-restored (a .image .now) (a .backing) (a .at) (st h)) (omega arith) (next .1),
+      λ h. restored-past (a .image .now) (a .backing) (a .at) (st h) (st h) 0 0 _ (none-restored (a .image .now) (a .backing) (a .at) (st h)) (omega arith)
+          (next .1),
     )
 
 sub-group-of : tie.Need-sub-group-of Inv-loop μ-loop
