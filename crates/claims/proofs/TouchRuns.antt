@@ -77,10 +77,10 @@ module _ (image : List ℕ) (w : World) (q : Request) (o : Outcome) (s : Stepped
   abbrev after : Store
   after = storeAfter image (s .frame) q b (w .store)
 
-  low : q .sandbox < 4
+  pub low : q .sandbox < 4
   low = omega (arith, met image w q o s n .inRow)
 
-  store-is : o .world .store ≡ after
+  pub store-is : o .world .store ≡ after
   store-is = ap (λ (x : World). x .store) (left image w q o s n)
 
   pub sandboxes-are : o .world .sandboxes ≡ set (w .sandboxes) (q .sandbox) (sandboxThen (s .given) w q)
@@ -93,7 +93,7 @@ module _ (image : List ℕ) (w : World) (q : Request) (o : Outcome) (s : Stepped
       (λ l. absurd (false≢true (sym (ap (λ (x : Sandbox). x .rec .opened) (List·getD-eq-default (w .sandboxes) closedSandbox l)) ∙ e)))
       (lt-or-ge (q .sandbox) (length (w .sandboxes)))
 
-  here : (q is Open) ≡ false → sandboxAt (o .world) (q .sandbox) ≡ sandboxThen (s .given) w q
+  pub here : (q is Open) ≡ false → sandboxAt (o .world) (q .sandbox) ≡ sandboxThen (s .given) w q
   here x =
       ap (λ (l : List Sandbox). getD l (q .sandbox) closedSandbox) sandboxes-are
       ∙ getD-set-same (w .sandboxes) (q .sandbox) (sandboxThen (s .given) w q) closedSandbox (in-row (met image w q o s n .opened x))

@@ -25,8 +25,9 @@ use Rattle.marks.proofs.NamedLaws.{by-entry}
 use Rattle.table.specs.Store.{Store, kept, entry, frontOf, backOf, Filed, Tidy, take, storeByte, moveTo}
 use Rattle.table.proofs.StoreLaws.{contents-none, page-whole}
 use Rattle.table.proofs.TouchLaws.{under-whole}
-use Rattle.table.proofs.LeftLaws.{byte-entry, take-other-entry, freeTo-entry, moveTo-entry, rewindTo-entry, moveTo-pool}
-use Rattle.table.proofs.LeftLaws.{Left, left-same, freeTo-left, rewindTo-left, byte-left, byte-alone, byte-taken, byte-taken-left}
+use Rattle.table.proofs.LeftLaws.{byte-entry, take-other-entry, freeTo-entry, moveTo-entry, moveTo-pool}
+use Rattle.table.proofs.LeftLaws.{Left, left-same, freeTo-left, byte-left, byte-alone, byte-taken, byte-taken-left}
+use Rattle.rewind_cases.proofs.LeftLaws.{rewindTo-entry, rewindTo-left}
 use Rattle.runs.specs.Row.{lengthsOf}
 use Rattle.kept.specs.Spare.{grantTo}
 use Rattle.kept.proofs.AdoptLaws.{adopted}
@@ -35,7 +36,8 @@ use Rattle.areas.specs.Areas.{slots}
 use Rattle.areas.specs.Formed.{WellFormed}
 use Rattle.state.specs.declared.sandbox.Sandbox.{Sandbox}
 use Rattle.table.specs.Backing.{backingPage}
-use Rattle.content.specs.Content.{pageUnder, pageRead, copyPage}
+use Rattle.content.specs.Content.{pageUnder, pageRead, copyBacking}
+use Rattle.content.proofs.ReadingLaws.{backing-there}
 use Rattle.memory.specs.Memory.{framesFor, touched, keepsFront, storeAfter}
 use Rattle.simulation.proofs.AreaSteps.{image-at}
 use Rattle.simulation.proofs.ReadSteps.{backing-whole}
@@ -188,7 +190,7 @@ module _ (image : List ℕ) (f : ℕ) (q : Request) (b : Sandbox) (st : Store) w
     entries-after (isSnapshot e) = rw e (moveTo-entry (q .sandbox * 128) st k 64 (omega arith) (outside-both e))
     entries-after (isRewind e) =
         rw e
-        (rewindTo-entry (q .sandbox * 128) st k 256 (keepsFront (b .rec)) (copyPage image (b .rec)) 64
+        (rewindTo-entry image (q .sandbox * 128) (keepsFront (b .rec)) (copyBacking (b .rec)) st k 64
         (⊎-elim (λ l. inl (omega arith)) (λ l. inr (omega arith)) (outside 0 64 (λ i l m. names-rewind b q e i (omega arith)))))
 
 -- ---- frames
@@ -217,9 +219,6 @@ module _ (image : List ℕ) (f : ℕ) (q : Request) (b : Sandbox) (n : ℕ) (st 
 
   tidy : Tidy (λ x. ⊥) 256 n st
   tidy = record { filed = m .filed; clean = λ x c. absurd c }
-
-  copy-whole : (i : ℕ) → length (copyPage image (b .rec) i) ≡ 256
-  copy-whole i = backing-whole image (m .whole) (backingAt (slots (b .rec .snapshot) i)) (image-at _ (b .rec .snapshot) (m .snapshot) i)
 
   read-whole : length read ≡ 256
   unfolding pageRead pageUnder
@@ -286,5 +285,5 @@ module _ (image : List ℕ) (f : ℕ) (q : Request) (b : Sandbox) (n : ℕ) (st 
       let stay = moveTo-pool (q .sandbox * 128) st 64 in rw e (record { bytes = rw (stay .0); marked = rw (stay .1) })
   left-after x unnamed untaken ungot (isRewind e) =
       rw e
-      (rewindTo-left 256 n st tidy x (q .sandbox * 128) (keepsFront (b .rec)) (copyPage image (b .rec)) copy-whole 64
+      (rewindTo-left n image (q .sandbox * 128) (keepsFront (b .rec)) (copyBacking (b .rec)) (backing-there image (b .rec .snapshot) (m .snapshot)) st tidy x 64
       (λ i l z. unnamed i (names-rewind b q e i l) z))

@@ -1,8 +1,13 @@
--- THE THEOREMS: the statements of specs/TurnedBack, specs/StillClean, specs/PutBack, specs/OverGaps and specs/KeepsNothing, of every image and pool that a
--- start accepts and of every list of requests.
+-- THE THEOREMS: the statements of specs/TurnedBack, specs/StillClean, specs/PutBack, specs/RewindCases, specs/OverGaps and specs/KeepsNothing, of every image
+-- and pool that a start accepts and of every list of requests.
+use mathlib.Core.Path.{_≡_}
 use mathlib.Core.List.{List}
 use Prim.Native.Nat.{ℕ}
+use Rattle.interface.specs.declared.request.Request.{Request}
+use Rattle.state.specs.World.{World}
 use Rattle.state.specs.Lengths.{lendings}
+use Rattle.step.specs.Step.{step}
+use Rattle.step.proofs.BeforeLaws.{stepBefore, step-before}
 use Rattle.plain.specs.Machine.{Given}
 use Rattle.plain.specs.Cases.{casesOver, noImage, cases}
 use Rattle.plain.specs.TurnedBack.{turnedBackCases}
@@ -14,6 +19,7 @@ use Rattle.simulation.specs.Lent.{Lent}
 use Rattle.consequences.specs.TurnedBack.{AllGet, WrongLength, AllGetLent, StrayEntry}
 use Rattle.consequences.specs.StillClean.{BacksCannotAlter, StillClean}
 use Rattle.consequences.specs.PutBack.{RewindsTell, PutBack}
+use Rattle.consequences.specs.RewindCases.{RewindsByCases}
 use Rattle.consequences.specs.OverGaps.{PassesOverGaps}
 use Rattle.consequences.specs.KeepsNothing.{KeepsNothing}
 use Rattle.consequences.proofs.TurnedBackLaws.{cases-get, turned-back-get, still-clean-get, over-gaps-get, kept-runs-get, put-back-get}
@@ -21,6 +27,7 @@ use Rattle.consequences.proofs.TurnedBackLaws.{wrong-length, lendings-g
 use Rattle.consequences.proofs.BacksLaws.{backs-cannot-alter}
 use Rattle.consequences.proofs.StillCleanLaws.{still-clean}
 use Rattle.consequences.proofs.PutBackLaws.{rewinds-tell, put-back}
+use Rattle.consequences.proofs.RewindCaseLaws.{rewinds-by-cases}
 use Rattle.consequences.proofs.OverGapsLaws.{over-gaps}
 use Rattle.consequences.proofs.KeepsNothingLaws.{keeps-nothing}
 
@@ -82,3 +89,12 @@ claim-put-back = put-back
 -- every run over the table of "How many pages were put back?" has the table's answers
 pub claim-put-back-cases : AllGet putBack
 claim-put-back-cases = put-back-get
+
+-- an accepted rewind, told as the paper tells it: each committed page still mapped meets exactly one case, what its front then holds, and what it reads: of any
+-- world
+pub claim-rewinds-by-cases : (image : List ℕ) → RewindsByCases image
+claim-rewinds-by-cases = rewinds-by-cases
+
+-- and answers and leaves what it did before it was told so: of every world and every request
+pub claim-as-before : (image : List ℕ) (f given : ℕ) (w : World) (q : Request) → step image f given w q ≡ stepBefore image f given w q
+claim-as-before = step-before

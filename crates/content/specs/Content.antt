@@ -2,6 +2,7 @@
 use mathlib.Core.Bool.{Bool}
 use mathlib.Core.List.{List}
 use Prim.Native.Nat.{ℕ}
+use Rattle.interface.specs.declared.page.Backing.{Backing}
 use Rattle.interface.specs.Slots.{isCommitted, backingAt}
 use Rattle.comparison.specs.Compare.{lowestDifference, changedPages}
 use Rattle.pages.specs.Parts.{sameBytes}
@@ -19,9 +20,12 @@ pageUnder image st b s i =
 unfoldable pub pageRead : List ℕ → Store → Record → ℕ → ℕ → List ℕ
 pageRead image st b s i = pageFrom (pageUnder image st b s i) (contents 256 st (frontOf s i))
 
--- a snapshot page without a back
+-- a snapshot page without a back, and what it starts with
+abbrev pub copyBacking : Record → ℕ → Backing
+copyBacking b i = backingAt (slots (b .snapshot) i)
+
 abbrev pub copyPage : List ℕ → Record → ℕ → List ℕ
-copyPage image b i = backingPage image (backingAt (slots (b .snapshot) i))
+copyPage image b i = backingPage image (copyBacking b i)
 
 -- what page i of the snapshot reads: a committed page that was never touched since, "its back frame; else zero bytes or its image page"
 unfoldable pub copyRead : List ℕ → Store → Record → ℕ → ℕ → List ℕ

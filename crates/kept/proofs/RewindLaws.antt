@@ -1,4 +1,4 @@
--- A rewind makes runs of the fronts of uncommitted anonymous areas: these are then kept, once and zero; and their lengths are the plain machine's.
+-- A rewind makes runs of the fronts of uncommitted anonymous areas: which frames these gain; and their lengths are the plain machine's.
 use mathlib.Core.Path.{_≡_, refl, sym, ap, _∙_}
 use mathlib.Core.Logic.{_⊎_, inl, inr, ⊎-elim}
 use mathlib.Core.Bool.{Bool, true, false, not, _&&_}
@@ -21,18 +21,11 @@ use Rattle.frames.specs.declared.Held.{Held}
 use Rattle.frames.specs.Frames.{held, mark, noneHeld, countHeld}
 use Rattle.frames.proofs.FrameLaws.{held-lt, held-or, held-zero, held-mark-other, count-with, none-count}
 use Rattle.marks.proofs.NamedLaws.{same-or, by-entry}
-use Rattle.table.specs.Store.{Store, entry, frontOf, contents, pageFrom, Filed, Tidy, put, free, fill, rewindPage, rewindTo}
-use Rattle.table.proofs.StoreLaws.{none-entry}
+use Rattle.table.specs.Store.{Store, entry, frontOf, Filed, put, free}
 use Rattle.table.proofs.FreeLaws.{getD-clear}
-use Rattle.table.proofs.RewindLaws.{rewindTo-tidy, rewindTo-in}
 use Rattle.kept.specs.Spare.{Row, Rows, lengths, keptIn, Spare, spares, gather, rowRewound}
-use Rattle.kept.proofs.SpareLaws.{kept-row, spare-step}
 
--- ---- the entries: each stays or is cleared
-
-fill-entry : (size k : ℕ) (bytes : List ℕ) (s : Store) (j : ℕ) → entry (fill size k bytes s) j ≡ entry s j
-unfolding fill
-fill-entry size k bytes s j = when-cases (λ (r : Store). entry r j ≡ entry s j) (eqb (entry s k) 0) (λ _. refl) (λ _. refl)
+-- ---- an entry that gives up its page: each stays or is cleared
 
 pub free-entry : (size k : ℕ) (s : Store) (j : ℕ) → (entry (free size k s) j ≡ entry s j) ⊎ (entry (free size k s) j ≡ 0)
 unfolding free put
@@ -41,33 +34,17 @@ free-entry size k s j =
     (λ _. ⊎-elim (λ e. inr (ap (λ (x : ℕ). getD (set (s .table) k 0) x 0) e ∙ getD-clear (s .table) k)) (λ e. inl (getD-set-other (s .table) k j 0 0 e))
     (same-or j k))
 
-page-entry : (size k j : ℕ) (keep : Bool) (bytes : List ℕ) (s : Store) (i : ℕ)
-    → (entry (rewindPage size k j keep bytes s) i ≡ entry s i) ⊎ (entry (rewindPage size k j keep bytes s) i ≡ 0)
-unfolding rewindPage
-page-entry size k j true bytes s i = inl (fill-entry size k (pageFrom bytes (contents size s j)) s i)
-page-entry size k j false bytes s i = free-entry size k s i
-
-rewind-entry : (size first : ℕ) (keep : ℕ → Bool) (bytes : ℕ → List ℕ) (s : Store) (m k : ℕ)
-    → (entry (rewindTo size first keep bytes s m) k ≡ entry s k) ⊎ (entry (rewindTo size first keep bytes s m) k ≡ 0)
-unfolding rewindTo
-rewind-entry size first keep bytes s zero k = inl refl
-rewind-entry size first keep bytes s (suc m) k =
-    ⊎-elim
-    (λ e. ⊎-elim (λ d. inl (e ∙ d)) (λ d. inr (e ∙ d)) (rewind-entry size first keep bytes s m k))
-    (λ e. inr e)
-    (page-entry size (first + m) (first + m + 64) (keep m) (bytes m) (rewindTo size first keep bytes s m) k)
-
 -- ---- frames that go to runs
 
 module _ (size n : ℕ) (st : Store) (F : Filed size n st) (s : ℕ) (f : Slots) where
   -- page i has a front that goes to a run, frame g
-  abbrev goes : ℕ → ℕ → Bool
+  abbrev pub goes : ℕ → ℕ → Bool
   goes g i = spares st s f i && eqb (entry st (frontOf s i)) (suc g)
 
-  named : (g i : ℕ) → goes g i ≡ true → entry st (frontOf s i) ≡ suc g
+  pub named : (g i : ℕ) → goes g i ≡ true → entry st (frontOf s i) ≡ suc g
   named g i e = eqb-true (entry st (frontOf s i)) (suc g) (and-right (spares st s f i) _ e)
 
-  spared : (g i : ℕ) → goes g i ≡ true → isSpared (f i) ≡ true
+  pub spared : (g i : ℕ) → goes g i ≡ true → isSpared (f i) ≡ true
   spared g i e = and-right (not (eqb (entry st (frontOf s i)) 0)) _ (and-left (spares st s f i) _ e)
 
   -- a run that gathers page i keeps frame g if it did, or if that is the frame of page i
@@ -90,51 +67,6 @@ module _ (size n : ℕ) (st : Store) (F : Filed size n st) (s : ℕ) (f : Slots)
             (λ i a l. gather-gain g i a) 64 (omega arith),
         count-sum (goes g) 64,
       )
-
-  module _ (keep : ℕ → Bool) (bytes : ℕ → List ℕ) (whole : (i : ℕ) → length (bytes i) ≡ size) (gives : (i : ℕ) → isSpared (f i) ≡ true → keep i ≡ false) where
-    abbrev after : Store
-    after = rewindTo size (s * 128) keep bytes st 64
-
-    any : Tidy (λ g. ⊥) size n st
-    any = record { filed = F; clean = λ g e. absurd e }
-
-    -- such a front is given up
-    gone : (i : ℕ) → i < 64 → isSpared (f i) ≡ true → entry after (frontOf s i) ≡ 0
-    gone i l e =
-        none-entry size after (frontOf s i)
-        (rewindTo-in size n (s * 128) keep bytes whole st any 64 i (omega arith) l ∙ rw (gives i e))
-
-    -- a frame is named afterwards, or goes to a run, or neither, where it was named before
-    pub moved : (g : ℕ) → g < 128 → held (after .marks) g + count (goes g) 64 ≤ held (st .marks) g
-    moved g l = ⊎-elim idle still (held-or (after .marks) g)
-      where
-        idle : held (after .marks) g ≡ 0 → held (after .marks) g + count (goes g) 64 ≤ held (st .marks) g
-        idle z =
-            ⊎-elim
-            (λ u. let none : count (goes g) 64 ≡ 0 = count-zero (goes g) 64 (λ i d. by-cases (goes g i)
-            (λ e. absurd (let y = F .names .marked (frontOf s i) g (named g i e) in omega arith)) (λ e. e)) in omega arith)
-            (λ u. let few = count-once (goes g) 64
-            (λ i j a b d e. let y = F .names .once (frontOf s i) (frontOf s j) g (named g i d) (named g j e) in omega arith) in omega arith)
-            (held-or (st .marks) g)
-
-        still : held (after .marks) g ≡ 1 → held (after .marks) g + count (goes g) 64 ≤ held (st .marks) g
-        still z =
-            let k = rewindTo-tidy size n (s * 128) keep bytes whole st any 64 .filed .names .named g l z in
-            let before : entry st (k .0) ≡ suc g =
-            ⊎-elim (λ e. sym e ∙ k .1) (λ e. absurd (omega (arith, e, k .1))) (rewind-entry size (s * 128) keep bytes st 64 (k .0)) in
-            let none : count (goes g) 64 ≡ 0 = count-zero (goes g) 64 (λ i d. by-cases (goes g i)
-            (λ e. let same : k .0 ≡ frontOf s i = F .names .once (k .0) (frontOf s i) g before (named g i e) in
-            let there : entry after (frontOf s i) ≡ suc g = ap (entry after) (sym same) ∙ k .1 in
-            absurd (omega (arith, there, gone i d (spared g i e)))) (λ e. e)) in
-            omega (arith, F .names .marked (k .0) g before)
-
-    -- 'Kept frames are held and zero, belong to one run and no entry', after the rewind too
-    pub rewind-spare : (rows : Rows) → s < 4 → Spare size n st rows → Spare size n after (inPlace s (rowRewound st s f (rows s)) rows)
-    rewind-spare rows row S =
-        spare-step size n st after rows (inPlace s (rowRewound st s f (rows s)) rows) F S
-        (λ g T. rewindTo-tidy size n (s * 128) keep bytes whole st T 64)
-        (λ g l. omega (arith, kept-row rows s (rowRewound st s f (rows s)) g row, runs-gain (rows s) g, moved g l, S .once g l))
-        (λ g l. omega (arith, kept-row rows s (rowRewound st s f (rows s)) g row, runs-gain (rows s) g, moved g l))
 
   -- ---- the lengths
 

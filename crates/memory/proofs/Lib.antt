@@ -1,3 +1,4 @@
 pub mod SpareLaws
+pub mod RewindRuns
 pub mod MemoryLaws
 pub mod ValueLaws

@@ -16,7 +16,8 @@ use Rattle.interface.specs.Slots.{isCommitted, backingAt}
 use Rattle.run_choice.specs.Runs.{takesRun}
 use Rattle.frames.specs.Frames.{held}
 use Rattle.table.specs.Store.{Store, frontOf, backOf, Ranged, Tidy}
-use Rattle.table.specs.Store.{take, storeByte, freeTo, moveTo, rewindPage, rewindTo}
+use Rattle.table.specs.Store.{take, storeByte, freeTo, moveTo}
+use Rattle.rewind_cases.specs.Rewind.{rewindTo}
 use Rattle.table.specs.Backing.{backingPage}
 use Rattle.table.proofs.StoreLaws.{taken}
 use Rattle.table.proofs.FiledLaws.{filed-ranged}
@@ -29,7 +30,7 @@ use Rattle.areas.specs.Areas.{slots}
 use Rattle.state.specs.declared.sandbox.Sandbox.{Sandbox}
 use Rattle.state.specs.World.{World, closedSandbox, framesOf, rowsOf}
 use Rattle.state.proofs.SharesLaws.{zeroSandbox}
-use Rattle.content.specs.Content.{pageUnder, copyPage}
+use Rattle.content.specs.Content.{pageUnder, copyBacking}
 use Rattle.content.proofs.ReadingLaws.{backing-there}
 use Rattle.reuse.specs.declared.Given.{Given}
 use Rattle.reuse.specs.Reuse.{GaveUp}
@@ -41,14 +42,6 @@ use Rattle.memory.proofs.SpareLaws.{gives, gives-is, takes-of, takes-fr
 -- the sandbox as the code reads it is that of the world: the default of an array read is another, but no read is past the row
 pub read-own : (sandboxes : List Sandbox) (s : ℕ) → length sandboxes ≡ 4 → s < 4 → getD sandboxes s zeroSandbox ≡ getD sandboxes s closedSandbox
 read-own sandboxes s four row = getD-any sandboxes s zeroSandbox closedSandbox (omega (arith, four, row))
-
--- what is rewound does not depend on the bytes of pages that give up their fronts
-pub rewind-alike : (size first : ℕ) (keep : ℕ → Bool) (xs ys : ℕ → List ℕ) (st : Store) → ((i : ℕ) → keep i ≡ true → xs i ≡ ys i) → (n : ℕ)
-    → rewindTo size first keep xs st n ≡ rewindTo size first keep ys st n
-unfolding rewindTo rewindPage
-rewind-alike size first keep xs ys st h zero = refl
-rewind-alike size first keep xs ys st h (suc n) =
-    by-cases (keep n) (λ e. rw (e, h n e, rewind-alike size first keep xs ys st h n)) (λ e. rw (e, rewind-alike size first keep xs ys st h n))
 
 -- ---- a page touched before a write
 
@@ -159,7 +152,7 @@ module _ (image : List ℕ) (q : Request) (b : Sandbox) (st : Store) where
   unfolding storeAfter runsAfter givesAt
   copied after e a = (a ∙ rw e, rw e)
 
-  pub rewound : (after : Store) (left : Runs) → q .code ≡ Rewind → after ≡ rewindTo 256 (q .sandbox * 128) (keepsFront (b .rec)) (copyPage image (b .rec)) st 64
+  pub rewound : (after : Store) (left : Runs) → q .code ≡ Rewind → after ≡ rewindTo image (q .sandbox * 128) (keepsFront (b .rec)) (copyBacking (b .rec)) st 64
       → left ≡ tabled (rowRewound st (q .sandbox) (slots (b .rec .present)) (row (b .runs))) → LeftBy image q b st after left
   unfolding storeAfter runsAfter givesAt
   rewound after left e a r = (a ∙ rw e, r ∙ rw e)

@@ -14,7 +14,8 @@ use Rattle.run_choice.specs.Runs.{takesRun, runFor, granted, longestRun, givesU
 use Rattle.frames.specs.Frames.{held, mark, countHeld}
 use Rattle.marks.specs.Named.{usedBelow}
 use Rattle.marks.specs.Marks.{marksTo, from}
-use Rattle.table.specs.Store.{Store, entry, frontOf, take, storeByte, freeTo, moveTo, rewindTo}
+use Rattle.table.specs.Store.{Store, entry, frontOf, take, storeByte, freeTo, moveTo}
+use Rattle.rewind_cases.specs.Rewind.{rewindTo}
 use Rattle.runs.specs.declared.Runs.{Runs}
 use Rattle.runs.specs.Row.{row, lengthsOf, withRunAt, tabled}
 use Rattle.kept.specs.Spare.{keptAt, keptBy, rowRewound, leftOf, grantTo}
@@ -22,7 +23,7 @@ use Rattle.areas.specs.Areas.{slots}
 use Rattle.records.specs.declared.Record.{Record}
 use Rattle.state.specs.declared.sandbox.Sandbox.{Sandbox}
 use Rattle.state.specs.World.{World, framesOf, rowsOf}
-use Rattle.content.specs.Content.{pageUnder, pageRead, copyPage, differing, changed}
+use Rattle.content.specs.Content.{pageUnder, pageRead, copyBacking, differing, changed}
 
 -- ---- frames
 
@@ -78,7 +79,7 @@ storeAfter image f q b st =
     freeTo 256 (frontOf (q .sandbox) (q .p1)) st (q .p2) when q is Unmap else
     storeByte 256 (frontOf (q .sandbox) (pageOf q)) (offsetOf q) (q .p2) (touched image f (b .rec) (q .sandbox) (pageOf q) st) when q is Write else
     moveTo (q .sandbox * 128) st 64 when q is Snapshot else
-    rewindTo 256 (q .sandbox * 128) (keepsFront (b .rec)) (copyPage image (b .rec)) st 64 when q is Rewind else
+    rewindTo image (q .sandbox * 128) (keepsFront (b .rec)) (copyBacking (b .rec)) st 64 when q is Rewind else
     st
 
 -- ---- the value of an accepted request

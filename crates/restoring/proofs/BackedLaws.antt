@@ -4,15 +4,13 @@ use mathlib.Core.Bool.{true}
 use mathlib.Core.List.{List}
 use Prim.Native.Nat.{ℕ, _+_, _-_, _≤_, _<_}
 use native.Mathlib.Omega.{arith}
-use lib.ListN.{length}
 use Rattle.interface.specs.declared.page.Backing.{Backing}
 use Rattle.interface.specs.declared.page.Backing.the-variants.{Anonymous, Image}
 use Rattle.interface.specs.Slots.{advance, startOf}
-use Rattle.table.specs.Store.{Store, entry, rewindTo}
-use Rattle.table.specs.Backing.{backingPage}
-use Rattle.table.proofs.TouchLaws.{backing-whole}
-use Rattle.table.proofs.RewindLaws.{rewindTo-join, rewindTo-same, rewindTo-none}
-use Rattle.restoring.specs.Backed.{backingOn, Backed}
+use Rattle.table.specs.Store.{Store, entry}
+use Rattle.rewind_cases.specs.Rewind.{rewindTo}
+use Rattle.rewind_cases.proofs.RunLaws.{rewindTo-join, rewindTo-same, rewindTo-none}
+use Rattle.restoring.specs.Backed.{Backed}
 use Rattle.restoring.specs.Changed.{changedTo}
 use Rattle.restoring.specs.Restored.{RestoredTo}
 use Rattle.restoring.proofs.ChangedLaws.{changed-join, changed-alike, changed-frontless}
@@ -26,9 +24,6 @@ start-on Anonymous n m = omega arith
 start-on (Image first) n m = omega arith
 
 module _ (image : List ℕ) (b : Backing) (n : ℕ) (B : Backed image b n) where
-  pub backed-whole : (i : ℕ) → i < n → length (backingOn image b i) ≡ 256
-  backed-whole i l = backing-whole image (advance b i) (B .there i l)
-
   pub backed-part : (i m : ℕ) → i + m ≤ n → Backed image (advance b i) m
   backed-part i m l = record {
     near = omega (arith, start-on b i m, B .near);
@@ -46,19 +41,19 @@ module _ (image : List ℕ) (b : Backing) (at : ℕ) (s : Store) where
   pub restored-on : (r q : Store) (c d i m : ℕ) → RestoredTo image b at s r c i → RestoredTo image (advance b i) (at + i) r q d m
       → RestoredTo image b at s q (c + d) (i + m)
   restored-on r q c d i m U W =
-      let on : (k : ℕ) → k < m → (true ≡ true) × (backingOn image (advance b i) k ≡ backingOn image b (i + k)) =
-      λ k l. (refl, ap (backingPage image) (advance-on b i k)) in record {
+      let on : (k : ℕ) → k < m → (true ≡ true) × (true ≡ true → advance (advance b i) k ≡ advance b (i + k)) = λ k l. (refl, λ _. advance-on b i k) in
+      record {
         left =
             W .left
-            ∙ rewindTo-same 256 (at + i) (λ k. true) (λ k. true) (backingOn image (advance b i)) (λ k. backingOn image b (i + k)) r m on
-            ∙ ap (λ (x : Store). rewindTo 256 (at + i) (λ k. true) (λ k. backingOn image b (i + k)) x m) (U .left)
-            ∙ rewindTo-join 256 at (λ k. true) (backingOn image b) s i m;
+            ∙ rewindTo-same image (at + i) (λ k. true) (advance (advance b i)) r (λ k. true) (λ k. advance b (i + k)) m on
+            ∙ ap (λ (x : Store). rewindTo image (at + i) (λ k. true) (λ k. advance b (i + k)) x m) (U .left)
+            ∙ rewindTo-join image at (λ k. true) (advance b) s i m;
         told =
             ap₂ (λ (x y : ℕ). x + y) (U .told)
             (W .told
-            ∙ changed-alike 256 (at + i) (λ k. true) (λ k. true) (backingOn image (advance b i)) (λ k. backingOn image b (i + k)) r m on
-            ∙ ap (λ (x : Store). changedTo 256 (at + i) (λ k. true) (λ k. backingOn image b (i + k)) x m) (U .left))
-            ∙ changed-join 256 at (λ k. true) (backingOn image b) s i m;
+            ∙ changed-alike image (at + i) (λ k. true) (advance (advance b i)) r (λ k. true) (λ k. advance b (i + k)) m on
+            ∙ ap (λ (x : Store). changedTo image (at + i) (λ k. true) (λ k. advance b (i + k)) x m) (U .left))
+            ∙ changed-join image at (λ k. true) (advance b) s i m;
       }
 
   -- and then pages without a front, up to page j
@@ -67,8 +62,8 @@ module _ (image : List ℕ) (b : Backing) (at : ℕ) (s : Store) where
   restored-past r c i j U l h =
       let none : (k : ℕ) → k < j - i → entry r (at + i + k) ≡ 0 =
       λ k m. let place : at + i + k ≡ at + (i + k) = omega arith in rw place (h (i + k) (omega arith) (omega arith)) in
-      let same = rewindTo-none 256 (at + i) (λ k. true) (backingOn image (advance b i)) r (j - i) none in
-      let zero = changed-frontless 256 (at + i) (λ k. true) (backingOn image (advance b i)) r (j - i) none in
+      let same = rewindTo-none image (at + i) (λ k. true) (advance (advance b i)) r (j - i) none in
+      let zero = changed-frontless image (at + i) (λ k. true) (advance (advance b i)) r (j - i) none in
       let end : i + (j - i) ≡ j = omega arith in
       let sum : c + 0 ≡ c = omega arith in
       rw (sum, end) at (restored-on r r c 0 i (j - i) U (record { left = sym same; told = sym zero }))

@@ -4,11 +4,12 @@ use mathlib.Core.Bool.{true}
 use mathlib.Core.List.{List}
 use Prim.Native.Nat.{ℕ}
 use Rattle.interface.specs.declared.page.Backing.{Backing}
-use Rattle.table.specs.Store.{Store, rewindTo}
-use Rattle.restoring.specs.Backed.{backingOn}
+use Rattle.interface.specs.Slots.{advance}
+use Rattle.table.specs.Store.{Store}
+use Rattle.rewind_cases.specs.Rewind.{rewindTo}
 use Rattle.restoring.specs.Changed.{changedTo}
 
 -- each page "keeps its front, whose bytes become the snapshot's"; and those whose bytes differed are counted
 pub record RestoredTo (image : List ℕ) (backing : Backing) (at : ℕ) (before after : Store) (changed pages : ℕ) : Type 0 where
-  pub left : after ≡ rewindTo 256 at (λ i. true) (backingOn image backing) before pages
-  pub told : changed ≡ changedTo 256 at (λ i. true) (backingOn image backing) before pages
+  pub left : after ≡ rewindTo image at (λ i. true) (advance backing) before pages
+  pub told : changed ≡ changedTo image at (λ i. true) (advance backing) before pages

@@ -1,9 +1,9 @@
 // Committed pages restored: a rewind gives their fronts the snapshot's bytes, and counts those whose bytes differed.
-// It promises: what is left is the store that table/specs/Store defines of it (`rewindTo`, all fronts kept), whatever marks there are, and the number is the
-// one of specs/Changed (`changedTo`): together `RestoredTo`. The laws of the store stand in `table`.
-// It stands on `page_restore` for the bytes that a frame gets, on `table` for entries and the store, and on `slots` and `interface` for a page's backing.
+// It promises: what is left is the store that rewind_cases/specs/Rewind defines of it (`rewindTo`, all fronts kept), whatever marks there are, and the number
+// is the one of specs/Changed (`changedTo`): together `RestoredTo`.
+// It stands on `page_restore` for one page, on `rewind_cases` for the definition and its laws, on `table` for entries and the store, and on `slots` and
+// `interface` for a page's backing.
 ghost use mathlib.Core.Path.{_≡_};
-ghost use mathlib.Core.Bool.{true};
 ghost use Prim.Native.Nat.{ℕ, _+_, _*_, _≤_, _<_};
 ghost use lib.Dec.{ltb};
 ghost use lib.ListN.{length, getD};
@@ -11,18 +11,14 @@ ghost use Rattle.basics.specs.Choice.{_when_else_};
 ghost use Rattle.basics.specs.Ranges.{one};
 ghost use Rattle.interface.specs.Numbers.{PageBytes, PageCount, TableEntries};
 ghost use Rattle.frames.specs.declared.Held.{Held as Words};
-ghost use Rattle.table.specs.Store.{kept, Ranged, rewindPage};
-ghost use Rattle.table.specs.Backing.{backingPage, backingEnd};
-ghost use Rattle.restoring.specs.Changed.{pageDiffers};
+ghost use Rattle.table.specs.Store.{kept, Ranged};
 ghost use Rattle.restoring.specs.Restored.{RestoredTo};
 ghost use Rattle.restoring.specs.Backed.{Backed};
 use interface::Backing;
-use interface::PageNo;
-use page_restore::restore_frame;
+use page_restore::restore_page;
 use slots::advanced;
 use table::entry::GROUP;
 use table::entry::are_empty;
-use table::entry::frame_of;
 
 // So many committed pages are restored, and how many had other bytes is told. The first has its front entry at a place of the table, and this backing.
 pub fn restore_pages(
@@ -113,23 +109,4 @@ fn counted(differed: bool) -> u8
         return 1;
     }
     0
-}
-
-// A committed page "keeps its front, whose bytes become the snapshot's", and whether any of them differed is told. Without a front there is nothing to do.
-fn restore_page(pool: &mut [u8], table: &[u16], image: &[u8], at: usize, backing: Backing) -> bool
-    requires { ⌜ at + PageCount < TableEntries ⌝ }
-    requires { ⌜ Ranged PageBytes (now pool) (now table) ⌝ }
-    requires { ⌜ backingEnd backing * PageBytes ≤ length (now image) ⌝ }
-    ensures { λ r. ⌜ ((h : Words) → let table = now (table .entry) in let image = now (image .entry) in
-        kept h (now (pool .exit)) table ≡ rewindPage PageBytes at (at + PageCount) true (backingPage image backing)
-        (kept h (now (pool .entry)) table)) ⌝ }
-    ensures differed { λ r. ⌜ ((h : Words) → let table = now (table .entry) in let image = now (image .entry) in
-        r ≡ pageDiffers PageBytes at (at + PageCount) (backingPage image backing) (kept h (now (pool .entry)) table)) ⌝ }
-{
-    let front = table[at];
-    if front == 0 {
-        return false;
-    }
-    let back = table[at + PageNo::COUNT];
-    restore_frame(pool, frame_of(front), back, image, backing)
 }

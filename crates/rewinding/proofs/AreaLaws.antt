@@ -12,11 +12,11 @@ use Rattle.basics.proofs.TestLaws.{by-cases}
 use Rattle.interface.specs.declared.page.Backing.{Backing}
 use Rattle.interface.specs.declared.page.Backing.the-variants.{Anonymous, Image}
 use Rattle.interface.specs.Numbers.{pagesIn}
-use Rattle.interface.specs.Slots.{isCommitted, backingAt}
-use Rattle.table.specs.Store.{Store, frontOf, Ranged, freeTo, rewindTo}
-use Rattle.table.specs.Backing.{backingPage}
+use Rattle.interface.specs.Slots.{isCommitted, backingAt, advance}
+use Rattle.table.specs.Store.{Store, frontOf, Ranged, freeTo}
 use Rattle.table.proofs.FreeLaws.{Kept, unchanged-kept, kept-twice, freeTo-kept}
-use Rattle.table.proofs.RewindLaws.{rewindTo-kept, rewindTo-join, rewindTo-same, rewindTo-free}
+use Rattle.rewind_cases.specs.Rewind.{rewindTo}
+use Rattle.rewind_cases.proofs.RunLaws.{rewindTo-kept, rewindTo-join, rewindTo-same, rewindTo-free}
 use Rattle.areas.specs.declared.area.Area.{Area}
 use Rattle.areas.specs.declared.area.Areas.{Areas}
 use Rattle.areas.specs.Areas.{none, slots, slotOf}
@@ -24,18 +24,17 @@ use Rattle.areas.specs.Formed.{ImagesExist, WellFormed}
 use Rattle.areas.specs.Walk.{Formed}
 use Rattle.areas.proofs.FewAreas.{area-slot}
 use Rattle.areas.proofs.WalkLaws.{settled, endOf, Before, before-start, before-gap, before-next, before-last}
-use Rattle.restoring.specs.Backed.{backingOn, Backed}
+use Rattle.restoring.specs.Backed.{Backed}
 use Rattle.restoring.specs.Changed.{changedTo}
 use Rattle.restoring.proofs.ChangedLaws.{changed-join, changed-alike, changed-freed}
-use Rattle.restoring.proofs.BackedLaws.{backed-whole}
 use Rattle.area_rewind.specs.AreaRewound.{areaRewound, areaChanged}
 
--- which pages keep their fronts, and the bytes of a page without a back, as the present areas say it
+-- which pages keep their fronts, and what each starts with, as the present areas say it
 abbrev pub keeps : Areas → ℕ → Bool
 keeps present i = isCommitted (slots present i)
 
-abbrev pub bytes : List ℕ → Areas → ℕ → List ℕ
-bytes image present i = backingPage image (backingAt (slots present i))
+abbrev pub backings : Areas → ℕ → Backing
+backings present i = backingAt (slots present i)
 
 -- at place k, the pages from this one on up to the next area are still to be rewound, and none of them keeps its front
 pub record Left (present : Areas) (k page : ℕ) : Type 0 where
@@ -113,62 +112,62 @@ module _ (image : List ℕ) (few : pagesIn (length image) ≤ 64) (present : Are
   module _ (s : ℕ) (st : Store) where
     -- the first pages are rewound
     abbrev pub upTo : ℕ → Store
-    upTo n = rewindTo 256 (s * 128) (keeps present) (bytes image present) st n
+    upTo n = rewindTo image (s * 128) (keeps present) (backings present) st n
 
     -- pages that keep no front
     over-gap : (page end : ℕ) → page ≤ end → ((i : ℕ) → page ≤ i → i < end → keeps present i ≡ false)
         → freeTo 256 (frontOf s page) (upTo page) (end - page) ≡ upTo end
     over-gap page end d h =
         let e : page + (end - page) ≡ end = omega arith in
-        sym (rewindTo-free 256 (s * 128 + page) (λ i. keeps present (page + i)) (λ i. bytes image present (page + i)) (upTo page) (end - page)
+        sym (rewindTo-free image (s * 128 + page) (λ i. keeps present (page + i)) (λ i. backings present (page + i)) (upTo page) (end - page)
         (λ i l. h (page + i) (omega arith) (omega arith)))
-        ∙ rewindTo-join 256 (s * 128) (keeps present) (bytes image present) st page (end - page)
+        ∙ rewindTo-join image (s * 128) (keeps present) (backings present) st page (end - page)
         ∙ ap upTo e
 
     -- what the present areas say of the pages of a committed one
     as-area : (k : ℕ) → k < present .count → at k .committed ≡ true → (i : ℕ) → i < at k .pages → let first = at k .first .0 in
-        (true ≡ keeps present (first + i)) × (backingOn image (at k .backing) i ≡ bytes image present (first + i))
+        (true ≡ keeps present (first + i)) × (true ≡ true → advance (at k .backing) i ≡ backings present (first + i))
     as-area k l c i u =
         let first : ℕ = at k .first .0 in
         let on : first + i - first ≡ i = omega arith in
-        (rw (of-area k l i u) (sym c), rw (of-area k l i u, on))
+        (rw (of-area k l i u) (sym c), λ _. rw (of-area k l i u, on))
 
     -- those of a committed area
     over-area : (k : ℕ) → k < present .count → at k .committed ≡ true
-        → rewindTo 256 (frontOf s (at k .first .0)) (λ i. true) (backingOn image (at k .backing)) (upTo (at k .first .0)) (at k .pages)
+        → rewindTo image (frontOf s (at k .first .0)) (λ i. true) (advance (at k .backing)) (upTo (at k .first .0)) (at k .pages)
         ≡ upTo (endOf present k)
     over-area k l c =
         let first : ℕ = at k .first .0 in
-        rewindTo-same 256 (s * 128 + first) (λ i. true) (λ i. keeps present (first + i)) (backingOn image (at k .backing))
-        (λ i. bytes image present (first + i)) (upTo first) (at k .pages) (as-area k l c)
-        ∙ rewindTo-join 256 (s * 128) (keeps present) (bytes image present) st first (at k .pages)
+        rewindTo-same image (s * 128 + first) (λ i. true) (advance (at k .backing)) (upTo first) (λ i. keeps present (first + i))
+        (λ i. backings present (first + i)) (at k .pages) (as-area k l c)
+        ∙ rewindTo-join image (s * 128) (keeps present) (backings present) st first (at k .pages)
 
     -- the pages found changed among the first
     abbrev pub countTo : ℕ → ℕ
-    countTo n = changedTo 256 (s * 128) (keeps present) (bytes image present) st n
+    countTo n = changedTo image (s * 128) (keeps present) (backings present) st n
 
     -- none in a gap
     count-gap : (page end : ℕ) → page ≤ end → ((i : ℕ) → page ≤ i → i < end → keeps present i ≡ false) → countTo page ≡ countTo end
     count-gap page end d h =
         let e : page + (end - page) ≡ end = omega arith in
         let none =
-        changed-freed 256 (s * 128 + page) (λ i. keeps present (page + i)) (λ i. bytes image present (page + i)) (upTo page) (end - page)
+        changed-freed image (s * 128 + page) (λ i. keeps present (page + i)) (λ i. backings present (page + i)) (upTo page) (end - page)
         (λ i l. h (page + i) (omega arith) (omega arith)) in
-        let all = changed-join 256 (s * 128) (keeps present) (bytes image present) st page (end - page) in
+        let all = changed-join image (s * 128) (keeps present) (backings present) st page (end - page) in
         let sum : countTo page ≡ countTo (page + (end - page)) = omega (arith, none, all) in
         rw e at sum
 
     -- those of a committed area
     count-area : (k : ℕ) → k < present .count → at k .committed ≡ true
         → countTo (at k .first .0)
-        + changedTo 256 (frontOf s (at k .first .0)) (λ i. true) (backingOn image (at k .backing)) (upTo (at k .first .0)) (at k .pages)
+        + changedTo image (frontOf s (at k .first .0)) (λ i. true) (advance (at k .backing)) (upTo (at k .first .0)) (at k .pages)
         ≡ countTo (endOf present k)
     count-area k l c =
         let first : ℕ = at k .first .0 in
         ap (λ (n : ℕ). countTo first + n)
-        (changed-alike 256 (s * 128 + first) (λ i. true) (λ i. keeps present (first + i)) (backingOn image (at k .backing))
-        (λ i. bytes image present (first + i)) (upTo first) (at k .pages) (as-area k l c))
-        ∙ changed-join 256 (s * 128) (keeps present) (bytes image present) st first (at k .pages)
+        (changed-alike image (s * 128 + first) (λ i. true) (advance (at k .backing)) (upTo first) (λ i. keeps present (first + i))
+        (λ i. backings present (first + i)) (at k .pages) (as-area k l c))
+        ∙ changed-join image (s * 128) (keeps present) (backings present) st first (at k .pages)
 
     module _ (k page : ℕ) (L : Left present k page) where
       -- an area more: what is left, and what is found
@@ -201,6 +200,5 @@ module _ (image : List ℕ) (few : pagesIn (length image) ≤ 64) (present : Are
       let free = freeTo-kept 256 (frontOf s page) before g n in
       rw (e, c)
       (kept-twice 256 before freed _ free
-      (rewindTo-kept 256 (frontOf s (at k .first .0)) (λ i. true) (backingOn image (at k .backing)) freed (free .ranged) (at k .pages)
-      (backed-whole image (at k .backing) (at k .pages) (backed-area k l)))))
+      (rewindTo-kept image (frontOf s (at k .first .0)) (λ i. true) (advance (at k .backing)) freed (free .ranged) (at k .pages) (backed-area k l .there))))
       (λ c. rw (e, c) (unchanged-kept 256 before g))

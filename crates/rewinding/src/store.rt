@@ -3,9 +3,10 @@ ghost use mathlib.Core.Path.{_≡_};
 ghost use Prim.Native.Nat.{_*_, _<_};
 ghost use lib.ListN.{length};
 ghost use Rattle.interface.specs.Numbers.{PageBytes, PageCount, Sandboxes, pagesIn, SandboxEntries};
-ghost use Rattle.table.specs.Store.{kept, Filed, rewindTo};
+ghost use Rattle.table.specs.Store.{kept, Filed};
+ghost use Rattle.rewind_cases.specs.Rewind.{rewindTo};
 ghost use Rattle.rules.specs.Ready.{Ready};
-ghost use Rattle.content.specs.Content.{copyPage, changed};
+ghost use Rattle.content.specs.Content.{copyBacking, changed};
 ghost use Rattle.memory.specs.Memory.{keepsFront};
 use area_rewind::Rewound;
 use area_rewind::free_before;
@@ -36,7 +37,7 @@ pub fn rewind(
     requires { ⌜ Filed PageBytes (pagesIn (length (now pool))) (kept held (now pool) (now table)) ⌝ }
     ensures { λ r. ⌜ (let before = kept held (now (pool .entry)) (now (table .entry)) in
         kept (r .held) (now (pool .exit)) (now (table .exit))
-        ≡ rewindTo PageBytes (s * SandboxEntries) (keepsFront b) (copyPage (now (image .entry)) b) before PageCount) ⌝ }
+        ≡ rewindTo (now (image .entry)) (s * SandboxEntries) (keepsFront b) (copyBacking b) before PageCount) ⌝ }
     ensures changed { λ r. ⌜ (let before = kept held (now (pool .entry)) (now (table .entry)) in r .changed ≡ changed (now (image .entry)) before b s) ⌝ }
 {
     let present = b.present;

@@ -3,7 +3,7 @@ use mathlib.Core.Path.{_≡_, refl, sym, ap, _∙_}
 use mathlib.Core.Bool.{Bool, true, false, false≢true}
 use mathlib.Core.Option.{some, none}
 use mathlib.Core.List.{List}
-use Prim.Native.Nat.{ℕ, suc, _+_, _*_, _<_}
+use Prim.Native.Nat.{ℕ, suc, _+_, _*_, _<_, _≤_}
 use native.Mathlib.Omega.{arith}
 use lib.ListN.{length, getD}
 use Rattle.basics.proofs.TestLaws.{by-cases}
@@ -22,8 +22,9 @@ use Rattle.table.proofs.StoreLaws.{contents-none, contents-some}
 use Rattle.areas.specs.Areas.{slots}
 use Rattle.areas.specs.Formed.{ImagesExist}
 use Rattle.state.specs.declared.sandbox.Sandbox.{Sandbox}
-use Rattle.table.specs.Backing.{backingPage}
-use Rattle.content.specs.Content.{pageUnder, pageRead, copyPage, copyRead}
+use Rattle.table.specs.Backing.{backingPage, backingEnd}
+use Rattle.content.specs.Content.{pageUnder, pageRead, copyBacking, copyPage, copyRead}
+use Rattle.content.proofs.ReadingLaws.{backing-there}
 use Rattle.plain.specs.Machine.{Given, Kept, copySlots, copyBytes, backingByte}
 use Rattle.plain_claims.specs.Claims.{Keeps, Reads}
 use Rattle.simulation.specs.Lent.{Lent}
@@ -81,8 +82,9 @@ module _ (g : Given) (L : Lent g) (st : Store) (s : ℕ) (b : Sandbox) (k : Kept
       backing-listed (g .image) (L .image) (backingAt (slots (b .rec .present) i)) (image-at _ (b .rec .present) (A .formed) i)
       ∙ ap (λ (x : Slot). listed 256 (backingByte (g .image) (backingAt x))) (at i)
 
-  pub copy-whole : (i : ℕ) → length (copyPage (g .image) (b .rec) i) ≡ 256
-  copy-whole i = backing-whole (g .image) (L .image) (backingAt (slots (b .rec .snapshot) i)) (image-at _ (b .rec .snapshot) (A .formedCopy) i)
+  -- the image has what the snapshot's pages start with
+  pub copy-there : (i : ℕ) → backingEnd (copyBacking (b .rec) i) * 256 ≤ length (g .image)
+  copy-there = backing-there (g .image) (b .rec .snapshot) (A .formedCopy)
 
   pub copy-page : (i : ℕ) → copyPage (g .image) (b .rec) i ≡ listed 256 (backingByte (g .image) (backingAt (copied (copySlots (k .core)) i)))
   copy-page i =

@@ -25,7 +25,8 @@ use Rattle.kept.specs.Spare.{keptBy, rowRewound, leftOf, grantTo}
 use Rattle.kept.specs.Test.{runsTo, keptTo, blankb, spareb}
 use Rattle.pages.specs.Parts.{partAt, setPart, zeros, frame, setFrame, sameBytes}
 use Rattle.marks.specs.Marks.{addEntry, marksTo, marksb}
-use Rattle.table.specs.Store.{contents, put, free, take, fill, storeByte, move, rewindPage, freeTo, moveTo, rewindTo, fresh}
+use Rattle.table.specs.Store.{contents, put, free, take, fill, storeByte, move, freeTo, moveTo, fresh}
+use Rattle.rewind_cases.specs.Rewind.{restorePage, rewindPage, rewindTo}
 use Rattle.areas.specs.Areas.{slotIn}
 use Rattle.areas.specs.Formed.{goesOn, proper, isApart, isNone, placeOk, wellFormed}
 use Rattle.packing.specs.Pack.{continues, push, packTo}
@@ -67,7 +68,8 @@ unfolding chosen played roll
     bit putBit held mark countHeld greatest leastHeld bothHeld apartHeld
     partAt setPart zeros frame setFrame sameBytes changedPages
     addEntry marksTo marksb usedBelow
-    contents put free take fill storeByte move rewindPage freeTo moveTo rewindTo fresh
+    contents put free take fill storeByte move freeTo moveTo fresh
+    restorePage rewindPage rewindTo
     rowTo keptBy rowRewound leftOf grantTo runsTo keptTo blankb spareb
     slotIn goesOn continues push packTo
     proper isApart isNone placeOk wellFormed

@@ -23,7 +23,8 @@ use Rattle.run_choice.proofs.RunLaws.{run-low, granted-run, longest-low, longes
 use Rattle.frames.specs.declared.Held.{Held}
 use Rattle.frames.specs.Frames.{held, mark, countHeld}
 use Rattle.pages.proofs.ListedLaws.{length-listed}
-use Rattle.table.specs.Store.{Store, entry, frontOf, contents, Tidy, take, storeByte, freeTo, moveTo, rewindTo}
+use Rattle.table.specs.Store.{Store, entry, frontOf, contents, Tidy, take, storeByte, freeTo, moveTo}
+use Rattle.rewind_cases.specs.Rewind.{rewindTo}
 use Rattle.table.proofs.StoreLaws.{take-tidy, storeByte-tidy}
 use Rattle.table.proofs.FreeLaws.{freeTo-tidy}
 use Rattle.table.proofs.MoveLaws.{moved}
@@ -34,16 +35,17 @@ use Rattle.runs.proofs.RowLaws.{tabled-length, tabled-row, with-length, with-ro
 use Rattle.kept.specs.Spare.{Rows, keptAt, Spare, Words, rowRewound, leftOf, withRun}
 use Rattle.kept.proofs.GrantLaws.{grant-spare, lengths-less}
 use Rattle.kept.proofs.WriteLaws.{given-spare, given-free, given-fewer, given-lengths, take-spare, marks-from, same-spare}
-use Rattle.kept.proofs.RewindLaws.{rewind-spare, rewind-lengths}
+use Rattle.kept.proofs.RewindLaws.{rewind-lengths}
+use Rattle.memory.proofs.RewindRuns.{rewind-spare}
 use Rattle.kept.proofs.StoreRuns.{spare-rows, frees-from, moves-marks, byte-marks, mark-words, left-words, rewound-words}
 use Rattle.state.specs.declared.sandbox.Sandbox.{Sandbox}
-use Rattle.content.specs.Content.{pageUnder, copyPage}
+use Rattle.content.specs.Content.{pageUnder, copyBacking}
 use Rattle.memory.specs.Memory.{holdsIn, givesAt, placeFor, framesFor, longestOf, runsAfter, touched, keepsFront, storeAfter}
 use Rattle.plain.specs.Machine.{Given, Kept, copySlots, lessBy, runsAfter as plainRuns, keptAfter, viewOf}
 use Rattle.plain_claims.specs.Claims.{Keeps, Reads}
 use Rattle.simulation.specs.Lent.{Lent}
 use Rattle.simulation.specs.Agrees.{AgreesAt}
-use Rattle.simulation.proofs.ReadSteps.{at, copy-whole, under, mark-none}
+use Rattle.simulation.proofs.ReadSteps.{at, copy-there, under, mark-none}
 use Rattle.simulation.proofs.HeldSteps.{front-is, holds-same}
 use Rattle.simulation.proofs.MapSteps.{run-store, run-empty}
 use Rattle.simulation.proofs.StoreSteps.{write-page}
@@ -139,7 +141,7 @@ module _ {C : ℕ → Type 0} (g : Given) (L : Lent g) (q : Request) (st : Store
   abbrev made : Runs
   made = tabled (rowRewound st s (slots (b .rec .present)) (row (b .runs)))
 
-  run-made : Runned n (rewindTo 256 (s * 128) (keepsFront (b .rec)) (copyPage (g .image) (b .rec)) st 64) rows s made
+  run-made : Runned n (rewindTo (g .image) (s * 128) (keepsFront (b .rec)) (copyBacking (b .rec)) st 64) rows s made
       (runsRewound (k .core .pages .slots) (k .traces .front) (k .traces .runs))
   run-made =
       let f′ = slots (b .rec .present) in
@@ -154,10 +156,10 @@ module _ {C : ℕ → Type 0} (g : Given) (L : Lent g) (q : Request) (st : Store
           high = λ i l. rw (tabled-row (rowRewound st s f′ (row (b .runs))) i l) (words′ .high i l);
         };
         spare =
-            spare-rows 256 n (rewindTo 256 (s * 128) (keepsFront (b .rec)) (copyPage (g .image) (b .rec)) st 64)
+            spare-rows 256 n (rewindTo (g .image) (s * 128) (keepsFront (b .rec)) (copyBacking (b .rec)) st 64)
             (inPlace s (rowRewound st s f′ (row (b .runs))) rows) (inPlace s (row made) rows)
             (λ t i l d. by-cases (eqb s t) (λ z. rw z (sym (tabled-row (rowRewound st s f′ (row (b .runs))) i d))) (λ z. rw z))
-            (rw own at (rewind-spare 256 n st (T .filed) s f′ (keepsFront (b .rec)) (copyPage (g .image) (b .rec)) (copy-whole g L st s b k h r A)
+            (rw own at (rewind-spare n st (T .filed) s f′ (g .image) (keepsFront (b .rec)) (copyBacking (b .rec)) (copy-there g L st s b k h r A)
             (λ i z. spared-uncommitted (slots (b .rec .present) i) z) rows low S));
       }
 

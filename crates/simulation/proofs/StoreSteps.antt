@@ -24,23 +24,24 @@ use Rattle.frames.specs.Frames.{held}
 use Rattle.pages.specs.Parts.{listed}
 use Rattle.pages.proofs.ListedLaws.{length-listed, listed-set}
 use Rattle.marks.proofs.NamedLaws.{by-entry}
-use Rattle.table.specs.Store.{Store, entry, frontOf, backOf, contents, overPage, Tidy, storeByte, moveTo, rewound}
+use Rattle.table.specs.Store.{Store, entry, frontOf, backOf, contents, overPage, Tidy, storeByte, moveTo}
 use Rattle.table.proofs.FiledLaws.{other-sandbox}
 use Rattle.table.proofs.StoreLaws.{take-tidy, take-same, take-other, storeByte-tidy, storeByte-same, storeByte-other}
 use Rattle.table.proofs.FreeLaws.{freeTo-tidy, freeTo-in, freeTo-out}
 use Rattle.table.proofs.MoveLaws.{Moved, moved}
-use Rattle.table.proofs.RewindLaws.{rewindTo-tidy, rewindTo-in, rewindTo-out}
+use Rattle.rewind_cases.proofs.BeforeLaws.{frontBefore}
+use Rattle.rewind_cases.proofs.RewindLaws.{rewindTo-tidy, rewindTo-in, rewindTo-out}
 use Rattle.state.specs.declared.sandbox.Sandbox.{Sandbox}
 use Rattle.runs.specs.Row.{row}
 use Rattle.kept.specs.Spare.{Rows, Spare}
-use Rattle.content.specs.Content.{copyPage}
+use Rattle.content.specs.Content.{copyBacking, copyPage}
 use Rattle.memory.specs.Memory.{touched, keepsFront, storeAfter}
 use Rattle.plain.specs.Machine.{Given, Kept, copySlots, copyBytes, stored, bytesAfter, frontAfter, backAfter, keptAfter, viewOf}
 use Rattle.plain_claims.specs.Claims.{Keeps, Reads}
 use Rattle.simulation.specs.Lent.{Lent}
 use Rattle.simulation.specs.Agrees.{pageIf, AgreesAt}
 use Rattle.simulation.proofs.MapSteps.{Stored, inside-out, stored-map}
-use Rattle.simulation.proofs.ReadSteps.{at, copy-whole, copy-page, under, mark-none, frame-is}
+use Rattle.simulation.proofs.ReadSteps.{at, copy-there, copy-page, under, mark-none, frame-is}
 
 -- a write names one of 64 pages
 pub write-page : (images : ℕ) (q : Request) → q .code ≡ Write → within images q ≡ true → pageOf q < 64
@@ -53,7 +54,7 @@ module _ {C : ℕ → Type 0} (g : Given) (L : Lent g) (q : Request) (st : Store
     (inRow : q .sandbox < 4) (h : Keeps k) (r : Reads g k) (A : AgreesAt g st (q .sandbox) b k) where
   -- what a rewind makes of a front
   rewound-front : (i : ℕ) → i < 64
-      → rewound (keepsFront (b .rec) i) (copyPage (g .image) (b .rec) i) (contents 256 st (backOf (q .sandbox) i)) (contents 256 st (frontOf (q .sandbox) i))
+      → frontBefore (keepsFront (b .rec) i) (copyPage (g .image) (b .rec) i) (contents 256 st (backOf (q .sandbox) i)) (contents 256 st (frontOf (q .sandbox) i))
       ≡ pageIf (k .traces .front i && isCommitted (k .core .pages .slots i)) (copyBytes (k .core .copy) i)
   rewound-front i l =
       rw (A .backs i l, A .fronts i l, at g L st (q .sandbox) b k h r A i)
@@ -108,16 +109,16 @@ module _ {C : ℕ → Type 0} (g : Given) (L : Lent g) (q : Request) (st : Store
     unfolding storeAfter frontAfter backAfter bytesAfter copyAfter
     stored-rewind e =
         let first : ℕ = q .sandbox * 128 in
-        let whole = copy-whole g L st (q .sandbox) b k h r A in
+        let there = copy-there g L st (q .sandbox) b k h r A in
         record {
-          tidy = rw e (rewindTo-tidy 256 (g .frames) first (keepsFront (b .rec)) (copyPage (g .image) (b .rec)) whole st T 64);
-          fronts = λ i l. rw e (rewindTo-in 256 (g .frames) first (keepsFront (b .rec)) (copyPage (g .image) (b .rec)) whole st T 64 i (omega arith) l
+          tidy = rw e (rewindTo-tidy (g .frames) (g .image) first (keepsFront (b .rec)) (copyBacking (b .rec)) there st T 64);
+          fronts = λ i l. rw e (rewindTo-in (g .frames) (g .image) first (keepsFront (b .rec)) (copyBacking (b .rec)) there st T 64 i (omega arith) l
               ∙ rewound-front i l);
           backs = λ i l. rw (e, ← h .backCopied)
-              (rewindTo-out 256 (g .frames) first (keepsFront (b .rec)) (copyPage (g .image) (b .rec)) whole st T 64 (first + i + 64) (inr (omega arith))
+              (rewindTo-out (g .frames) (g .image) first (keepsFront (b .rec)) (copyBacking (b .rec)) there st T 64 (first + i + 64) (inr (omega arith))
               ∙ A .backs i l);
           others = λ u x d l. rw e
-              (rewindTo-out 256 (g .frames) first (keepsFront (b .rec)) (copyPage (g .image) (b .rec)) whole st T 64 (u * 128 + x)
+              (rewindTo-out (g .frames) (g .image) first (keepsFront (b .rec)) (copyBacking (b .rec)) there st T 64 (u * 128 + x)
               (⊎-elim (λ n. inl (omega arith)) (λ n. inr (omega arith)) (other-sandbox (q .sandbox) u x 128 d l (omega arith))));
         }
 

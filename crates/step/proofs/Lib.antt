@@ -1,3 +1,4 @@
 pub mod CallLaws
 pub mod ActedLaws
 pub mod StayLaws
+pub mod BeforeLaws

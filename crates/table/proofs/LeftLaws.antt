@@ -1,7 +1,6 @@
 -- What each operation leaves: every entry but its own, and the bytes and the mark of every frame that its own entries do not name.
 use mathlib.Core.Path.{_≡_, refl, sym, ap, _∙_}
 use mathlib.Core.Logic.{_⊎_, inl, inr, ⊎-elim}
-use mathlib.Core.Bool.{Bool, true, false}
 use mathlib.Core.List.{List}
 use Prim.Native.Nat.{ℕ, zero, suc, _+_, _-_, _*_, _≤_, _<_}
 use native.Mathlib.Omega.{arith}
@@ -16,10 +15,9 @@ use Rattle.frames.proofs.FrameLaws.{held-mark-other}
 use Rattle.pages.specs.Parts.{frame, setFrame}
 use Rattle.pages.proofs.PartLaws.{length-zeros, length-frame, fits-pool, frame-other, byte-set}
 use Rattle.marks.proofs.NamedLaws.{by-entry}
-use Rattle.table.specs.Store.{Store, kept, entry, contents, pageFrom, Tidy, put, free, take, fill, storeByte, move, rewindPage, freeTo, moveTo, rewindTo}
-use Rattle.table.proofs.StoreLaws.{page-whole, free-none, free-some, fill-none, fill-some, take-tidy, take-entry}
+use Rattle.table.specs.Store.{Store, kept, entry, Tidy, put, free, take, fill, storeByte, move, freeTo, moveTo}
+use Rattle.table.proofs.StoreLaws.{free-none, free-some, fill-none, fill-some, take-tidy, take-entry}
 use Rattle.table.proofs.FreeLaws.{freeTo-tidy}
-use Rattle.table.proofs.RewindLaws.{rewindTo-tidy}
 
 -- ---- entries
 
@@ -42,11 +40,6 @@ module _ (size k : ℕ) (s : Store) (j : ℕ) where
   unfolding take put
   take-other-entry f bytes d = getD-set-other (s .table) k j (f + 1) 0 d
 
-  pub rewind-entry : (i : ℕ) (keep : Bool) (bytes : List ℕ) → (j ≡ k → ⊥) → entry (rewindPage size k i keep bytes s) j ≡ entry s j
-  unfolding rewindPage
-  rewind-entry i keep bytes d =
-      when-cases (λ (r : Store). entry r j ≡ entry s j) keep (λ _. fill-entry (pageFrom bytes (contents size s i))) (λ _. free-entry d)
-
 pub move-entry : (k i : ℕ) (s : Store) (j : ℕ) → (j ≡ k → ⊥) → (j ≡ i → ⊥) → entry (move k i s) j ≡ entry s j
 unfolding move
 move-entry k i s j d e = getD-set-other (set (s .table) k 0) i j (entry s k) 0 e ∙ getD-set-other (s .table) k j 0 0 d
@@ -68,15 +61,6 @@ module _ (first : ℕ) (s : Store) (j : ℕ) where
       (⊎-elim (λ l e. omega arith) (λ l e. omega arith) o)
       ∙ moveTo-entry n (omega arith) o
 
-  pub rewindTo-entry : (size : ℕ) (keep : ℕ → Bool) (bytes : ℕ → List ℕ) (n : ℕ) → (j < first) ⊎ (first + n ≤ j)
-      → entry (rewindTo size first keep bytes s n) j ≡ entry s j
-  unfolding rewindTo
-  rewindTo-entry size keep bytes zero o = refl
-  rewindTo-entry size keep bytes (suc n) o =
-      rewind-entry size (first + n) (rewindTo size first keep bytes s n) j (first + n + 64) (keep n) (bytes n)
-      (⊎-elim (λ l e. omega arith) (λ l e. omega arith) o)
-      ∙ rewindTo-entry size keep bytes n (⊎-elim (λ l. inl l) (λ l. inr (omega arith)) o)
-
 -- ---- frames
 
 -- frame f has in r the bytes and the mark that it has in s
@@ -87,7 +71,7 @@ pub record Left (size f : ℕ) (s r : Store) : Type 0 where
 pub left-same : (size f : ℕ) (s : Store) → Left size f s s
 left-same size f s = record { bytes = refl; marked = refl }
 
-left-then : (size f : ℕ) (s m r : Store) → Left size f s m → Left size f m r → Left size f s r
+pub left-then : (size f : ℕ) (s m r : Store) → Left size f s m → Left size f m r → Left size f s r
 left-then size f s m r a b = record { bytes = b .bytes ∙ a .bytes; marked = b .marked ∙ a .marked }
 
 -- moves leave the pool and the marks
@@ -129,11 +113,6 @@ module _ {C : ℕ → Type 0} (size n : ℕ) (s : Store) (t : Tidy C size n s) (
         length-set (frame size (s .pool) (entry s k - 1)) offset byte
         ∙ rw m (length-frame size (s .pool) g (fits-pool size n (s .pool) g (t .filed .pages) (t .filed .names .within k g e))))
 
-    pub rewind-left : (j : ℕ) (keep : Bool) (ys : List ℕ) → length ys ≡ size → Left size f s (rewindPage size k j keep ys s)
-    unfolding rewindPage
-    rewind-left j true ys w = fill-left (pageFrom ys (contents size s j)) (λ g e. page-whole size n s t j ys w)
-    rewind-left j false ys w = free-left
-
   pub take-left : (k g : ℕ) (ys : List ℕ) → g < n → length ys ≡ size → (f ≡ g → ⊥) → Left size f s (take size k g ys s)
   unfolding take
   take-left k g ys low whole d = put-left k (g + 1) g 1 ys low (omega arith) whole d
@@ -147,16 +126,6 @@ module _ {C : ℕ → Type 0} (size n : ℕ) (s : Store) (t : Tidy C size n s) (
       left-then size f s (freeTo size first s i) _ (freeTo-left i (λ x l. d x (omega arith)))
       (free-left size n (freeTo size first s i) (freeTo-tidy size n first s t i) f (first + i)
       (λ e. d i (omega arith) (sym (freeTo-entry first s (first + i) size i (inr (omega arith))) ∙ e)))
-
-  pub rewindTo-left : (keep : ℕ → Bool) (bytes : ℕ → List ℕ) → ((x : ℕ) → length (bytes x) ≡ size) → (i : ℕ)
-      → ((x : ℕ) → x < i → entry s (first + x) ≡ suc f → ⊥) → Left size f s (rewindTo size first keep bytes s i)
-  unfolding rewindTo
-  rewindTo-left keep bytes whole zero d = left-same size f s
-  rewindTo-left keep bytes whole (suc i) d =
-      left-then size f s (rewindTo size first keep bytes s i) _ (rewindTo-left keep bytes whole i (λ x l. d x (omega arith)))
-      (rewind-left size n (rewindTo size first keep bytes s i) (rewindTo-tidy size n first keep bytes whole s t i) f (first + i)
-      (λ e. d i (omega arith) (sym (rewindTo-entry first s (first + i) size keep bytes i (inr (omega arith))) ∙ e))
-      (first + i + 64) (keep i) (bytes i) (whole i))
 
 -- ---- a byte stored
 

@@ -4,7 +4,6 @@ pub mod StoreLaws
 pub mod GroupLaws
 pub mod FreeLaws
 pub mod MoveLaws
-pub mod RewindLaws
 pub mod TouchLaws
 pub mod LeftLaws
 pub mod StartLaws

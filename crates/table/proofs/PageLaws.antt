@@ -2,7 +2,7 @@
 use mathlib.Core.Path.{_≡_, refl, sym, ap, _∙_}
 use mathlib.Core.Bool.{Bool, true, false}
 use mathlib.Core.List.{List}
-use Prim.Native.Nat.{ℕ, zero, suc, _-_, _*_, _≤_}
+use Prim.Native.Nat.{ℕ, zero, suc, _-_, _*_, _≤_, _<_}
 use native.Mathlib.Omega.{arith}
 use borrow.Author.Tests.{ne-eqb}
 use lib.ListN.{length, getD, set}
@@ -11,7 +11,7 @@ use Rattle.frames.specs.declared.Held.{Held}
 use Rattle.frames.specs.Frames.{mark}
 use Rattle.pages.specs.Parts.{frame, setFrame, zeros}
 use Rattle.table.specs.Store.{Store, kept, entry, pageIn, contents, pageFrom, underFront, Ranged}
-use Rattle.table.specs.Store.{put, free, fill, storeByte, rewindPage}
+use Rattle.table.specs.Store.{put, free, fill, storeByte}
 use Rattle.table.proofs.FiledLaws.{zero-times}
 
 -- the bytes of the frame that an entry names, which names one
@@ -72,15 +72,9 @@ pub store-some : (size k offset byte : ℕ) (s : Store) (front f : ℕ) (pool : 
 unfolding storeByte fill
 store-some size k offset byte s front f pool is-front d named p = rw (← is-front, ne-eqb front 0 d, ← named, p)
 
--- ---- a page that is rewound
+-- ---- its frame is filled
 
-module _ (size k j : ℕ) (keep : Bool) (bytes : List ℕ) (s : Store) where
-  pub restore-free : keep ≡ false → free size k s ≡ rewindPage size k j keep bytes s
-  unfolding rewindPage
-  restore-free e = rw e
-
-  pub restore-fill : (front back : ℕ) (pool : List ℕ) → keep ≡ true → front ≡ entry s k → (front ≡ 0 → ⊥) → back ≡ entry s j
-      → pool ≡ setFrame size (s .pool) (front - 1) (pageFrom bytes (pageIn size (s .pool) back))
-      → kept (s .marks) pool (s .table) ≡ rewindPage size k j keep bytes s
-  unfolding rewindPage fill contents
-  restore-fill front back pool e is-front d is-back p = rw (e, ← is-front, ne-eqb front 0 d, ← is-back, p)
+pub fill-some : (size k : ℕ) (bytes : List ℕ) (s : Store) (front : ℕ) (pool : List ℕ) → front ≡ entry s k → 0 < front
+    → pool ≡ setFrame size (s .pool) (front - 1) bytes → kept (s .marks) pool (s .table) ≡ fill size k bytes s
+unfolding fill
+fill-some size k bytes s front pool is-front some p = rw (← is-front, ne-eqb front 0 (omega arith), p)

@@ -110,14 +110,6 @@ storeByte size k offset byte s = fill size k (set (frame size (s .pool) (entry s
 unfoldable pub move : ℕ → ℕ → Store → Store
 move k j s = kept (s .marks) (s .pool) (set (set (s .table) k 0) j (entry s k))
 
--- the front entry k of a page with the back entry j is rewound: it 'keeps its front, whose bytes become the snapshot's', or gives it up
-unfoldable pub rewindPage : ℕ → ℕ → ℕ → Bool → List ℕ → Store → Store
-rewindPage size k j keep bytes s = fill size k (pageFrom bytes (contents size s j)) s when keep else free size k s
-
--- what a rewound front then holds, of what front and back held before
-abbrev pub rewound : Bool → List ℕ → Option (List ℕ) → Option (List ℕ) → Option (List ℕ)
-rewound keep bytes back front = overPage (λ page. pageFrom bytes back) front when keep else none
-
 -- ---- what is done to a run of entries
 
 -- unmap: the n entries from first on give up their pages
@@ -129,11 +121,6 @@ freeTo size first s (suc n) = free size (first + n) (freeTo size first s n)
 unfoldable pub moveTo : ℕ → Store → ℕ → Store
 moveTo first s zero = s
 moveTo first s (suc n) = move (first + n) (first + n + 64) (moveTo first s n)
-
--- rewind: the first n pages of the sandbox whose entries start at first; which keep their fronts, and the bytes of those without a back
-unfoldable pub rewindTo : ℕ → ℕ → (ℕ → Bool) → (ℕ → List ℕ) → Store → ℕ → Store
-rewindTo size first keep bytes s zero = s
-rewindTo size first keep bytes s (suc n) = rewindPage size (first + n) (first + n + 64) (keep n) (bytes n) (rewindTo size first keep bytes s n)
 
 -- ---- a start, and a frame taken
 

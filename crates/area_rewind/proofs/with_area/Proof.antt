@@ -2,14 +2,15 @@
 use Prim.Native.Nat.{ℕ, _+_, _-_}
 use mathlib.Core.Path.{_≡_, ap, _∙_}
 use mathlib.Core.Bool.{Bool, true, false}
-use mathlib.Core.List.{List}
 use native.Mathlib.Omega.{arith}
 use borrow.Author.Needs.{needs}
 use borrow.Author.Tests.{not-true, not-false}
 use Rattle.basics.specs.Choice.{_when_else_}
-use Rattle.table.specs.Store.{Store, kept, frontOf, rewindTo}
+use Rattle.interface.specs.declared.page.Backing.{Backing}
+use Rattle.interface.specs.Slots.{advance}
+use Rattle.table.specs.Store.{Store, kept, frontOf}
 use Rattle.table.proofs.FreeLaws.{freeTo-kept-as}
-use Rattle.restoring.specs.Backed.{backingOn}
+use Rattle.rewind_cases.specs.Rewind.{rewindTo}
 use Rattle.restoring.specs.Changed.{changedTo}
 use Rattle.restoring.proofs.ChangedLaws.{changed-few}
 use Rattle.area_rewind.specs.AreaRewound.{areaRewound, areaChanged}
@@ -75,7 +76,7 @@ add-t24 c =
     let at = restored .before .before .before in
     let s = behind at in
     let a = s .args in
-    let few = changed-few 256 (at .front-index .result) (λ i. true) (backingOn (a .image .now) (a .area .backing)) (between at) (a .area .pages) in
+    let few = changed-few (a .image .now) (at .front-index .result) (λ i. true) (advance (a .area .backing)) (between at) (a .area .pages) in
     omega (arith, restored .restore-pages .ensures (placed at .free-before .result) .told, few, s .pre .1 .0, s .pre .1 .1 .0, s .pre .1 .1 .1 .1 .1 .1)
 
 same-length : tie.Need-same-length
@@ -91,19 +92,20 @@ returns-2 c =
     let a = behind at .args in
     let area = a .area in
     let e : area .committed ≡ true = not-false _ (freed (placed at) .if1 .left) in
-    let bytes : ℕ → List ℕ = backingOn (a .image .now) (area .backing) in
+    let image = a .image .now in
+    let backing : ℕ → Backing = advance (area .backing) in
     let f = placed at .free-before in
     let told = restored .restore-pages .ensures (f .result) in
     let whole : kept (f .result) (restored .restore-pages .last .0) (f .last .1 .1 .0)
     ≡ areaRewound (a .image .now) (a .s) area (a .done .page .0) (kept (a .done .held) (a .pool .now) (a .table .now)) =
     told .left
-    ∙ ap (λ (k : ℕ). rewindTo 256 k (λ i. true) bytes (between at) (area .pages)) (at .front-index .ensures)
-    ∙ ap (λ (x : Store). rewindTo 256 (frontOf (a .s) (area .first .0)) (λ i. true) bytes x (area .pages)) (f .ensures) in
+    ∙ ap (λ (k : ℕ). rewindTo image k (λ i. true) backing (between at) (area .pages)) (at .front-index .ensures)
+    ∙ ap (λ (x : Store). rewindTo image (frontOf (a .s) (area .first .0)) (λ i. true) backing x (area .pages)) (f .ensures) in
     let counted : restored .restore-pages .result
     ≡ areaChanged (a .image .now) (a .s) area (a .done .page .0) (kept (a .done .held) (a .pool .now) (a .table .now)) =
     told .told
-    ∙ ap (λ (k : ℕ). changedTo 256 k (λ i. true) bytes (between at) (area .pages)) (at .front-index .ensures)
-    ∙ ap (λ (x : Store). changedTo 256 (frontOf (a .s) (area .first .0)) (λ i. true) bytes x (area .pages)) (f .ensures) in (
+    ∙ ap (λ (k : ℕ). changedTo image k (λ i. true) backing (between at) (area .pages)) (at .front-index .ensures)
+    ∙ ap (λ (x : Store). changedTo image (frontOf (a .s) (area .first .0)) (λ i. true) backing x (area .pages)) (f .ensures) in (
       whole ∙ chosen _ _ (area .committed) e,
       (chosen _ _ (area .committed) e, ap (λ (n : ℕ). a .done .changed + n) counted ∙ chosen _ _ (area .committed) e),
     )

@@ -1,19 +1,21 @@
 -- The first i pages are restored, and those of them that differed are counted; the entries still lie in the pool.
 use mathlib.Core.Path.{_≡_, refl, _∙_}
 use mathlib.Core.Bool.{true}
-use mathlib.Core.List.{List}
 use Prim.Native.Nat.{ℕ, _≤_, _-_, _+_}
 use native.Mathlib.Omega.{arith}
 use borrow.Author.Needs.{needs}
 use lib.ListN.{length}
 use Rattle.frames.specs.declared.Held.{Held}
 use Rattle.frames.specs.Frames.{noneHeld}
-use Rattle.table.specs.Store.{Store, kept, Ranged, rewindPage}
-use Rattle.table.proofs.RewindLaws.{rewind-kept-as, rewind-more}
-use Rattle.restoring.specs.Changed.{pageDiffers}
+use Rattle.interface.specs.declared.page.Backing.{Backing}
+use Rattle.interface.specs.Slots.{advance}
+use Rattle.table.specs.Store.{Store, kept, Ranged}
+use Rattle.table.specs.Backing.{backingPage}
+use Rattle.rewind_cases.specs.Rewind.{rewindPage}
+use Rattle.rewind_cases.proofs.RunLaws.{rewind-kept-as, rewind-more}
+use Rattle.page_restore.specs.Differs.{pageDiffers}
 use Rattle.restoring.specs.Restored.{RestoredTo}
-use Rattle.restoring.specs.Backed.{backingOn}
-use Rattle.restoring.proofs.BackedLaws.{backed-whole, none-restored}
+use Rattle.restoring.proofs.BackedLaws.{none-restored}
 use Rattle.restoring.proofs.ChangedLaws.{one-small, changed-few, changed-more}
 use Rattle.restoring.proofs.restore_each.Statement.{statement}
 use Rattle.restoring.proofs.restore_each.Tie as tie
@@ -60,7 +62,7 @@ add-changed c =
     let l = turn .before .loop in
     let s = behind (turn .before) in
     let a = s .args in
-    let few = changed-few 256 (a .at) (λ k. true) (backingOn (a .image .now) (a .backing)) (kept noneHeld (a .pool .now) (a .table .now)) (l .i) in
+    let few = changed-few (a .image .now) (a .at) (λ k. true) (advance (a .backing)) (kept noneHeld (a .pool .now) (a .table .now)) (l .i) in
     omega (
       arith,
       l .inv .3 noneHeld .told,
@@ -84,22 +86,24 @@ loop-again c =
     let l = turn .before .loop in
     let s = behind (turn .before) in
     let a = s .args in
-    let bytes : ℕ → List ℕ = backingOn (a .image .now) (a .backing) in
+    let image = a .image .now in
+    let backing : Backing = advance (a .backing) (l .i) in
     let r : Held → Store = λ h. kept h (l .pool) (a .table .now) in
     let q : Held → Store = λ h. kept h (page .restore-page .last .0) (a .table .now) in
-    let e : (h : Held) → q h ≡ rewindPage 256 (a .at + l .i) (a .at + l .i + 64) true (bytes (l .i)) (r h) =
+    let e : (h : Held) → q h ≡ rewindPage image (a .at + l .i) (a .at + l .i + 64) true backing (r h) =
     λ h. rw (page .before .advanced .ensures) at (page .restore-page .ensures .0 h) in
-    let d : (h : Held) → page .restore-page .result ≡ pageDiffers 256 (a .at + l .i) (a .at + l .i + 64) (bytes (l .i)) (r h) =
+    let d : (h : Held) → page .restore-page .result ≡ pageDiffers 256 (a .at + l .i) (a .at + l .i + 64) (backingPage image backing) (r h) =
     λ h. rw (page .before .advanced .ensures) at (page .restore-page .ensures .1 h) in
     let k =
-    rewind-kept-as 256 (a .at + l .i) (a .at + l .i + 64) true (bytes (l .i)) (r noneHeld) (q noneHeld) (e noneHeld) (l .inv .2)
-    (backed-whole _ _ _ (s .pre .1 .1 .0) (l .i) (turn .loop-test .taken)) in (
+    rewind-kept-as image (a .at + l .i) (a .at + l .i + 64) backing (r noneHeld) true (q noneHeld) (e noneHeld) (l .inv .2)
+    (s .pre .1 .1 .0 .there (l .i) (turn .loop-test .taken)) in (
       search needs,
       k .pool ∙ l .inv .1,
       k .ranged,
       λ h. let U = l .inv .3 h in record {
-        left = rewind-more 256 (a .at) (l .i) (λ k. true) bytes _ (r h) (q h) (U .left) (e h);
-        told = rw (c .counted .ensures) (changed-more 256 (a .at) (l .i) bytes _ (r h) (l .changed) (page .restore-page .result) (U .left) (U .told) (d h));
+        left = rewind-more image (a .at) (λ k. true) (advance (a .backing)) _ (l .i) (r h) (q h) (U .left) (e h);
+        told = rw (c .counted .ensures)
+            (changed-more image (a .at) (λ k. true) (advance (a .backing)) _ (l .i) (r h) (l .changed) (page .restore-page .result) refl (U .left) (U .told) (d h));
       },
     )
 

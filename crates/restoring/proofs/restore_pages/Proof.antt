@@ -14,11 +14,10 @@ use Rattle.interface.specs.Slots.{advance}
 use Rattle.frames.specs.declared.Held.{Held}
 use Rattle.frames.specs.Frames.{noneHeld}
 use Rattle.table.specs.Store.{Store, kept, Ranged}
-use Rattle.table.proofs.RewindLaws.{rewindTo-kept-as}
-use Rattle.restoring.specs.Backed.{backingOn}
+use Rattle.rewind_cases.proofs.RunLaws.{rewindTo-kept-as}
 use Rattle.restoring.specs.Restored.{RestoredTo}
 use Rattle.restoring.proofs.ChangedLaws.{changed-few}
-use Rattle.restoring.proofs.BackedLaws.{backed-whole, backed-part, none-restored, restored-on, restored-past}
+use Rattle.restoring.proofs.BackedLaws.{backed-part, none-restored, restored-on, restored-past}
 use Rattle.restoring.proofs.restore_pages.Statement.{statement}
 use Rattle.restoring.proofs.restore_pages.Tie as tie
 
@@ -101,8 +100,8 @@ add-changed c =
     let n = some .group-of .result in
     let st : Store = kept noneHeld (a .pool .now) (a .table .now) in
     let r : Store = kept noneHeld (l .pool) (a .table .now) in
-    let so-far = changed-few 256 (a .at) (λ k. true) (backingOn (a .image .now) (a .backing)) st (l .i) in
-    let here = changed-few 256 (a .at + l .i) (λ k. true) (backingOn (a .image .now) (each .before .advanced .result)) r n in
+    let so-far = changed-few (a .image .now) (a .at) (λ k. true) (advance (a .backing)) st (l .i) in
+    let here = changed-few (a .image .now) (a .at + l .i) (λ k. true) (advance (each .before .advanced .result)) r n in
     omega (arith, l .inv .3 noneHeld .told, so-far, each .restore-each .ensures noneHeld .told, here, group some .1, s .pre .1 .1 .1)
 
 add-next-front : tie.Need-add-next-front Inv-loop μ-loop
@@ -138,8 +137,7 @@ loop-again c =
     λ h. rw (each .before .advanced .ensures) at (each .restore-each .ensures h) in
     let part = backed-part (a .image .now) (a .backing) (a .pages) (s .pre .1 .1 .0) (l .i) n (group some .1) in
     let k =
-    rewindTo-kept-as 256 (a .at + l .i) (λ j. true) (backingOn (a .image .now) on) (r noneHeld) (q noneHeld) n (here noneHeld .left) (l .inv .2)
-    (backed-whole _ _ n part) in
+    rewindTo-kept-as (a .image .now) (a .at + l .i) (λ j. true) (advance on) (r noneHeld) (q noneHeld) n (here noneHeld .left) (l .inv .2) (part .there) in
     let next = c .next-front2 .ensures in (
       next .0 .1,
       k .pool ∙ l .inv .1,

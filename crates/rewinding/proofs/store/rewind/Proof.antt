@@ -6,16 +6,16 @@ use native.Mathlib.Omega.{arith}
 use borrow.Author.Needs.{needs}
 use lib.ListN.{length}
 use Rattle.interface.specs.Numbers.{pagesIn}
-use Rattle.table.specs.Store.{Store, kept, frontOf, Ranged, freeTo, rewindTo}
-use Rattle.table.specs.Backing.{backingPage}
+use Rattle.table.specs.Store.{Store, kept, frontOf, Ranged, freeTo}
 use Rattle.table.proofs.FiledLaws.{filed-ranged}
 use Rattle.areas.specs.Formed.{WellFormed}
-use Rattle.content.specs.Content.{copyPage}
+use Rattle.rewind_cases.specs.Rewind.{rewindTo}
+use Rattle.rewind_cases.proofs.RunLaws.{rewindTo-same}
+use Rattle.content.specs.Content.{copyBacking}
 use Rattle.memory.specs.Memory.{keepsFront}
-use Rattle.memory.proofs.MemoryLaws.{rewind-alike}
 use Rattle.restoring.specs.Changed.{changedTo}
 use Rattle.restoring.proofs.ChangedLaws.{changed-few}
-use Rattle.rewinding.proofs.AreaLaws.{keeps, bytes, Left, left-start, left-first, backed-area, area-more, area-last, count-last, area-kept}
+use Rattle.rewinding.proofs.AreaLaws.{keeps, backings, Left, left-start, left-first, backed-area, area-more, area-last, count-last, area-kept}
 use Rattle.rewinding.proofs.FoundLaws.{found-changed}
 use Rattle.rewinding.proofs.store.rewind.Statement.{statement}
 use Rattle.rewinding.proofs.store.rewind.Tie as tie
@@ -24,8 +24,8 @@ abbrev Inv-loop : tie.InvT-loop
 Inv-loop pool₀ table₀ image s present count done₀ k₀ pool table done k =
     (k ≤ present .count) × (length pool ≡ length pool₀) × (length table ≡ length table₀) × Ranged 256 pool table × (done .page .0 ≤ 64)
     × (kept (done .held) pool table
-    ≡ rewindTo 256 (s * 128) (keeps present) (bytes image present) (kept (done₀ .held) pool₀ table₀) (done .page .0))
-    × (done .changed ≡ changedTo 256 (s * 128) (keeps present) (bytes image present) (kept (done₀ .held) pool₀ table₀) (done .page .0))
+    ≡ rewindTo image (s * 128) (keeps present) (backings present) (kept (done₀ .held) pool₀ table₀) (done .page .0))
+    × (done .changed ≡ changedTo image (s * 128) (keeps present) (backings present) (kept (done₀ .held) pool₀ table₀) (done .page .0))
     × Left present k (done .page .0)
 
 abbrev μ-loop : tie.MeasureT-loop
@@ -51,7 +51,7 @@ few-found : (c : tie.At-loop Inv-loop μ-loop) → c .loop .done .changed ≤ c 
 few-found c =
     let a = behind c .args in
     let st : Store = kept (a .held) (a .pool .now) (a .table .now) in
-    let few = changed-few 256 (a .s * 128) (keeps (a .b .present)) (bytes (a .image .now) (a .b .present)) st (c .loop .done .page .0) in
+    let few = changed-few (a .image .now) (a .s * 128) (keeps (a .b .present)) (backings (a .b .present)) st (c .loop .done .page .0) in
     omega (arith, c .loop .inv .6, few)
 
 -- ---- the needs
@@ -146,8 +146,8 @@ returns c =
       last .free-before .ensures
           ∙ ap (λ (x : Store). freeTo 256 (frontOf (a .s) page) x (64 - page)) (l .inv .5)
           ∙ area-last (a .image .now) few (a .b .present) (formed s) (a .s) st (l .k) page (l .inv .7) none (l .inv .4)
-          ∙ rewind-alike 256 (a .s * 128) (keepsFront (a .b)) (bytes (a .image .now) (a .b .present)) (copyPage (a .image .now) (a .b)) st
-          (λ i h. ap (backingPage (a .image .now)) (s .pre .1 .0 .sound .backing i h)) 64,
+          ∙ rewindTo-same (a .image .now) (a .s * 128) (keepsFront (a .b)) (backings (a .b .present)) st (keepsFront (a .b)) (copyBacking (a .b)) 64
+          (λ i l. (refl, s .pre .1 .0 .sound .backing i)),
       l .inv .6
           ∙ count-last (a .image .now) few (a .b .present) (formed s) (a .s) st (l .k) page (l .inv .7) none (l .inv .4)
           ∙ found-changed (a .image .now) (a .b) (s .pre .1 .0) (a .s) st _ (s .pre .1 .1),
