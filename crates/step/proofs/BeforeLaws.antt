@@ -19,7 +19,7 @@ use Rattle.step.specs.Step.{numberAt, sandboxThen, Outcome, step}
 -- the store after an accepted request, with a rewind as it was defined before
 abbrev pub storeBefore : List ℕ → ℕ → Request → Sandbox → Store → Store
 storeBefore image f q b st =
-    rewoundBefore (q .sandbox * 128) (keepsFront (b .rec)) (copyPage image (b .rec)) st 64 when q is Rewind else
+    rewoundBefore 256 (q .sandbox * 128) (keepsFront (b .rec)) (copyPage image (b .rec)) st 64 when q is Rewind else
     storeAfter image f q b st
 
 pub store-before : (image : List ℕ) (f : ℕ) (q : Request) (b : Sandbox) (st : Store) → storeAfter image f q b st ≡ storeBefore image f q b st

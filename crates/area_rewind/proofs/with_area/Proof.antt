@@ -50,7 +50,7 @@ returns c =
 free-before-requires : tie.Need-free-before-requires
 free-before-requires c κs =
     let s = tested (c .before .before .before) in
-    (s .pre .0, (s .pre .1 .0, (omega (arith, s .pre .1 .1 .0), s .pre .1 .1 .1 .1 .0)))
+    (s .pre .0, (omega (arith, s .pre .1 .0, s .pre .1 .1 .0), (omega (arith, s .pre .1 .1 .0), s .pre .1 .1 .1 .1 .0)))
 
 front-index-requires : tie.Need-front-index-requires
 front-index-requires c κs = search needs

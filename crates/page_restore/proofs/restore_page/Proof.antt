@@ -73,15 +73,15 @@ frame-of-requires : tie.Need-frame-of-requires
 frame-of-requires c κs =
     let told = c .before in
     let found = told .before .before in
-    let s = behind found in
-    (meets found Copied (told .enum-told2 .given .1) .1, s .pre .1 .0 .few (s .args .at + 64))
+    let m = meets found Copied (told .enum-told2 .given .1) in
+    (omega (arith, m .0, m .1), behind found .pre .1 .0 .few _)
 
 frame-of-requires-2 : tie.Need-frame-of-requires-2
 frame-of-requires-2 c κs =
     let told = c .before .before in
     let found = told .before .before in
-    let s = behind found in
-    (meets found Copied (told .enum-told2 .given .1) .0, s .pre .1 .0 .few (s .args .at))
+    let m = meets found Copied (told .enum-told2 .given .1) in
+    (omega (arith, m .0, m .1), behind found .pre .1 .0 .few _)
 
 restore-from-requires : tie.Need-restore-from-requires
 restore-from-requires c κs =
@@ -89,9 +89,10 @@ restore-from-requires c κs =
     let found = told .before .before in
     let s = behind found in
     let m = meets found Copied (told .enum-told2 .given .1) in
-    let ranged = s .pre .1 .0 in (
-      omega (arith, c .before .frame-of .ensures, m .1, ranged .room (s .args .at + 64)),
-      omega (arith, c .frame-of2 .ensures, m .0, ranged .room (s .args .at)),
+    let front-room = s .pre .1 .0 .room (s .args .at) in
+    let back-room = s .pre .1 .0 .room (s .args .at + 64) in (
+      omega (arith, c .before .frame-of .ensures, m .0, m .1, front-room, back-room),
+      omega (arith, c .frame-of2 .ensures, m .0, m .1, front-room, back-room),
     )
 
 enum-told-3 : tie.Need-enum-told-3
@@ -151,7 +152,7 @@ returns-2 c =
     let to = copied .before .frame-of2 .ensures in
     let left : Left found (copied .restore-from .last .0) (copied .restore-from .result) =
     λ h. copied-left (a .image .now) (a .at) (a .at + 64) (a .backing) (st found h) _ _ (is found Copied (told .enum-told2 .given .1))
-    (rw (← from, ← to) (copied .restore-from .ensures)) in
+    (rw (from, to) at (copied .restore-from .ensures)) in
     (λ h. left h .0, λ h. left h .1)
 
 same-length-2 : tie.Need-same-length-2
@@ -165,7 +166,7 @@ returns-3 c =
     let a = behind found .args in
     let left : Left found (cleared .restore-zeros .last .0) (cleared .restore-zeros .result) =
     λ h. zeroed-left (a .image .now) (a .at) (a .at + 64) (a .backing) (st found h) _ _ (is found Zeroed (told .enum-told3 .given .1))
-    (rw (← cleared .before .frame-of3 .ensures) (cleared .restore-zeros .ensures)) in
+    (rw (cleared .before .frame-of3 .ensures) at (cleared .restore-zeros .ensures)) in
     (λ h. left h .0, λ h. left h .1)
 
 same-length-3 : tie.Need-same-length-3
@@ -180,7 +181,7 @@ returns-4 c =
     let page = told .page .given in
     let left : Left found (filled .restore-image .last .0) (filled .restore-image .result) =
     λ h. image-left (a .image .now) (a .at) (a .at + 64) (a .backing) (st found h) _ _ (page .0 .0)
-    (is found (ImagePage (page .0 .0)) (page .1)) (rw (← filled .before .frame-of4 .ensures) (filled .restore-image .ensures)) in
+    (is found (ImagePage (page .0 .0)) (page .1)) (rw (filled .before .frame-of4 .ensures) at (filled .restore-image .ensures)) in
     (λ h. left h .0, λ h. left h .1)
 
 pub restore-page-spec : {M : Type 1} → statement M
