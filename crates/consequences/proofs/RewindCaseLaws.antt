@@ -14,8 +14,8 @@ use Rattle.interface.specs.Numbers.{pagesIn}
 use Rattle.interface.specs.Slots.{isCommitted, backingAt}
 use Rattle.table.specs.Store.{Store, entry, contents, overPage, pageFrom, frontOf, backOf, Tidy}
 use Rattle.table.specs.Backing.{backingPage, backingEnd}
-use Rattle.rewind_cases.specs.Cases.{caseOf}
-use Rattle.rewind_cases.specs.Rewind.{frontThen, rewindTo}
+use Rattle.rewind_cases.specs.Rewind.{rewindTo}
+use Rattle.rewind_cases.specs.Cases.{frontThen}
 use Rattle.rewind_cases.proofs.CaseLaws.{one-case}
 use Rattle.rewind_cases.proofs.BeforeLaws.{frontBefore, front-before}
 use Rattle.rewind_cases.proofs.RewindLaws.{rewindTo-in, rewindTo-out}

@@ -9,8 +9,8 @@ use Rattle.interface.specs.Requests.{Rewind}
 use Rattle.interface.specs.Slots.{isCommitted, backingAt}
 use Rattle.table.specs.Store.{entry, contents, frontOf, backOf}
 use Rattle.rewind_cases.specs.declared.RewindCase.{RewindCase}
-use Rattle.rewind_cases.specs.Cases.{caseOf, OneCase}
-use Rattle.rewind_cases.specs.Rewind.{frontThen}
+use Rattle.rewind_cases.specs.Rewind.{caseOf}
+use Rattle.rewind_cases.specs.Cases.{OneCase, frontThen}
 use Rattle.areas.specs.Areas.{slots}
 use Rattle.state.specs.World.{World, recordAt}
 use Rattle.content.specs.Content.{pageRead, copyRead}

@@ -14,8 +14,7 @@ use Rattle.table.proofs.StoreLaws.{contents-none}
 use Rattle.table.proofs.PageLaws.{page-there, fill-some}
 use Rattle.rewind_cases.specs.declared.RewindCase.{RewindCase}
 use Rattle.rewind_cases.specs.declared.RewindCase.the-variants.{Shared, Copied, Zeroed, ImagePage}
-use Rattle.rewind_cases.specs.Cases.{caseOf}
-use Rattle.rewind_cases.specs.Rewind.{restorePage, rewindPage}
+use Rattle.rewind_cases.specs.Rewind.{caseOf, restorePage, rewindPage}
 use Rattle.rewind_cases.proofs.CaseLaws.{met}
 use Rattle.page_restore.specs.Differs.{frontDiffers, pageDiffers}
 

@@ -1,13 +1,12 @@
--- Laws of lists whose bytes are compared: they are the same exactly where the lists are equal, and a list that is cut in two is by its two parts.
-use Prim.Native.Nat.{ℕ, _-_, _≤_}
-use mathlib.Core.Path.{_≡_, refl, sym, ap, ap₂, _∙_}
-use mathlib.Core.Bool.{Bool, true, false, not, _&&_, false≢true}
-use mathlib.Core.List.{List, [], _++_, append-nil}
-use native.Mathlib.Omega.{arith}
-use lib.ListN.{length, getD, take, drop, length-drop, take-append-drop, drop-of-length-le}
-use lib.Seq.{length-take-le, take-at, drop-at, take-all, ext-getD}
-use borrow.Author.Tests.{not-true, not-false}
-use Rattle.basics.proofs.TestLaws.{by-cases, both-ways, and-left, and-right, and-of}
+-- Laws of lists whose bytes are compared: they are the same exactly where the lists are equal.
+use Prim.Native.Nat.{ℕ}
+use mathlib.Core.Path.{_≡_, refl, sym, ap, _∙_}
+use mathlib.Core.Bool.{true, not, false≢true}
+use mathlib.Core.List.{List}
+use lib.ListN.{length, getD}
+use lib.Seq.{ext-getD}
+use borrow.Author.Tests.{not-true}
+use Rattle.basics.proofs.TestLaws.{by-cases}
 use Rattle.basics.proofs.LoopLaws.{alike-at, alike-of}
 use Rattle.pages.specs.Parts.{sameBytes, differs}
 
@@ -20,7 +19,7 @@ unfolding sameBytes
 same-itself n xs = alike-of (λ o. getD xs o 0) (λ o. getD xs o 0) n (λ o l. refl)
 
 -- two lists that are equal
-same-equal : (n : ℕ) (xs ys : List ℕ) → xs ≡ ys → sameBytes n xs ys ≡ true
+pub same-equal : (n : ℕ) (xs ys : List ℕ) → xs ≡ ys → sameBytes n xs ys ≡ true
 same-equal n xs ys e = ap (sameBytes n xs) (sym e) ∙ same-itself n xs
 
 -- differed exactly where the lists are not equal
@@ -30,75 +29,3 @@ differs-told xs ys e = (
   λ d p. false≢true (sym (not-true (sameBytes (length xs) xs ys) d) ∙ same-equal (length xs) xs ys p),
   λ n. by-cases (sameBytes (length xs) xs ys) (λ t. absurd (n (same-lists xs ys e t))) (λ t. ap not t),
 )
-
--- ---- a list xs that is cut in two at h, and restored to ys part by part
-
-module _ (xs ys : List ℕ) (h : ℕ) (whole : length xs ≡ length ys) (fits : h ≤ length ys) where
-  same-first : Bool
-  same-first = sameBytes (length (take h xs)) (take h xs) (take h ys)
-
-  same-rest : Bool
-  same-rest = sameBytes (length (drop h xs)) (drop h xs) (drop h ys)
-
-  pub cut-lengths : length (take h xs) ≡ length (take h ys)
-  cut-lengths = length-take-le h xs (omega arith) ∙ sym (length-take-le h ys fits)
-
-  rest-lengths : length (drop h xs) ≡ length (drop h ys)
-  rest-lengths = length-drop h xs ∙ ap (λ (n : ℕ). n - h) whole ∙ sym (length-drop h ys)
-
-  -- all are the same where those of both parts are
-  same-cut : sameBytes (length xs) xs ys ≡ (same-first && same-rest)
-  unfolding same-first same-rest
-  same-cut =
-      both-ways _ _
-      (λ t. let e = same-lists xs ys whole t in and-of (same-equal _ _ _ (ap (take h) e)) (same-equal _ _ _ (ap (drop h) e)))
-      (λ t.
-      let first : take h xs ≡ take h ys = same-lists (take h xs) (take h ys) cut-lengths (and-left same-first same-rest t) in
-      let rest : drop h xs ≡ drop h ys = same-lists (drop h xs) (drop h ys) rest-lengths (and-right same-first same-rest t) in
-      same-equal (length xs) xs ys (sym (take-append-drop h xs) ∙ ap₂ (λ (a b : List ℕ). a ++ b) first rest ∙ take-append-drop h ys))
-
-  -- the first part has come back as that of ys
-  module _ (first : List ℕ) (begun : first ≡ take h ys) where
-    abbrev half-way : List ℕ
-    half-way = first ++ drop h xs
-
-    length-first : length first ≡ h
-    length-first = ap length begun ∙ length-take-le h ys fits
-
-    -- the second part is still that of xs, and is all that is left
-    still : take (length half-way - h) (drop h half-way) ≡ drop h xs
-    still =
-        let behind : drop h half-way ≡ drop h xs = drop-at first (drop h xs) h length-first in
-        take-all (length half-way - h) (drop h half-way) (omega (arith, length-drop h half-way)) ∙ behind
-
-    rest-of : take (length ys - h) (drop h ys) ≡ drop h ys
-    rest-of = take-all (length ys - h) (drop h ys) (omega (arith, length-drop h ys))
-
-    -- and when it has come back as that of ys too
-    module _ (rest : List ℕ) (done : rest ≡ take (length ys - h) (drop h ys)) where
-      restored : take h half-way ++ (rest ++ drop (length half-way - h) (drop h half-way)) ≡ ys
-      restored =
-          let short : length (drop h half-way) ≤ length half-way - h = omega (arith, length-drop h half-way) in
-          let none : drop (length half-way - h) (drop h half-way) ≡ [] = drop-of-length-le (drop h half-way) short in
-          ap₂ (λ (a b : List ℕ). a ++ b) (take-at first (drop h xs) h length-first ∙ begun)
-          (ap (λ (r : List ℕ). rest ++ r) none ∙ append-nil rest ∙ done ∙ rest-of) ∙ take-append-drop h ys
-
-      -- the first part differed
-      pub first-differed : (r : Bool) → r ≡ differs (length (take h xs)) (take h xs) (take h ys) → r ≡ true
-          → (take h half-way ++ (rest ++ drop (length half-way - h) (drop h half-way)) ≡ ys) × (true ≡ differs (length xs) xs ys)
-      unfolding same-first
-      first-differed r told t =
-          let other : same-first ≡ false = not-true same-first (sym told ∙ t) in
-          (restored, sym (ap not (same-cut ∙ ap (λ (b : Bool). b && same-rest) other)))
-
-      -- it did not, and so the second tells
-      pub rest-tells : (r s : Bool) → r ≡ differs (length (take h xs)) (take h xs) (take h ys) → r ≡ false
-          → s ≡ differs (length (take (length half-way - h) (drop h half-way))) (take (length half-way - h) (drop h half-way))
-          (take (length ys - h) (drop h ys))
-          → (take h half-way ++ (rest ++ drop (length half-way - h) (drop h half-way)) ≡ ys) × (s ≡ differs (length xs) xs ys)
-      unfolding same-first same-rest
-      rest-tells r s told f says =
-          let alike : same-first ≡ true = not-false same-first (sym told ∙ f) in (
-            restored,
-            says ∙ ap₂ (λ (a b : List ℕ). differs (length a) a b) still rest-of ∙ sym (ap not (same-cut ∙ ap (λ (b : Bool). b && same-rest) alike)),
-          )

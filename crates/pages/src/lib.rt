@@ -1,11 +1,12 @@
 // The bytes of one page, which is a lent part of the pool, of the image or of a local array.
-// It promises what each function leaves in the part, byte for byte, and laws (proofs/) of parts and frames for any page length.
+// It promises what each function leaves in the part, byte for byte, and laws (proofs/) of parts and frames for any page length. A part is restored in
+// `part_restore`.
 // It stands on the shared words alone: no function here takes a page number or a frame number.
 ghost use mathlib.Core.Path.{_≡_};
 ghost use Prim.Native.Nat.{_<_};
 ghost use lib.ListN.{length, getD, set};
 ghost use Rattle.interface.specs.Numbers.{PageBytes};
-ghost use Rattle.pages.specs.Parts.{zeros, sameBytes, differs};
+ghost use Rattle.pages.specs.Parts.{zeros, sameBytes};
 
 // "a page has 256 bytes"
 pub struct Page;
@@ -69,46 +70,4 @@ pub fn is_same(part: &[u8], other: &[u8]) -> bool
         same = same & (part[i] == other[i]);
     }
     same
-}
-
-// The bytes of the part become those of `src`, and whether any of them differed is told, in one pass over the part: a quarter of it is compared at a time, and
-// from the first quarter that differs on the bytes are copied. Those before it are the same already.
-pub fn restore(part: &mut [u8], src: &[u8]) -> bool
-    requires { ⌜ length (now part) ≡ length (now src) ⌝ }
-    ensures { λ r. ⌜ now (part .exit) ≡ now (src .entry) ⌝ }
-    ensures differed { λ r. ⌜ r ≡ differs (length (now (part .entry))) (now (part .entry)) (now (src .entry)) ⌝ }
-{
-    let half = src.len() / 2;
-    if restore_half(&mut part[..half], &src[..half]) {
-        fill(&mut part[half..], &src[half..]);
-        return true;
-    }
-    restore_half(&mut part[half..], &src[half..])
-}
-
-// A half of it, by quarters.
-fn restore_half(part: &mut [u8], src: &[u8]) -> bool
-    requires { ⌜ length (now part) ≡ length (now src) ⌝ }
-    ensures { λ r. ⌜ now (part .exit) ≡ now (src .entry) ⌝ }
-    ensures differed { λ r. ⌜ r ≡ differs (length (now (part .entry))) (now (part .entry)) (now (src .entry)) ⌝ }
-{
-    let half = src.len() / 2;
-    if restore_quarter(&mut part[..half], &src[..half]) {
-        fill(&mut part[half..], &src[half..]);
-        return true;
-    }
-    restore_quarter(&mut part[half..], &src[half..])
-}
-
-// A quarter of it: copied only where it differs.
-fn restore_quarter(part: &mut [u8], src: &[u8]) -> bool
-    requires { ⌜ length (now part) ≡ length (now src) ⌝ }
-    ensures { λ r. ⌜ now (part .exit) ≡ now (src .entry) ⌝ }
-    ensures differed { λ r. ⌜ r ≡ differs (length (now (part .entry))) (now (part .entry)) (now (src .entry)) ⌝ }
-{
-    if is_same(part, src) {
-        return false;
-    }
-    fill(part, src);
-    true
 }

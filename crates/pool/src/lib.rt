@@ -1,7 +1,7 @@
 // The lent pool as frames of one page each, named by number: whole frames cleared, filled, loaded, copied and restored.
 // It promises that a function which is given a frame to change leaves the pool it got with "one frame's 256 bytes of the pool"
 // replaced, and no other byte changed.
-// It stands on `pages`, to which the frame's part of the pool is lent on, and on `frames` for the number of a frame.
+// It stands on `pages` and `part_restore`, to which the frame's part of the pool is lent on, and on `frames` for the number of a frame.
 ghost use mathlib.Core.Path.{_≡_};
 ghost use Prim.Native.Nat.{_+_, _*_, _≤_};
 ghost use lib.ListN.{length};
@@ -57,7 +57,7 @@ pub fn restore_frame(pool: &mut [u8], f: FrameNo, src: &[u8]) -> bool
     ensures differed { λ r. ⌜ r ≡ differs PageBytes (frame PageBytes (now (pool .entry)) (f .0)) (now (src .entry)) ⌝ }
 {
     let start = f.0 as usize * Page::SIZE;
-    pages::restore(&mut pool[start..start + Page::SIZE], src)
+    part_restore::restore(&mut pool[start..start + Page::SIZE], src)
 }
 
 // Frame `to` gets the bytes of frame `from`, by way of a page by value, and whether any of them differed is told.

@@ -13,8 +13,8 @@ use Rattle.table.specs.Store.{Store, entry, contents, overPage, pageFrom, free,
 use Rattle.table.specs.Backing.{backingPage}
 use Rattle.table.proofs.StoreLaws.{contents-none, contents-some, fill-none}
 use Rattle.table.proofs.PageLaws.{page-there}
-use Rattle.rewind_cases.specs.Cases.{caseOf}
-use Rattle.rewind_cases.specs.Rewind.{restorePage, frontThen, rewindPage, rewindTo}
+use Rattle.rewind_cases.specs.Rewind.{caseOf, restorePage, rewindPage, rewindTo}
+use Rattle.rewind_cases.specs.Cases.{frontThen}
 
 -- ---- the definition of before, over pages of size bytes
 

@@ -6,7 +6,8 @@ use Rattle.interface.specs.declared.page.Backing.{Backing}
 use Rattle.interface.specs.declared.page.Backing.the-variants.{Anonymous, Image}
 use Rattle.rewind_cases.specs.declared.RewindCase.{RewindCase}
 use Rattle.rewind_cases.specs.declared.RewindCase.the-variants.{Shared, Copied, Zeroed, ImagePage}
-use Rattle.rewind_cases.specs.Cases.{Meets, caseOf, OneCase}
+use Rattle.rewind_cases.specs.Rewind.{caseOf}
+use Rattle.rewind_cases.specs.Cases.{Meets, OneCase}
 
 found : (front back : ℕ) (backing : Backing) → Meets front back backing (caseOf front back backing)
 found zero back backing = refl

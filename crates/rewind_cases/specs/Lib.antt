@@ -1,3 +1,3 @@
 -- In reading order.
-pub mod Cases
 pub mod Rewind
+pub mod Cases

@@ -1,10 +1,10 @@
-// What a rewind makes of a page, told as section 3.2.2 of the REWIND paper tells it: the four cases of a committed page still mapped, and what is done in each.
-// It promises: the case that is found is the definition's (specs/Cases, `caseOf`), which is the only one that the page meets (proofs/CaseLaws); and by its laws
-// (proofs/), the page's front then holds what its case says, every other entry holds what it held, and the store is the one of the definition without cases that
-// there was before (proofs/BeforeLaws).
+// What a rewind makes of a page, as section 3.2.2 of the REWIND paper tells it: the four cases of a committed page still mapped, and what is done in each.
+// It promises: the case that is found is the definition's (specs/Rewind, `caseOf`), which is the only one that the page meets (proofs/CaseLaws); and by its
+// laws (proofs/), the page's front then holds what its case says, every other entry holds what it held, and the store is the one of the definition without
+// cases that there was before (proofs/BeforeLaws).
 // It stands on `table` for the store and its laws, and on `interface` for a page's backing.
 ghost use mathlib.Core.Path.{_≡_};
-ghost use Rattle.rewind_cases.specs.Cases.{caseOf};
+ghost use Rattle.rewind_cases.specs.Rewind.{caseOf};
 use interface::Backing;
 use interface::ImagePageNo;
 

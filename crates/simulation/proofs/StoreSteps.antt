@@ -54,7 +54,8 @@ module _ {C : ℕ → Type 0} (g : Given) (L : Lent g) (q : Request) (st : Store
     (inRow : q .sandbox < 4) (h : Keeps k) (r : Reads g k) (A : AgreesAt g st (q .sandbox) b k) where
   -- what a rewind makes of a front
   rewound-front : (i : ℕ) → i < 64
-      → frontBefore (keepsFront (b .rec) i) (copyPage (g .image) (b .rec) i) (contents 256 st (backOf (q .sandbox) i)) (contents 256 st (frontOf (q .sandbox) i))
+      → frontBefore (keepsFront (b .rec) i) (copyPage (g .image) (b .rec) i) (contents 256 st (backOf (q .sandbox) i))
+      (contents 256 st (frontOf (q .sandbox) i))
       ≡ pageIf (k .traces .front i && isCommitted (k .core .pages .slots i)) (copyBytes (k .core .copy) i)
   rewound-front i l =
       rw (A .backs i l, A .fronts i l, at g L st (q .sandbox) b k h r A i)

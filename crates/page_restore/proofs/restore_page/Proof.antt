@@ -11,7 +11,8 @@ use Rattle.table.specs.Store.{Store, kept}
 use Rattle.table.specs.Backing.{backingEnd}
 use Rattle.rewind_cases.specs.declared.RewindCase.{RewindCase}
 use Rattle.rewind_cases.specs.declared.RewindCase.the-variants.{Shared, Copied, Zeroed, ImagePage}
-use Rattle.rewind_cases.specs.Cases.{Meets, caseOf}
+use Rattle.rewind_cases.specs.Rewind.{caseOf}
+use Rattle.rewind_cases.specs.Cases.{Meets}
 use Rattle.rewind_cases.proofs.CaseLaws.{met}
 use Rattle.page_restore.proofs.CaseLaws.{Restored, shared-left, copied-left, zeroed-left, image-left}
 use Rattle.page_restore.proofs.restore_page.Statement.{statement}
@@ -136,7 +137,8 @@ returns : tie.Need-returns
 returns c =
     let found = c .before .before in
     let a = behind found .args in
-    let left : Left found (a .pool .now) false = λ h. shared-left (a .image .now) (a .at) (a .at + 64) (a .backing) (st found h) (is found Shared (c .enum-told .given .1)) in
+    let left : Left found (a .pool .now) false =
+    λ h. shared-left (a .image .now) (a .at) (a .at + 64) (a .backing) (st found h) (is found Shared (c .enum-told .given .1)) in
     (λ h. left h .0, λ h. left h .1)
 
 same-length : tie.Need-same-length

@@ -103,7 +103,8 @@ loop-again c =
       λ h. let U = l .inv .3 h in record {
         left = rewind-more image (a .at) (λ k. true) (advance (a .backing)) _ (l .i) (r h) (q h) (U .left) (e h);
         told = rw (c .counted .ensures)
-            (changed-more image (a .at) (λ k. true) (advance (a .backing)) _ (l .i) (r h) (l .changed) (page .restore-page .result) refl (U .left) (U .told) (d h));
+            (changed-more image (a .at) (λ k. true) (advance (a .backing)) _ (l .i) (r h) (l .changed) (page .restore-page .result)
+            refl (U .left) (U .told) (d h));
       },
     )
 

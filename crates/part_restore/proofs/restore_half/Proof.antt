@@ -5,9 +5,9 @@ use native.Mathlib.Omega.{arith}
 use borrow.Author.Needs.{needs}
 use lib.ListN.{length}
 use lib.Seq.{length-take-le}
-use Rattle.pages.proofs.SameLaws.{cut-lengths, first-differed, rest-tells}
-use Rattle.pages.proofs.restore_half.Statement.{statement}
-use Rattle.pages.proofs.restore_half.Tie as tie
+use Rattle.part_restore.proofs.CutLaws.{cut-lengths, first-differed, rest-tells}
+use Rattle.part_restore.proofs.restore_half.Statement.{statement}
+use Rattle.part_restore.proofs.restore_half.Tie as tie
 
 -- the way back from where a fact is needed to where it was learned
 abbrev at-start : tie.After-restore-quarter-arg2 → tie.Start

@@ -2,9 +2,9 @@
 use mathlib.Core.Path.{sym, ap, _∙_}
 use mathlib.Core.Bool.{not}
 use borrow.Author.Needs.{needs}
 use Rattle.pages.proofs.SameLaws.{same-lists}
-use Rattle.pages.proofs.restore_quarter.Statement.{statement}
-use Rattle.pages.proofs.restore_quarter.Tie as tie
+use Rattle.part_restore.proofs.restore_quarter.Statement.{statement}
+use Rattle.part_restore.proofs.restore_quarter.Tie as tie
 
 -- the way back from where a fact is needed to where it was learned
 abbrev at-start : tie.After-is-same → tie.Start
