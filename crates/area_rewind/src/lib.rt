@@ -2,7 +2,8 @@
 // It promises: the store after a committed area is the one that specs/AreaRewound defines of it (`areaRewound`), after any other the one there was; the next
 // page to be rewound and the pages that were found changed (`areaChanged`) are told with it; the pages before one give up their fronts as table/specs/Store
 // says it (`freeTo`).
-// It stands on `restoring` for the fronts that stay and on `freeing` for the others, on `areas` for the area, and on `table` for entries and the store.
+// It stands on `restoring` for the fronts that stay and on `freeing` for the others, on `rewind_cases` for the definition, on `areas` for the area, and on
+// `table` for entries and the store.
 ghost use mathlib.Core.Path.{_≡_};
 ghost use Prim.Native.Nat.{_+_, _-_, _≤_, _<_};
 ghost use Rattle.interface.specs.Numbers.{PageBytes, PageCount, Sandboxes};

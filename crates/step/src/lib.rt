@@ -1,6 +1,7 @@
 // The step of the machine: what a request answers and leaves, given the frame that a write takes and the one that it gives up. Definitions and laws,
 // and the types of a reply and of what a call on one sandbox leaves.
-// It promises: a refused call answers its row's number and leaves the world; what a sound state gives to the parts of an accepted call (proofs/CallLaws).
+// It promises: a refused call answers its row's number and leaves the world; what a sound state gives to the parts of an accepted call (proofs/CallLaws);
+// and the step is the one with a rewind without cases, as it was defined before (proofs/BeforeLaws).
 // It stands on `soundness` for row 3, on `rules` for what becomes of a sandbox's record, and on `memory` for what becomes of the lent memory.
 use frames::Held;
 use interface::Answer;
