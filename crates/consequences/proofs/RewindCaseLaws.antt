@@ -1,23 +1,22 @@
 -- What an accepted rewind makes of each committed page still mapped: by the step, and by the laws of the cases.
-use mathlib.Core.Path.{_≡_, refl, sym, ap, ap₂, _∙_}
-use mathlib.Core.Logic.{inl, inr}
-use mathlib.Core.Bool.{Bool, true, false}
+use mathlib.Core.Path.{_≡_, refl, sym, ap, _∙_}
+use mathlib.Core.Logic.{inr}
+use mathlib.Core.Bool.{true}
 use mathlib.Core.Option.{Option, none, some}
 use mathlib.Core.List.{List}
-use Prim.Native.Nat.{ℕ, _+_, _*_, _≤_, _<_}
+use Prim.Native.Nat.{ℕ, _*_, _≤_, _<_}
 use native.Mathlib.Omega.{arith}
 use lib.ListN.{length}
 use Rattle.interface.specs.declared.request.Request.{Request}
-use Rattle.interface.specs.declared.page.Backing.{Backing}
 use Rattle.interface.specs.Requests.{_is_, Rewind}
 use Rattle.interface.specs.Numbers.{pagesIn}
-use Rattle.interface.specs.Slots.{isCommitted, backingAt}
-use Rattle.table.specs.Store.{Store, entry, contents, overPage, pageFrom, frontOf, backOf, Tidy}
-use Rattle.table.specs.Backing.{backingPage, backingEnd}
+use Rattle.interface.specs.Slots.{isCommitted}
+use Rattle.table.specs.Store.{Store, contents, overPage, pageFrom, frontOf, backOf, Tidy}
+use Rattle.table.specs.Backing.{backingEnd}
 use Rattle.rewind_cases.specs.Rewind.{rewindTo}
 use Rattle.rewind_cases.specs.Cases.{frontThen}
 use Rattle.rewind_cases.proofs.CaseLaws.{one-case}
-use Rattle.rewind_cases.proofs.BeforeLaws.{frontBefore, front-before}
+use Rattle.rewind_cases.proofs.BeforeLaws.{front-before}
 use Rattle.rewind_cases.proofs.RewindLaws.{rewindTo-in, rewindTo-out}
 use Rattle.rewind_cases.proofs.LeftLaws.{rewindTo-entry, rewindTo-kept-entry}
 use Rattle.areas.specs.Areas.{slots}
@@ -26,11 +25,11 @@ use Rattle.records.specs.Sound.{SoundRecord}
 use Rattle.state.specs.declared.sandbox.Sandbox.{Sandbox}
 use Rattle.state.specs.World.{World, recordAt, framesOf}
 use Rattle.soundness.proofs.TestLaws.{Tested, tested}
-use Rattle.rules.specs.After.{packedAfter, recordAfter}
+use Rattle.rules.specs.After.{packedAfter}
 use Rattle.content.specs.Content.{pageUnder, pageRead, copyBacking, copyPage, copyRead}
 use Rattle.content.proofs.ReadingLaws.{backing-there}
 use Rattle.memory.specs.Memory.{keepsFront, storeAfter}
-use Rattle.step.specs.Step.{Outcome, Stepped, numberAt}
+use Rattle.step.specs.Step.{Outcome, Stepped}
 use Rattle.simulation.proofs.StepLaws.{was-sound, number-is}
 use Rattle.claims.proofs.TouchRuns.{low, store-is, here}
 use Rattle.consequences.specs.RewindCases.{frontEntry, backEntry, pageBacking, caseAt, PageRewound, RewindsByCases}

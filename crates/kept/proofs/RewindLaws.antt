@@ -1,19 +1,16 @@
 -- A rewind makes runs of the fronts of uncommitted anonymous areas: which frames these gain; and their lengths are the plain machine's.
 use mathlib.Core.Path.{_≡_, refl, sym, ap, _∙_}
 use mathlib.Core.Logic.{_⊎_, inl, inr, ⊎-elim}
-use mathlib.Core.Bool.{Bool, true, false, not, _&&_}
-use mathlib.Core.Option.{none}
-use mathlib.Core.List.{List}
-use Prim.Native.Nat.{ℕ, zero, suc, _+_, _-_, _*_, _≤_, _<_}
+use mathlib.Core.Bool.{Bool, true, not, _&&_}
+use Prim.Native.Nat.{ℕ, suc, _+_, _-_, _≤_, _<_}
 use native.Mathlib.Omega.{arith}
 use lib.Dec.{eqb}
-use lib.ListN.{length, getD, set}
+use lib.ListN.{getD, set}
 use lib.Seq.{getD-set-other}
 use borrow.Author.Tests.{eqb-true, eqb-false, not-true}
 use Rattle.basics.specs.Ranges.{one, count}
-use Rattle.basics.specs.Rows.{inPlace}
 use Rattle.basics.proofs.TestLaws.{by-cases, when-cases, and-left, and-right}
-use Rattle.basics.proofs.CountLaws.{count-sum, count-zero, count-once}
+use Rattle.basics.proofs.CountLaws.{count-sum}
 use Rattle.basics.proofs.RowLaws.{walked-sum, walked-same}
 use Rattle.interface.specs.Slots.{Slots, startsArea}
 use Rattle.run_choice.specs.Runs.{runPlaces, isSpared, runsRewound}
@@ -23,7 +20,7 @@ use Rattle.frames.proofs.FrameLaws.{held-lt, held-or, held-zero, held-mark-othe
 use Rattle.marks.proofs.NamedLaws.{same-or, by-entry}
 use Rattle.table.specs.Store.{Store, entry, frontOf, Filed, put, free}
 use Rattle.table.proofs.FreeLaws.{getD-clear}
-use Rattle.kept.specs.Spare.{Row, Rows, lengths, keptIn, Spare, spares, gather, rowRewound}
+use Rattle.kept.specs.Spare.{Row, lengths, keptIn, spares, gather, rowRewound}
 
 -- ---- an entry that gives up its page: each stays or is cleared
 

@@ -62,7 +62,7 @@ module _ (n : ℕ) (st : Store) (F : Filed 256 n st) (s : ℕ) (f : Slots) (imag
   gone i l e = none-entry 256 after (frontOf s i) (rewindTo-in n image (s * 128) keep backing fit st any 64 i (omega arith) l ∙ rw (gives i e))
 
   -- a frame is named afterwards, or goes to a run, or neither, where it was named before
-  pub moved : (g : ℕ) → g < 128 → held (after .marks) g + count (going g) 64 ≤ held (st .marks) g
+  moved : (g : ℕ) → g < 128 → held (after .marks) g + count (going g) 64 ≤ held (st .marks) g
   moved g l = ⊎-elim idle still (held-or (after .marks) g)
     where
       idle : held (after .marks) g ≡ 0 → held (after .marks) g + count (going g) 64 ≤ held (st .marks) g

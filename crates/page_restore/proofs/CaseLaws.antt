@@ -6,7 +6,6 @@ use Prim.Native.Nat.{ℕ, zero, suc, _-_, _<_}
 use native.Mathlib.Omega.{arith}
 use Rattle.interface.specs.declared.page.Backing.{Backing}
 use Rattle.interface.specs.declared.page.ImagePageNo.{ImagePageNo}
-use Rattle.frames.specs.declared.Held.{Held}
 use Rattle.pages.specs.Parts.{frame, setFrame, zeros, differs}
 use Rattle.table.specs.Store.{Store, kept, entry, pageIn, contents, pageFrom, fill}
 use Rattle.table.specs.Backing.{backingPage}

@@ -1,5 +1,5 @@
 -- How many pages are found changed: page by page, run by run, and of a store in which no frame is named twice all at once.
-use mathlib.Core.Path.{_≡_, refl, _∙_}
+use mathlib.Core.Path.{_≡_, refl}
 use mathlib.Core.Logic.{inr}
 use mathlib.Core.Bool.{Bool, true, false, _&&_}
 use mathlib.Core.List.{List}

@@ -4,7 +4,7 @@
 // It stands on `page_restore` for one page, on `rewind_cases` for the definition and its laws, on `table` for entries and the store, and on `slots` and
 // `interface` for a page's backing.
 ghost use mathlib.Core.Path.{_≡_};
-ghost use Prim.Native.Nat.{ℕ, _+_, _*_, _≤_, _<_};
+ghost use Prim.Native.Nat.{ℕ, _+_, _≤_, _<_};
 ghost use lib.Dec.{ltb};
 ghost use lib.ListN.{length, getD};
 ghost use Rattle.basics.specs.Choice.{_when_else_};

@@ -1,12 +1,11 @@
 -- The pages that a rewind finds changed are the committed ones that read something else than in the snapshot.
-use Prim.Native.Nat.{ℕ, _+_, _*_, _≤_}
+use Prim.Native.Nat.{ℕ, _*_, _≤_}
 use mathlib.Core.Path.{_≡_, refl, sym, ap, _∙_}
-use mathlib.Core.Bool.{Bool, true, false, not, _&&_}
+use mathlib.Core.Bool.{true, not}
 use mathlib.Core.Option.{Option, none, some}
 use mathlib.Core.List.{List}
 use native.Mathlib.Omega.{arith}
 use lib.ListN.{length}
-use Rattle.basics.specs.Ranges.{count}
 use Rattle.basics.proofs.TestLaws.{by-cases}
 use Rattle.basics.proofs.CountLaws.{count-equal}
 use Rattle.interface.specs.Numbers.{pagesIn}
@@ -14,7 +13,7 @@ use Rattle.interface.specs.Slots.{isCommitted}
 use Rattle.comparison.specs.Compare.{changedPages}
 use Rattle.pages.specs.Parts.{sameBytes}
 use Rattle.pages.proofs.SameLaws.{same-itself}
-use Rattle.table.specs.Store.{Store, contents, pageFrom, underFront, Filed, Tidy, frontOf, backOf}
+use Rattle.table.specs.Store.{Store, contents, pageFrom, Filed, Tidy, frontOf, backOf}
 use Rattle.table.specs.Backing.{backingPage, backingEnd}
 use Rattle.areas.specs.Areas.{slots}
 use Rattle.records.specs.declared.Record.{Record}
