@@ -235,5 +235,5 @@ fn the_example_rolls() {
         }
         rolls += 1;
     }
-    assert!(rolls >= 16 && calls > 100, "only {calls} calls of {rolls} rolls");
+    assert!(rolls >= 27 && calls > 1_000, "only {calls} calls of {rolls} rolls");
 }

@@ -58,7 +58,7 @@ fn the_example_rolls() {
             names.push(roll);
         }
     }
-    assert!(names.len() >= 19, "only {} examples: {names:?}", names.len());
+    assert!(names.len() >= 29, "only {} examples: {names:?}", names.len());
 }
 
 #[test]

@@ -259,11 +259,40 @@ pub enum Fault {
     PutBackStopsAtDifference,
     /// Pages are compared and copied back as far as the first that differs: those behind it stay.
     PutBackStopsAtPage,
+
+    // Slips near MACHINE 4.29: the four cases of a rewind. The image page cleared to zero is
+    // `ZeroUnderRewoundImagePage`, above.
+    /// An anonymous page with front and back is cleared to zero: the third case is looked for
+    /// before the second.
+    CaseZeroedBeforeCopied,
+    /// An image page with front and back gets the image's bytes, and not its back's: the fourth
+    /// case is looked for before the second.
+    CaseImageBeforeCopied,
+    /// A page with a back and no front gets a front, with the back's bytes.
+    CaseSharedGetsFront,
+    /// A page with front and back loses its front and reads its back: the paper's "intuitive
+    /// approach".
+    CaseCopiedFreesFront,
+    /// An anonymous page with a front alone loses it, and reads zeros.
+    CaseZeroedFreesFront,
+    /// An image page with a front alone loses it, and reads its image page.
+    CaseImageFreesFront,
+    /// An anonymous page with a front alone gets the bytes of image page 0, where there is one.
+    CaseZeroedFromImage,
+    /// A page with front and back keeps the bytes that the request wrote.
+    CaseCopiedLeft,
+    /// An anonymous page with a front alone keeps them.
+    CaseZeroedLeft,
+    /// An image page with a front alone keeps them.
+    CaseImageLeft,
+    /// A page with front and back is copied the wrong way round: its back gets the front's bytes,
+    /// and the snapshot has changed for good.
+    CaseFrontBecomesBack,
 }
 
 impl Fault {
     /// Every fault, without `None`.
-    pub const ALL: [Fault; 117] = [
+    pub const ALL: [Fault; 128] = [
         Fault::HandsOutRewoundPlace,
         Fault::SearchesPastRewoundPlace,
         Fault::DropsSnapshotFrame,
@@ -381,6 +410,17 @@ impl Fault {
         Fault::PutBackForgetsImage,
         Fault::PutBackStopsAtDifference,
         Fault::PutBackStopsAtPage,
+        Fault::CaseZeroedBeforeCopied,
+        Fault::CaseImageBeforeCopied,
+        Fault::CaseSharedGetsFront,
+        Fault::CaseCopiedFreesFront,
+        Fault::CaseZeroedFreesFront,
+        Fault::CaseImageFreesFront,
+        Fault::CaseZeroedFromImage,
+        Fault::CaseCopiedLeft,
+        Fault::CaseZeroedLeft,
+        Fault::CaseImageLeft,
+        Fault::CaseFrontBecomesBack,
     ];
 
     /// Whether it is a slip near kept runs. A roll that tells one maps and writes several areas

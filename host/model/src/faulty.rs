@@ -4,6 +4,7 @@
 //! spoils the sandbox or the answer.
 
 use crate::fault::Fault;
+use crate::faulty_cases::spoil_cases;
 use crate::faulty_compare::{free_agreeing_fronts, wrong_difference};
 use crate::faulty_count::Found;
 use crate::faulty_gaps::{accept_unmapped, wrong_unmap};
@@ -232,9 +233,11 @@ impl Faulty {
             (_, 8) => {
                 memory.rewinds += 1;
                 memory.rewound = lowest_new_area(&before);
-                spoil_rewind(self.fault, memory.rewinds, Arc::make_mut(sandbox), &before);
                 let image = image.as_deref().unwrap_or(&[]);
-                let pages = &mut Arc::make_mut(sandbox).pages;
+                let rewound = Arc::make_mut(sandbox);
+                spoil_rewind(self.fault, memory.rewinds, rewound, &before);
+                spoil_cases(self.fault, &before, image, rewound);
+                let pages = &mut rewound.pages;
                 let counted = miscount(self.fault, &before, image, memory.written, pages);
                 let others = match self.fault {
                     // The named one is rewound by now, and adds nothing.

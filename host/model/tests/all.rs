@@ -15,4 +15,5 @@ mod plausible_and_wrong;
 mod player;
 mod put_back;
 mod refusals;
+mod rewind_cases;
 mod still_clean;

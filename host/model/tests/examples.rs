@@ -15,7 +15,7 @@ fn example_rolls() -> Vec<PathBuf> {
 #[test]
 fn the_model_answers_as_the_examples_say() {
     let rolls = example_rolls();
-    assert!(rolls.len() >= 24, "only {} examples", rolls.len());
+    assert!(rolls.len() >= 29, "only {} examples", rolls.len());
     for roll in rolls {
         let image = fs::read(roll.with_extension("image")).ok();
         let played = play(&fs::read(&roll).expect("the roll"), image.as_deref(), 128);
@@ -71,6 +71,22 @@ fn put_back_tells_every_slip_of_counting_pages() {
     let slips = place(Fault::PutBackAnswersZero)..=place(Fault::PutBackStopsAtPage);
     for &fault in &Fault::ALL[slips] {
         assert!(telling_line("put-back", fault).is_some(), "{fault:?}");
+    }
+}
+
+/// The example of the request tells every wrong machine near it.
+#[test]
+fn rewind_cases_tells_every_slip_of_the_four_cases() {
+    let place = |wanted| Fault::ALL.iter().position(|&fault| fault == wanted).expect("a fault");
+    let slips = place(Fault::CaseZeroedBeforeCopied)..=place(Fault::CaseFrontBecomesBack);
+    let others = [
+        Fault::ZeroUnderRewoundImagePage,
+        Fault::RewindLeavesPagesDirty,
+        Fault::RewindKeepsAllFronts,
+        Fault::RewindFreesAllFronts,
+    ];
+    for fault in Fault::ALL[slips].iter().copied().chain(others) {
+        assert!(telling_line("rewind-cases", fault).is_some(), "{fault:?}");
     }
 }
 

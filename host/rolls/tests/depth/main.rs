@@ -4,6 +4,7 @@ mod archive;
 mod compare;
 mod gaps;
 mod put_back;
+mod rewind_cases;
 mod runs;
 
 use model::{parse_line, Answering, Backing, Call, Machine, Sandbox, CODES, LINE_BYTES, SANDBOXES};
