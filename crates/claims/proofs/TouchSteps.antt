@@ -27,7 +27,7 @@ use Rattle.table.proofs.StoreLaws.{contents-none, page-whole}
 use Rattle.table.proofs.TouchLaws.{under-whole}
 use Rattle.table.proofs.LeftLaws.{byte-entry, take-other-entry, freeTo-entry, moveTo-entry, moveTo-pool}
 use Rattle.table.proofs.LeftLaws.{Left, left-same, freeTo-left, byte-left, byte-alone, byte-taken, byte-taken-left}
-use Rattle.rewind_cases.proofs.LeftLaws.{rewindTo-entry, rewindTo-left}
+use Rattle.rewound_store.proofs.LeftLaws.{rewindTo-entry, rewindTo-left}
 use Rattle.runs.specs.Row.{lengthsOf}
 use Rattle.kept.specs.Spare.{grantTo}
 use Rattle.kept.proofs.AdoptLaws.{adopted}

@@ -17,8 +17,8 @@ use Rattle.rewind_cases.specs.Rewind.{rewindTo}
 use Rattle.rewind_cases.specs.Cases.{frontThen}
 use Rattle.rewind_cases.proofs.CaseLaws.{one-case}
 use Rattle.rewind_cases.proofs.BeforeLaws.{front-before}
-use Rattle.rewind_cases.proofs.RewindLaws.{rewindTo-in, rewindTo-out}
-use Rattle.rewind_cases.proofs.LeftLaws.{rewindTo-entry, rewindTo-kept-entry}
+use Rattle.rewound_store.proofs.RewindLaws.{rewindTo-in, rewindTo-out}
+use Rattle.rewound_store.proofs.LeftLaws.{rewindTo-entry, rewindTo-kept-entry}
 use Rattle.areas.specs.Areas.{slots}
 use Rattle.records.specs.declared.Record.{Record}
 use Rattle.records.specs.Sound.{SoundRecord}

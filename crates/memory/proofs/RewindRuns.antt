@@ -19,8 +19,8 @@ use Rattle.table.specs.Store.{Store, entry, frontOf, Filed, Tidy}
 use Rattle.table.specs.Backing.{backingEnd}
 use Rattle.table.proofs.StoreLaws.{none-entry}
 use Rattle.rewind_cases.specs.Rewind.{rewindPage, rewindTo}
-use Rattle.rewind_cases.proofs.RewindLaws.{rewindTo-tidy, rewindTo-in}
-use Rattle.rewind_cases.proofs.LeftLaws.{kept-entry}
+use Rattle.rewound_store.proofs.RewindLaws.{rewindTo-tidy, rewindTo-in}
+use Rattle.rewound_store.proofs.LeftLaws.{kept-entry}
 use Rattle.kept.specs.Spare.{Rows, Spare, rowRewound}
 use Rattle.kept.proofs.SpareLaws.{kept-row, spare-step}
 use Rattle.kept.proofs.RewindLaws.{free-entry, goes, named, spared, runs-gain}

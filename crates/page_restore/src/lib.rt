@@ -1,8 +1,8 @@
 // A committed page still mapped, restored at a rewind: its case is found, and what section 3.2.2 of the REWIND paper says of that case is done.
 // It promises: what is left is the store that rewind_cases/specs/Rewind defines of it (`rewindPage`, its front kept), whatever marks there are, and it tells
 // "whether any byte differed" (specs/Differs, `pageDiffers`).
-// It stands on `rewind_cases` for the cases and the definition, on `table` for entries and the store, on `pool` and `pages` for the bytes of a frame, and on
-// `interface` for a page's backing.
+// It stands on `page_case` and `rewind_cases` for the cases and the definition, on `table` for entries and the store, on `pool` and `pages` for the bytes of a
+// frame, and on `interface` for a page's backing.
 ghost use mathlib.Core.Path.{_≡_};
 ghost use mathlib.Core.Bool.{true};
 ghost use Prim.Native.Nat.{_+_, _*_, _≤_, _<_};
@@ -18,9 +18,9 @@ use frames::FrameNo;
 use interface::Backing;
 use interface::ImagePageNo;
 use interface::PageNo;
+use page_case::case_of;
 use pages::Page;
 use rewind_cases::RewindCase;
-use rewind_cases::case_of;
 use table::entry::frame_of;
 
 // The page with its front entry at a place of the table, and with this backing, is restored by its case, in the paper's order, and whether any byte differed

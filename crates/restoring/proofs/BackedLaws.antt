@@ -9,7 +9,7 @@ use Rattle.interface.specs.declared.page.Backing.the-variants.{Anonymous, Image
 use Rattle.interface.specs.Slots.{advance, startOf}
 use Rattle.table.specs.Store.{Store, entry}
 use Rattle.rewind_cases.specs.Rewind.{rewindTo}
-use Rattle.rewind_cases.proofs.RunLaws.{rewindTo-join, rewindTo-same, rewindTo-none}
+use Rattle.rewound_store.proofs.RunLaws.{rewindTo-join, rewindTo-same, rewindTo-none}
 use Rattle.restoring.specs.Backed.{Backed}
 use Rattle.restoring.specs.Changed.{changedTo}
 use Rattle.restoring.specs.Restored.{RestoredTo}

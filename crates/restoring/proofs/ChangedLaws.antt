@@ -14,8 +14,8 @@ use Rattle.interface.specs.declared.page.Backing.{Backing}
 use Rattle.table.specs.Store.{Store, entry, Tidy}
 use Rattle.table.specs.Backing.{backingPage, backingEnd}
 use Rattle.rewind_cases.specs.Rewind.{rewindTo}
-use Rattle.rewind_cases.proofs.RewindLaws.{rewindTo-out}
-use Rattle.rewind_cases.proofs.RunLaws.{rewindTo-join, rewindTo-same, rewindTo-none}
+use Rattle.rewound_store.proofs.RewindLaws.{rewindTo-out}
+use Rattle.rewound_store.proofs.RunLaws.{rewindTo-join, rewindTo-same, rewindTo-none}
 use Rattle.page_restore.specs.Differs.{pageDiffers}
 use Rattle.page_restore.proofs.CaseLaws.{none-differs}
 use Rattle.restoring.specs.Changed.{changedTo}

@@ -16,7 +16,7 @@ use Rattle.interface.specs.Slots.{isCommitted, backingAt, advance}
 use Rattle.table.specs.Store.{Store, frontOf, Ranged, freeTo}
 use Rattle.table.proofs.FreeLaws.{Kept, unchanged-kept, kept-twice, freeTo-kept}
 use Rattle.rewind_cases.specs.Rewind.{rewindTo}
-use Rattle.rewind_cases.proofs.RunLaws.{rewindTo-kept, rewindTo-join, rewindTo-same, rewindTo-free}
+use Rattle.rewound_store.proofs.RunLaws.{rewindTo-kept, rewindTo-join, rewindTo-same, rewindTo-free}
 use Rattle.areas.specs.declared.area.Area.{Area}
 use Rattle.areas.specs.declared.area.Areas.{Areas}
 use Rattle.areas.specs.Areas.{none, slots, slotOf}

@@ -30,7 +30,7 @@ use Rattle.table.proofs.StoreLaws.{take-tidy, take-same, take-other, storeByte-
 use Rattle.table.proofs.FreeLaws.{freeTo-tidy, freeTo-in, freeTo-out}
 use Rattle.table.proofs.MoveLaws.{Moved, moved}
 use Rattle.rewind_cases.proofs.BeforeLaws.{frontBefore}
-use Rattle.rewind_cases.proofs.RewindLaws.{rewindTo-tidy, rewindTo-in, rewindTo-out}
+use Rattle.rewound_store.proofs.RewindLaws.{rewindTo-tidy, rewindTo-in, rewindTo-out}
 use Rattle.state.specs.declared.sandbox.Sandbox.{Sandbox}
 use Rattle.runs.specs.Row.{row}
 use Rattle.kept.specs.Spare.{Rows, Spare}

@@ -2,24 +2,30 @@
 use Prim.Native.Nat.{ℕ, _+_, _-_}
 use mathlib.Core.Path.{_≡_, ap, _∙_}
 use mathlib.Core.Bool.{Bool, true, false}
+use mathlib.Core.List.{List}
 use native.Mathlib.Omega.{arith}
 use borrow.Author.Needs.{needs}
 use borrow.Author.Tests.{not-true, not-false}
 use Rattle.basics.specs.Choice.{_when_else_}
-use Rattle.interface.specs.declared.page.Backing.{Backing}
 use Rattle.interface.specs.Slots.{advance}
 use Rattle.table.specs.Store.{Store, kept, frontOf}
 use Rattle.table.proofs.FreeLaws.{freeTo-kept-as}
-use Rattle.rewind_cases.specs.Rewind.{rewindTo}
-use Rattle.restoring.specs.Changed.{changedTo}
+use Rattle.areas.specs.declared.area.Area.{Area}
+use Rattle.restoring.specs.Restored.{RestoredTo}
 use Rattle.restoring.proofs.ChangedLaws.{changed-few}
-use Rattle.area_rewind.specs.AreaRewound.{areaRewound, areaChanged}
+use Rattle.area_rewind.specs.AreaRewound.{freedBefore, areaRewound, areaChanged}
 use Rattle.area_rewind.proofs.with_area.Statement.{statement}
 use Rattle.area_rewind.proofs.with_area.Tie as tie
 
 -- of two the one that a test which holds chooses
 chosen : {A : Type 0} (x y : A) (c : Bool) → c ≡ true → x ≡ (x when c else y)
 chosen x y c e = rw e
+
+-- what is made of an area: where its fronts stand, and what is left of those before it, are as the definition says
+area-made : (image : List ℕ) (s : ℕ) (area : Area) (page : ℕ) (st mid after : Store) (n at before : ℕ) → at ≡ frontOf s (area .first .0)
+    → mid ≡ freedBefore s area page st → RestoredTo image (area .backing) at mid after n (area .pages)
+    → (after ≡ areaRewound image s area page st) × (before + n ≡ before + areaChanged image s area page st)
+area-made image s area page st mid after n at before is-at is-mid R = (R .left ∙ rw (is-at, is-mid), ap (λ (k : ℕ). before + k) (R .told ∙ rw (is-at, is-mid)))
 
 -- ---- what is known behind the test and the fronts that were given up
 
@@ -92,23 +98,11 @@ returns-2 c =
     let a = behind at .args in
     let area = a .area in
     let e : area .committed ≡ true = not-false _ (freed (placed at) .if1 .left) in
-    let image = a .image .now in
-    let backing : ℕ → Backing = advance (area .backing) in
     let f = placed at .free-before in
-    let told = restored .restore-pages .ensures (f .result) in
-    let whole : kept (f .result) (restored .restore-pages .last .0) (f .last .1 .1 .0)
-    ≡ areaRewound (a .image .now) (a .s) area (a .done .page .0) (kept (a .done .held) (a .pool .now) (a .table .now)) =
-    told .left
-    ∙ ap (λ (k : ℕ). rewindTo image k (λ i. true) backing (between at) (area .pages)) (at .front-index .ensures)
-    ∙ ap (λ (x : Store). rewindTo image (frontOf (a .s) (area .first .0)) (λ i. true) backing x (area .pages)) (f .ensures) in
-    let counted : restored .restore-pages .result
-    ≡ areaChanged (a .image .now) (a .s) area (a .done .page .0) (kept (a .done .held) (a .pool .now) (a .table .now)) =
-    told .told
-    ∙ ap (λ (k : ℕ). changedTo image k (λ i. true) backing (between at) (area .pages)) (at .front-index .ensures)
-    ∙ ap (λ (x : Store). changedTo image (frontOf (a .s) (area .first .0)) (λ i. true) backing x (area .pages)) (f .ensures) in (
-      whole ∙ chosen _ _ (area .committed) e,
-      (chosen _ _ (area .committed) e, ap (λ (n : ℕ). a .done .changed + n) counted ∙ chosen _ _ (area .committed) e),
-    )
+    let st : Store = kept (a .done .held) (a .pool .now) (a .table .now) in
+    let made = area-made (a .image .now) (a .s) area (a .done .page .0) st (between at) _ _ (at .front-index .result) (a .done .changed)
+    (at .front-index .ensures) (f .ensures) (restored .restore-pages .ensures (f .result)) in
+    (made .0 ∙ chosen _ _ (area .committed) e, (chosen _ _ (area .committed) e, made .1 ∙ chosen _ _ (area .committed) e))
 
 pub with-area-spec : {M : Type 1} → statement M
 with-area-spec =

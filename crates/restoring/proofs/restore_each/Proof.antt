@@ -12,7 +12,7 @@ use Rattle.interface.specs.Slots.{advance}
 use Rattle.table.specs.Store.{Store, kept, Ranged}
 use Rattle.table.specs.Backing.{backingPage}
 use Rattle.rewind_cases.specs.Rewind.{rewindPage}
-use Rattle.rewind_cases.proofs.RunLaws.{rewind-kept-as, rewind-more}
+use Rattle.rewound_store.proofs.RunLaws.{rewind-kept-as, rewind-more}
 use Rattle.page_restore.specs.Differs.{pageDiffers}
 use Rattle.restoring.specs.Restored.{RestoredTo}
 use Rattle.restoring.proofs.BackedLaws.{none-restored}

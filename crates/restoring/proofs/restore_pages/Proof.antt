@@ -14,7 +14,7 @@ use Rattle.interface.specs.Slots.{advance}
 use Rattle.frames.specs.declared.Held.{Held}
 use Rattle.frames.specs.Frames.{noneHeld}
 use Rattle.table.specs.Store.{Store, kept, Ranged}
-use Rattle.rewind_cases.proofs.RunLaws.{rewindTo-kept-as}
+use Rattle.rewound_store.proofs.RunLaws.{rewindTo-kept-as}
 use Rattle.restoring.specs.Restored.{RestoredTo}
 use Rattle.restoring.proofs.ChangedLaws.{changed-few}
 use Rattle.restoring.proofs.BackedLaws.{backed-part, none-restored, restored-on, restored-past}

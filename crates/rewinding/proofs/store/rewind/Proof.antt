@@ -10,7 +10,7 @@ use Rattle.table.specs.Store.{Store, kept, frontOf, Ranged, freeTo}
 use Rattle.table.proofs.FiledLaws.{filed-ranged}
 use Rattle.areas.specs.Formed.{WellFormed}
 use Rattle.rewind_cases.specs.Rewind.{rewindTo}
-use Rattle.rewind_cases.proofs.RunLaws.{rewindTo-same}
+use Rattle.rewound_store.proofs.RunLaws.{rewindTo-same}
 use Rattle.content.specs.Content.{copyBacking}
 use Rattle.memory.specs.Memory.{keepsFront}
 use Rattle.restoring.specs.Changed.{changedTo}

@@ -1,10 +1,10 @@
 -- What is tested on each way is what the page meets in the case told there, and that is the only one.
 use native.Mathlib.Omega.{arith}
 use borrow.Author.Needs.{needs}
 use Rattle.rewind_cases.specs.declared.RewindCase.the-variants.{Copied, Zeroed, ImagePage}
 use Rattle.rewind_cases.proofs.CaseLaws.{one-case}
-use Rattle.rewind_cases.proofs.case_of.Statement.{statement}
-use Rattle.rewind_cases.proofs.case_of.Tie as tie
+use Rattle.page_case.proofs.case_of.Statement.{statement}
+use Rattle.page_case.proofs.case_of.Tie as tie
 
 returns : tie.Need-returns
 returns c = search needs

@@ -13,9 +13,9 @@ use Rattle.table.specs.Backing.{backingPage, backingEnd}
 use Rattle.table.proofs.StoreLaws.{page-whole}
 use Rattle.table.proofs.TouchLaws.{backing-whole}
 use Rattle.table.proofs.LeftLaws.{Left, left-same, left-then, free-entry, fill-entry, free-left, fill-left}
 use Rattle.rewind_cases.specs.Rewind.{rewindPage, rewindTo}
 use Rattle.rewind_cases.proofs.BeforeLaws.{page-before}
-use Rattle.rewind_cases.proofs.RewindLaws.{rewindTo-tidy}
+use Rattle.rewound_store.proofs.RewindLaws.{rewindTo-tidy}
 
 -- ---- entries
 

@@ -1,0 +1,4 @@
+-- In reading order.
+pub mod RewindLaws
+pub mod RunLaws
+pub mod LeftLaws
