@@ -1,8 +1,8 @@
 // Committed pages restored: a rewind gives their fronts the snapshot's bytes, and counts those whose bytes differed.
 // It promises: what is left is the store that rewind_cases/specs/Rewind defines of it (`rewindTo`, all fronts kept), whatever marks there are, and the number
 // is the one of specs/Changed (`changedTo`): together `RestoredTo`.
-// It stands on `page_restore` for one page, on `rewind_cases` for the definition and its laws, on `table` for entries and the store, and on `slots` and
-// `interface` for a page's backing.
+// It stands on `page_restore` for one page, on `rewind_cases` and `rewound_store` for the definition and its laws, on `table` for entries and the store, and on
+// `slots` and `interface` for a page's backing.
 ghost use mathlib.Core.Path.{_≡_};
 ghost use Prim.Native.Nat.{ℕ, _+_, _≤_, _<_};
 ghost use lib.Dec.{ltb};
