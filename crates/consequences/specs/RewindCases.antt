@@ -43,6 +43,7 @@ pub record PageRewound (image : List ℕ) (w v : World) (s i : ℕ) : Type 0 whe
   -- and what is read afterwards is what the snapshot has there
   pub reads : pageRead image (v .store) (recordAt v s) s i ≡ copyRead image (w .store) (recordAt w s) s i
 
+-- "For each committed page still mapped": at every accepted rewind, in whatever state
 abbrev pub RewindsByCases : List ℕ → Type 0
 RewindsByCases image = (w : World) (q : Request) (o : Outcome) → Stepped image w q o → q .code ≡ Rewind → o .answer .number ≡ 0
     → (i : ℕ) → i < 64 → isCommitted (slots (recordAt w (q .sandbox) .present) i) ≡ true → PageRewound image w (o .world) (q .sandbox) i

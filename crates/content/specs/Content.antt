@@ -20,7 +20,7 @@ pageUnder image st b s i =
 unfoldable pub pageRead : List ℕ → Store → Record → ℕ → ℕ → List ℕ
 pageRead image st b s i = pageFrom (pageUnder image st b s i) (contents 256 st (frontOf s i))
 
--- a snapshot page without a back, and what it starts with
+-- what a snapshot page starts with, and so reads without a back: "zero bytes or its image page"
 abbrev pub copyBacking : Record → ℕ → Backing
 copyBacking b i = backingAt (slots (b .snapshot) i)
 

@@ -21,12 +21,12 @@ Meets front back backing Zeroed = (0 < front) × (back ≡ 0) × (backing ≡ An
 -- "the image page (front alone, image)"
 Meets front back backing (ImagePage page) = (0 < front) × (back ≡ 0) × (backing ≡ Image page)
 
--- it meets the one that is found, and no other
+-- "each such page meets exactly one case": the one that is found, and no other
 pub record OneCase (front back : ℕ) (backing : Backing) : Type 0 where
   pub found : Meets front back backing (caseOf front back backing)
   pub alone : (c : RewindCase) → Meets front back backing c → c ≡ caseOf front back backing
 
--- what its front then holds, of what its back held
+-- "what its front then holds", of what its back held
 abbrev pub frontThen : List ℕ → Option (List ℕ) → RewindCase → Option (List ℕ)
 frontThen image back Shared = none
 frontThen image back Copied = back
