@@ -2,6 +2,8 @@
 // It promises: the test of a page is `agree` of comparison/specs/Compare, by the bytes that both read. No byte is looked at of a page that is committed,
 // has unchanged rights and no front.
 // It stands on `comparison` for what is compared, on `page_comparison` for the bytes, and on `slots` for what stands at a page.
+#![tactic(auto)]
+
 ghost use Rattle.std.specs.Prelude.{◌≡◌, true, ◌*◌, ◌≤◌, length};
 ghost use Rattle.interface.specs.Numbers.{page_bytes, most_frames};
 ghost use Rattle.interface.specs.Slots.{is_committed, backing_at};

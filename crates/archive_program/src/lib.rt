@@ -1,6 +1,8 @@
 // What the program for the archive box reads, answers and writes: definitions and theorems, and the sandbox that its argument names.
 // It promises that what is handed on to be written is the plain machine's archive roll, or nothing where that is refused (specs/Prints).
 // It stands on `replay` and `archiving` for the archive roll, on `roll_input` for the roll played, and on `image_file` for an image that cannot be read.
+#![tactic(auto)]
+
 ghost use Rattle.std.specs.Prelude.{◌≡◌};
 ghost use Rattle.archive_program.specs.Sandbox.{named};
 

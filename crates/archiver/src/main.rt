@@ -6,6 +6,8 @@
 // It stands on `starting` for the start, on `playing` for the roll played (src/roll_input), on `input` for when another line is read, on `archiving` for the
 // archive roll, on `archive_program` for what is promised, on `image_file` for the image, and on the kit's `io`, `os` and `libc`; which bytes these read and
 // write nothing proves.
+#![tactic(auto)]
+
 ghost use Rattle.std.specs.Prelude.{◌≡◌, ◌*◌, ◌≤◌, length};
 ghost use Rattle.interface.specs.Answers.{value_of};
 ghost use Rattle.columns.specs.Sizes.{line_bytes};

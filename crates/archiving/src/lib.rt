@@ -2,6 +2,8 @@
 // It promises: whatever is lent, answer and output are those of `written` (`replay`, specs/Snapshot). A refusal leaves every byte of the output; else the roll
 // stands at its start, and what is past it stays. State, pool, table and image are only read.
 // It stands on `whole_roll` for the roll, on `segments` for the snapshot, on `soundness` for the test of the state, and on `replay` for what is promised.
+#![tactic(auto)]
+
 ghost use Rattle.std.specs.Prelude.{◌≡◌};
 ghost use Rattle.state.specs.World.{world_of};
 ghost use Rattle.replay.specs.Snapshot.{written};

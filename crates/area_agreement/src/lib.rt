@@ -1,6 +1,8 @@
 // Whether the areas are those of the snapshot, so that a page without a front agrees with the snapshot's.
 // It promises the test of specs/Unchanged; where it holds, a page can differ from the snapshot's by its bytes alone (proofs/UnchangedLaws).
 // It stands on `areas` for the areas, and on `comparison` for what is compared of a page.
+#![tactic(auto)]
+
 ghost use Rattle.std.specs.Prelude.{◌≡◌};
 ghost use Rattle.area_agreement.specs.Unchanged.{stays, unchanged};
 

@@ -1,6 +1,8 @@
 // An area beside one of the snapshot's: how far they have the same pages with the same backing.
 // It promises: `reached` is the page up to which the snapshot's area has them (specs/Reach), and `lies_in` whether it has them all.
 // It stands on `areas` for what an area is, and on `slots` for the kind of a backing.
+#![tactic(auto)]
+
 ghost use Rattle.std.specs.Prelude.{◌≡◌, ℕ, ◌+◌, ◌-◌, ◌≤◌, leb};
 ghost use Rattle.interface.specs.Slots.{advance, follows};
 ghost use Rattle.basics.specs.Choice.{implies};

@@ -2,6 +2,8 @@
 // whether all of them are mapped or unmapped. Areas stand in order and apart, so each page is counted with its area and none is looked up.
 // It promises: what is counted are the pages that `interface` counts one by one of what stands at each (proofs/CountedLaws, MappedLaws).
 // It stands on `areas`, along which it goes, and on `basics` and `interface`.
+#![tactic(auto)]
+
 ghost use Rattle.std.specs.Prelude.{◌≡◌, ◌+◌, ◌≤◌};
 ghost use Rattle.basics.specs.Ranges.{count};
 ghost use Rattle.interface.specs.Numbers.{page_count};

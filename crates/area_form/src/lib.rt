@@ -1,6 +1,8 @@
 // The form of one area, tested: that it is as it should be by itself, that it starts behind the one before it and does not go on from it, that it is none.
 // It promises: the tests of areas/specs/Formed that look at one area, or at one and the next, whatever numbers they hold.
 // It stands on `areas` for what an area is, and on `slots` for the kind of a backing.
+#![tactic(auto)]
+
 ghost use Rattle.std.specs.Prelude.{◌≡◌, ◌&&◌, leb};
 ghost use Rattle.interface.specs.Limits.{rights_ok};
 ghost use Rattle.areas.specs.Areas.{attributes_of};

@@ -1,6 +1,8 @@
 // The lowest gap of a sandbox's pages, found along its areas: they stand in order and apart, so no page is looked up.
 // It promises: the gap is the lowest, as `interface` defines it of what stands at each page (proofs/GapLaws).
 // It stands on `areas`, along which it goes, and on `basics` and `interface`.
+#![tactic(auto)]
+
 ghost use Rattle.std.specs.Prelude.{◌≡◌};
 ghost use Rattle.interface.specs.Slots.{lowest_gap};
 ghost use Rattle.areas.specs.Areas.{slots};

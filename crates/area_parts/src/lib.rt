@@ -2,6 +2,8 @@
 // It promises: the part of an area, an area from a page on and an area kept, given rights or committed are those of specs/Parts, of which areas are packed
 // anew in `repacking`.
 // It stands on `areas`, whose runs it cuts, and on `interface` and `slots`.
+#![tactic(auto)]
+
 ghost use Rattle.std.specs.Prelude.{◌≡◌, ◌&&◌, ◌+◌, ◌-◌, ◌≤◌, min, max, ltb};
 ghost use Rattle.interface.specs.Numbers.{page_count};
 ghost use Rattle.interface.specs.Slots.{start_of};
@@ -12,7 +14,7 @@ use interface::{Attributes, PageNo};
 use slots::{backing_at, page_on};
 
 // What becomes of an area: it is kept as it is, gets rights, or becomes committed.
-#[derive(Drop)]
+#[derive(Clone, Copy)]
 pub enum Update {
     Keep,
     Rights(u8),

@@ -4,6 +4,8 @@
 // says it (`free_to`).
 // It stands on `restoring` for the fronts that stay and on `freeing` for the others, on `rewind_cases` for the definition, on `areas` for the area, and on
 // `table` for entries and the store.
+#![tactic(auto)]
+
 ghost use Rattle.std.specs.Prelude.{◌≡◌, ◌+◌, ◌-◌, ◌≤◌, ◌<◌};
 ghost use Rattle.interface.specs.Numbers.{page_bytes, page_count, sandbox_count};
 ghost use Rattle.basics.specs.Choice.{◌when◌else◌};
@@ -19,7 +21,7 @@ use restoring::restore_pages;
 use table::entry::front_index;
 
 // The held marks, the first page that is still to be rewound, and how many committed pages before it had other bytes than the snapshot's.
-#[derive(Drop)]
+#[derive(Clone, Copy)]
 pub struct Rewound {
     pub held: Held,
     pub page: PageNo,

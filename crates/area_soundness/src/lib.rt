@@ -1,6 +1,8 @@
 // The areas of a sandbox, tested: "at most 8, with rights 1 or 3, lie in 0 to 63, ordered, apart and longest; image pages exist".
 // It promises: the test of areas/specs/Formed, place by place, whatever numbers the areas hold; areas/proofs/FormedLaws says what it shows.
 // It stands on `areas`, whose runs it tests, and on `area_form` for the test of one place.
+#![tactic(auto)]
+
 ghost use Rattle.std.specs.Prelude.{◌≡◌, length};
 ghost use Rattle.areas.specs.Formed.{well_formed};
 

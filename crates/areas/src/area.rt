@@ -10,7 +10,7 @@ use interface::{Attributes, Backing, PageNo, Slot};
 use slots::{follows, page_on};
 
 // "Each area has a backing: anonymous, or image with its first image page. It has rights .. and a mark"
-#[derive(Drop)]
+#[derive(Clone, Copy)]
 pub struct Area {
     pub first: PageNo,
     pub pages: u8,
@@ -20,7 +20,7 @@ pub struct Area {
 }
 
 // The first `count` places hold areas, the others none.
-#[derive(Drop)]
+#[derive(Clone, Copy)]
 pub struct Areas {
     pub count: u8,
     pub list: [Area; Area::MOST],

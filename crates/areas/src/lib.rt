@@ -3,6 +3,8 @@
 // just that (proofs/FormedLaws), that a walk along them says at each page what they say (proofs/WalkLaws), and that they are told by what they say
 // (proofs/ToldLaws). They are tested in `area_soundness`, their pages counted in `area_counts`, gaps found in `area_gaps`, and they are packed in `packing`.
 // It stands on `basics` and `interface`, whose words for slots it uses.
+#![tactic(auto)]
+
 pub mod area;
 pub mod basic;
 

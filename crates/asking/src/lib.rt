@@ -2,6 +2,8 @@
 // It promises: rows 1 to 3, and row 4 of a sandbox past the four, are told without a look at a sandbox (`asked_by`); of a line that is turned back by one of
 // them, and of one that is not, proofs/AskedLaws says what is known.
 // It stands on `lines` for what a line says, on `codes` for which codes are calls, and on `roll` for what a line is turned into.
+#![tactic(auto)]
+
 ghost use Rattle.std.specs.Prelude.{◌≡◌};
 ghost use Rattle.asking.specs.Asked.{asked_by};
 
@@ -10,7 +12,7 @@ use lines::Line;
 use state::sandbox::Machine;
 
 // What a line asks: a call on one of the four sandboxes of a sound state, or nothing that can be performed, and why.
-#[derive(Drop)]
+#[derive(Clone, Copy)]
 pub enum Asked {
     Refused(Refusal),
     Call(Request),

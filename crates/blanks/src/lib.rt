@@ -1,5 +1,7 @@
 // Blanks among the columns of a line: the five before the one digit that a field most often has.
 // It promises whether all five are blanks (`blanks`, columns/specs/Reading). It stands on `columns`.
+#![tactic(auto)]
+
 ghost use Rattle.std.specs.Prelude.{◌≡◌, ◌+◌, ◌≤◌, ◌<◌, length};
 ghost use Rattle.columns.specs.Reading.{blanks};
 

@@ -2,6 +2,8 @@
 // It promises: what is read is the byte of the page that the store and the areas say; what is stored is stored into a front that the page has, and where it has
 // none nothing changes.
 // It stands on `reading` and `filling` for the bytes, on `table` for the entries, and on `rows` for the page of an address.
+#![tactic(auto)]
+
 ghost use Rattle.std.specs.Prelude.{◌≡◌, ◌<◌, get_or};
 ghost use Rattle.interface.specs.Numbers.{page_bytes, sandbox_count, address_count, byte_values};
 ghost use Rattle.interface.specs.Requests.{offset_of};

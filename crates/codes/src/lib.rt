@@ -1,6 +1,8 @@
 // Codes in and numbers out, as code: whether a request's code is that of a call, and whether the call needs a snapshot; the number and the value of an answer.
 // It promises: each function computes the definition of `interface` that it is named after.
 // It stands on `interface`, whose definitions it computes.
+#![tactic(auto)]
+
 ghost use Rattle.std.specs.Prelude.{◌≡◌};
 ghost use Rattle.interface.specs.Answers.{refusal_number, number_of, value_of};
 ghost use Rattle.interface.specs.Requests.{is_call, needs_snapshot};

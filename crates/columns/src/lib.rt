@@ -1,11 +1,13 @@
 // A number in 6 columns of the roll's text: what is printed of it, and what columns say. As definitions also a whole printed line (`printer` prints it).
 // It promises that a number has one accepted form: what 6 columns say is the number whose print they are, and every number's print is taken (proofs/FieldLaws).
 // It stands on `interface` for the numbers of a request, and on `basics`.
+#![tactic(auto)]
+
 ghost use Rattle.std.specs.Prelude.{◌≡◌};
 ghost use Rattle.columns.specs.Reading.{as_field};
 
 // What 6 columns say: a number, or none.
-#[derive(Drop)]
+#[derive(Clone, Copy)]
 pub enum Field {
     Number(u16),
     Bad,

@@ -2,6 +2,8 @@
 // entries and frames.
 // It promises: the parts of the test of a page that look at no entry (specs/Parts), each of all pages, area by area.
 // It stands on `areas`, along which it goes, and on `area_backing` for how far one area of the snapshot has the pages of another.
+#![tactic(auto)]
+
 ghost use Rattle.std.specs.Prelude.{◌≡◌};
 ghost use Rattle.interface.specs.Numbers.{page_count};
 ghost use Rattle.basics.specs.Ranges.{every};

@@ -2,3 +2,5 @@
 // which a rewind counts: definitions and laws, no code.
 // It promises: the comparisons by their examples, computed, and what cannot alter them (proofs/CompareLaws).
 // It stands on `interface` for what a page is.
+
+#![tactic(auto)]

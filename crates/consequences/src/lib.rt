@@ -3,3 +3,5 @@
 // a rewind's value and its cases, for unmaps over gaps and for kept frames say beyond the demands (specs/StillClean, specs/PutBack, specs/RewindCases,
 // specs/OverGaps, specs/KeepsNothing).
 // It stands on `claims` for the demands, and on `simulation` for the laws of one call.
+
+#![tactic(auto)]

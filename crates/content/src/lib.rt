@@ -1,6 +1,8 @@
 // What a page of a sandbox reads, now and in the snapshot: definitions and laws, and one byte of it computed.
 // It promises: the byte is that of `page_read`. Nothing is changed.
 // It stands on `table` for the frames, on `records` and `areas` for what stands at a page, and on `rules` for what a request within its limits is.
+#![tactic(auto)]
+
 ghost use Rattle.std.specs.Prelude.{◌≡◌, ◌<◌, length, get_or};
 ghost use Rattle.interface.specs.Numbers.{page_bytes, sandbox_count, pages_in};
 ghost use Rattle.frames.specs.declared.Held.{Held as Words};

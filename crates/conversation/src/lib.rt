@@ -1,6 +1,8 @@
 // What the player says of each line that it hears: definitions and theorems, and when another line is read.
 // It promises that a conversation is one roll played, and that its replies are the plain machine's, or the refusals of a wrong length (specs/Replies).
 // It stands on `roll` for what is played, on `image_file` for an image that cannot be read, and on `lines`.
+#![tactic(auto)]
+
 ghost use Rattle.std.specs.Prelude.{◌≡◌, ◌&&◌, eqb};
 ghost use Rattle.columns.specs.Sizes.{line_bytes};
 
@@ -8,7 +10,7 @@ use lines::Line;
 use state::sandbox::Machine;
 
 // What a turn leaves: the machine, how many bytes of a line were read, whether its reply was written, and whether another line is to be read.
-#[derive(Drop)]
+#[derive(Clone, Copy)]
 pub struct Progress {
     pub machine: Machine,
     pub got: usize,

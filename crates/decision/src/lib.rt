@@ -1,6 +1,8 @@
 // The decision: the rows of "Turned back" from 4 on, in their order. No lent memory is touched here.
 // It promises: `decide` gives the number of `interface`'s one table of refusals, for any call on a sandbox with a sound record, and the areas afterwards.
 // It stands on `rows` for the tests of rows 4, 5, 7 and 8, on `limits` for row 6, and on `page_decision` for the rows from 9 on and for what results.
+#![tactic(auto)]
+
 ghost use Rattle.std.specs.Prelude.{◌≡◌, true, ◌<◌};
 ghost use Rattle.interface.specs.Numbers.{sandbox_count};
 ghost use Rattle.interface.specs.Requests.{is_call};

@@ -3,6 +3,8 @@
 // with unchanged rights and no front is passed over. Nothing is changed.
 // It stands on `area_agreement` for the areas compared, on `agreement` for one page, on `content` for what pages read, and on `rules` for what a record of a
 // sound state is.
+#![tactic(auto)]
+
 ghost use Rattle.std.specs.Prelude.{◌≡◌, ◌<◌, length};
 ghost use Rattle.interface.specs.Numbers.{page_bytes, sandbox_count, pages_in};
 ghost use Rattle.frames.specs.declared.Held.{Held as Words};
@@ -17,7 +19,7 @@ use interface::PageNo;
 use records::Record;
 
 // Where a sandbox and its snapshot differ.
-#[derive(Drop)]
+#[derive(Clone, Copy)]
 pub struct Difference;
 
 impl Difference {

@@ -1,6 +1,8 @@
 // The digits of a field, read as a number from the first of them on.
 // It promises that behind blanks they say what the 6 columns say, and that one more digit is the number's next column (`field_of`, `with_digit`,
 // columns/specs/Fields). It stands on `columns`.
+#![tactic(auto)]
+
 ghost use Rattle.std.specs.Prelude.{◌≡◌, ◌+◌, ◌%◌, ◌^◌, ◌<◌, ◌≤◌, length, ◌≢◌, slice_index};
 ghost use Rattle.columns.specs.Fields.{with_digit, columns_read, field_of};
 ghost use Rattle.columns.specs.Reading.{as_field};

@@ -4,6 +4,8 @@
 // A rewind is performed elsewhere (`rewind_call`), since its value is told by what it does.
 // It stands on `memory` for the definitions and their laws, on `writing` and `freeing` for the frames, on `granting` for the runs, on `totals` for what the
 // sandboxes have together, and on `rules` for what a request within its limits is.
+#![tactic(auto)]
+
 ghost use Rattle.std.specs.Prelude.{◌≡◌, ◌<◌, length};
 ghost use Rattle.interface.specs.Numbers.{page_bytes, sandbox_count, pages_in};
 ghost use Rattle.interface.specs.Requests.{map_code, write_code, rewind_code};

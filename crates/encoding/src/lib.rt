@@ -1,6 +1,8 @@
 // The state in bytes, so that a host can keep it between calls: written, read and tested.
 // It promises: `encode` writes the bytes of a state, `decode` gives the state of bytes, `is_state` tells which bytes are a state's, each as the layout has it.
 // It stands on `layout` for the definitions and what they promise, on `sandboxes` and `fields` for the parts, and on `state` for what is written.
+#![tactic(auto)]
+
 ghost use Rattle.std.specs.Prelude.{◌≡◌, length};
 ghost use Rattle.layout.specs.Layout.{held_at, state_size, sandbox_bytes, state_bytes, state_from, are_sandboxes, is_state};
 ghost use Rattle.layout.specs.Rows.{rowBytes};

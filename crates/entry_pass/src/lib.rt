@@ -2,6 +2,8 @@
 // It promises: what is found is what the pass of the definition finds (`marks_to`, marks/specs/Marks.antt); that frames named twice show at the end
 // alone, where more entries name a frame than frames are marked, is proved in proofs/PassLaws.antt.
 // It stands on `marks` for the definition and for eight entries that name none, and on `frames` for the marks.
+#![tactic(auto)]
+
 ghost use Rattle.std.specs.Prelude.{◌≡◌, ◌+◌, ◌^◌, ◌≤◌, ◌<◌, length};
 ghost use Rattle.interface.specs.Numbers.{most_frames};
 ghost use Rattle.marks.specs.Marks.{marks_to, from};
@@ -11,7 +13,7 @@ use frames::{FrameNo, Held};
 use marks::{Marks, names_none};
 
 // The pass as it is kept: whether no entry names a frame past the pool, how many name a frame of it, and the marks of these frames.
-#[derive(Drop)]
+#[derive(Clone, Copy)]
 struct Pass {
     inside: bool,
     named: usize,

@@ -1,6 +1,8 @@
 // Entry release: the page of one entry given up, "freed and cleared to zero".
 // It promises: what is left is the store that table/specs/Store defines of it (`free`): the entry, its frame and the frame's mark are cleared, and no other.
 // It stands on `table` for entries and the store, on `pool` for the bytes of a frame, and on `frames` for the held marks.
+#![tactic(auto)]
+
 ghost use Rattle.std.specs.Prelude.{◌≡◌, ◌<◌};
 ghost use Rattle.interface.specs.Numbers.{page_bytes, table_entries};
 ghost use Rattle.table.specs.Store.{kept, Ranged, free};

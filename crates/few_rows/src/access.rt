@@ -13,7 +13,7 @@ use rows::{not_open, page_of};
 use slots::{is_mapped, rights_at};
 
 // Why a read or a write is refused; or what stands at the page of an accepted one.
-#[derive(Drop)]
+#[derive(Clone, Copy)]
 pub enum Access {
     Refused(Refusal),
     Page(Slot),

@@ -1,6 +1,8 @@
 // A number printed into 6 columns of a line: right-justified, blanks before its digits.
 // It promises that what is printed is the field that `columns` defines for the number, and that the other bytes of the line stay.
 // It stands on `lines` for where the fields of a line stand, and on `pages` for a part of a list.
+#![tactic(auto)]
+
 ghost use Rattle.std.specs.Prelude.{◌≡◌, ◌+◌, ◌*◌, ◌≤◌, ◌<◌, length};
 ghost use Rattle.pages.specs.Parts.{set_part};
 ghost use Rattle.columns.specs.Prints.{columns, printed_field};

@@ -9,7 +9,7 @@ use layout::size::AreaAt;
 use slots::{kind_of, start_of};
 
 // The kinds of a backing.
-#[derive(Drop)]
+#[derive(Clone, Copy)]
 struct Kind;
 
 impl Kind {

@@ -5,7 +5,7 @@ ghost use Rattle.layout.specs.Layout.{word_size};
 ghost use Rattle.layout.specs.Rows.{digits, spelled};
 
 // A byte as a digit of a number.
-#[derive(Drop)]
+#[derive(Clone, Copy)]
 struct Digit;
 
 impl Digit {

@@ -3,6 +3,8 @@
 // and a refusal leaves every byte of the output. It promises (specs/HostArchive) that what a host gets is the plain machine's, and that the roll's calls
 // rebuild the snapshot.
 // It stands on `archiving` for the roll, on `encoding` for the state in bytes, and on `host_calls` for what a host hands over.
+#![tactic(auto)]
+
 ghost use Rattle.std.specs.Prelude.{◌≡◌};
 ghost use Rattle.host_calls.specs.Calls.{handed};
 ghost use Rattle.filing.specs.Filed.{left, filed};

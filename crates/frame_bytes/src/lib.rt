@@ -1,6 +1,8 @@
 // One byte of a frame of the lent pool, read or stored.
 // It promises: the byte read is that of the frame; a store leaves the pool it got with one byte of that frame replaced, and no other byte changed.
 // It stands on `pages`, to which the frame's part of the pool is lent on, and on `frames` for the number of a frame.
+#![tactic(auto)]
+
 ghost use Rattle.std.specs.Prelude.{◌≡◌, ◌+◌, ◌*◌, ◌≤◌, length, get_or, set};
 ghost use Rattle.interface.specs.Numbers.{page_bytes};
 ghost use Rattle.pages.specs.Parts.{frame, set_frame};

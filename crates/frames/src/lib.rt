@@ -3,6 +3,8 @@
 // Callers use the laws of these definitions, proofs/FrameLaws.antt (marks, counts) and proofs/PairLaws.antt (two marks, the smallest held frame), and never
 // the bits. The greatest frame that is not held is found in `free_frames`.
 // It stands on `words` for the bits of a word.
+#![tactic(auto)]
+
 ghost use Rattle.std.specs.Prelude.{◌≡◌, ◌<◌, eqb};
 ghost use Rattle.basics.specs.Ranges.{one};
 ghost use Rattle.interface.specs.Numbers.{most_frames};
@@ -11,7 +13,7 @@ ghost use Rattle.frames.specs.Frames.{held, mark, none_held, same_held, count_he
 use words::{has, lowest_set, put};
 
 // The number of a frame of the pool: no page number and no image page number.
-#[derive(Drop)]
+#[derive(Clone, Copy)]
 pub struct FrameNo(pub u8);
 
 impl FrameNo {
@@ -20,7 +22,7 @@ impl FrameNo {
 }
 
 // The marks of frames 0 to 63, and of 64 to 127.
-#[derive(Drop)]
+#[derive(Clone, Copy)]
 pub struct Held {
     pub low: u64,
     pub high: u64,

@@ -2,6 +2,8 @@
 // It promises: what is found is the greatest number below the pool's frames at which the mark is 0 (`greatest`, specs/Greatest.antt); there is none just where
 // no mark is 0. Callers use the laws of this definition, proofs/GreatestLaws.antt, and never the bits.
 // It stands on `frames` for the marks, and on `words` for the bits of a word.
+#![tactic(auto)]
+
 ghost use Rattle.std.specs.Prelude.{◌≡◌, ◌≤◌};
 ghost use Rattle.interface.specs.Numbers.{most_frames};
 ghost use Rattle.words.specs.Word.{bit, word_bits};
@@ -17,7 +19,7 @@ const LAST: u8 = Held::WORD - 1;
 const ALL: u64 = 0xffff_ffff_ffff_ffff;
 
 // A frame that is not held, where there is one.
-#[derive(Drop)]
+#[derive(Clone, Copy)]
 pub enum Free {
     Frame(FrameNo),
     None,

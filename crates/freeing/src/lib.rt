@@ -2,6 +2,8 @@
 // It promises: what is left is the store that table/specs/Store defines of it (`free_to`, `cleared`); the laws of these stand in `table`.
 // It stands on `entry_release` for the page of one entry, on `table` for entries and the store, on `pool` and `pages` for the bytes that a start clears,
 // on `frames` for the held marks, and on `interface` for the number of a page.
+#![tactic(auto)]
+
 pub mod store;
 
 pub use store::{free_range, start};

@@ -1,6 +1,8 @@
 // The frames that the fronts of so many pages name, as one run.
 // It promises that the run is the one that comes of the entries one by one (`fronts_to`); eight entries that name none are passed over together.
 // It stands on `table` for the entries, and on `frames` for the marks of a run.
+#![tactic(auto)]
+
 ghost use Rattle.std.specs.Prelude.{◌≡◌, ℕ, ◌+◌, ◌≤◌, ◌<◌, length, get_or};
 ghost use Rattle.interface.specs.Numbers.{page_count, sandbox_count, table_entries, most_frames};
 ghost use Rattle.front_frames.specs.Fronts.{with_entry, with_entries, fronts_to};

@@ -3,6 +3,8 @@
 // so that the work goes with the pages of the uncommitted anonymous ones.
 // It stands on `areas` for the areas, on `front_frames` for the frames of an area's fronts, on `run_push` for the competition of runs, and on `kept` for the
 // definition.
+#![tactic(auto)]
+
 ghost use Rattle.std.specs.Prelude.{◌≡◌, List, ℕ, ◌+◌, ◌≤◌, ◌<◌, length, get_or};
 ghost use Rattle.interface.specs.Numbers.{page_count, sandbox_count, table_entries, most_frames};
 ghost use Rattle.run_choice.specs.Runs.{is_spared};

@@ -6,6 +6,8 @@
 // (specs/HostArchive of `filing`).
 // It stands on `starting`, `playing` and `room` for a roll, on `host_start`, `machine` and `encoding` for a start and a call, and on `filing` for an archive
 // roll. Nothing that holds an enum crosses to C.
+#![tactic(auto)]
+
 ghost use Rattle.std.specs.Prelude.{◌≡◌};
 ghost use Rattle.lines.specs.Lines.{lines_of};
 ghost use Rattle.host_rolls.specs.FromStart.{regions, FromStart};

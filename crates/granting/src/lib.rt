@@ -3,6 +3,8 @@
 // runs are those of specs/Granting, made of what kept/specs/Spare defines (`adopt_to`, `left_of`).
 // It stands on `kept` for the definitions, on `runs` and `run_search` for the run that suits, on `frames` for the marks, on `table` for the store, and on
 // `rules` for a map's first page.
+#![tactic(auto)]
+
 ghost use Rattle.std.specs.Prelude.{◌≡◌, List, ℕ, ◌+◌, ◌≤◌, ◌<◌, leb, length, set};
 ghost use Rattle.interface.specs.Numbers.{page_count, sandbox_count, table_entries, most_frames};
 ghost use Rattle.basics.specs.Choice.{◌when◌else◌};
@@ -24,7 +26,7 @@ use runs::Runs;
 use state::sandbox::Sandbox;
 
 // What a request leaves: the marks of the frames that entries name, and the sandbox's runs.
-#[derive(Drop)]
+#[derive(Clone, Copy)]
 pub struct Left {
     pub held: Held,
     pub runs: Runs,
@@ -79,7 +81,7 @@ fn lesser(a: u8, b: u8) -> u8
 }
 
 // The marks of the entries, and what is left of a run.
-#[derive(Drop)]
+#[derive(Clone, Copy)]
 struct Granted {
     held: Held,
     rest: Held,

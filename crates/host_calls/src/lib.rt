@@ -2,6 +2,8 @@
 // The code is in `host_start` and `gazhuppin`; here is what a host asks, and what it is told, as both cross to C.
 // It promises (specs/HostClaims) that calls in turn are a run of the machine, so that each demand is true of them, in bytes.
 // It stands on `step` for the step, on `layout` for the bytes, on `codes` for numbers, and on `claims` and `consequences` for what is promised.
+#![tactic(auto)]
+
 ghost use Rattle.std.specs.Prelude.{◌≡◌};
 ghost use Rattle.layout.specs.Layout.{state_size};
 ghost use Rattle.host_calls.specs.Calls.{told_by, answer_told, request_in, no_state};
@@ -18,7 +20,7 @@ pub fn state_bytes() -> usize
 
 // What a host asks: the seven numbers of a line.
 #[repr(C)]
-#[derive(Drop)]
+#[derive(Clone, Copy)]
 pub struct Asked {
     pub code: u16,
     pub sandbox: u16,
@@ -48,7 +50,7 @@ impl Asked {
 
 // What a call answers, as a host sees it: the refusal's number or 0, and the value.
 #[repr(C)]
-#[derive(Drop)]
+#[derive(Clone, Copy)]
 pub struct Told {
     pub number: u32,
     pub value: u32,

@@ -1,6 +1,8 @@
 // A start over a state that the caller keeps as bytes beside its pool and table.
 // It asks nothing of what is lent: a wrong length is refusal 3. It promises that a start does what `host_calls` says (specs/Calls there: `start_hands`).
 // It stands on `starting` for the start, on `layout` and `encoding` for the bytes and on `host_calls` for what is promised.
+#![tactic(auto)]
+
 ghost use Rattle.std.specs.Prelude.{◌≡◌};
 ghost use Rattle.host_calls.specs.Calls.{handed, start_number, start_hands};
 

@@ -1,11 +1,13 @@
 // The image read from the file `image.bin`, for the programs.
 // It promises how many bytes the image has, for each thing that can become of the file (`image_bytes`), and that one that cannot be read whole has a wrong
 // length (specs/Image). It stands on `state` for which lengths are right, and on the kit's `io`, `os` and `libc`; which bytes these read nothing proves.
+#![tactic(auto)]
+
 ghost use Rattle.std.specs.Prelude.{◌≡◌, ◌≤◌, length};
 ghost use Rattle.image_file.specs.Image.{image_bytes};
 
 // What became of `image.bin`.
-#[derive(Drop)]
+#[derive(Clone, Copy)]
 pub enum Found {
     Missing,
     Whole(usize),

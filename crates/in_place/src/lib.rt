@@ -4,6 +4,8 @@
 // did not answer, nothing has changed, and a write is one that is not refused. Which calls it answers is no part of the promise: whoever calls it performs
 // those that it leaves.
 // It stands on `few_rows` for what is refused, on `byte_at` and `values` for what is read, stored, counted and compared, and on `step` for what a call is.
+#![tactic(auto)]
+
 ghost use Rattle.std.specs.Prelude.{◌≡◌, true, ◌||◌, ◌<◌};
 ghost use Rattle.interface.specs.Numbers.{sandbox_count};
 ghost use Rattle.interface.specs.Requests.{◌is◌, read_code, write_code};
@@ -19,7 +21,7 @@ use state::sandbox::Sandbox;
 mod look;
 
 // Whether the call was answered, and the answer; where it was not, the answer says nothing.
-#[derive(Drop)]
+#[derive(Clone, Copy)]
 pub struct InPlace {
     pub done: bool,
     pub answer: Answer,

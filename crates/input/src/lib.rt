@@ -1,5 +1,7 @@
 // A line on standard input: whether all of it has come, so that another line is read.
 // It promises that this is told by the number of bytes that came. It stands on `lines`.
+#![tactic(auto)]
+
 ghost use Rattle.std.specs.Prelude.{◌≡◌, eqb};
 ghost use Rattle.columns.specs.Sizes.{line_bytes};
 

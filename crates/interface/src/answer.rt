@@ -1,7 +1,7 @@
 // An answer: a value, or a refusal.
 
 // Why a request is refused: the rows of "Turned back", in its order. The last is the archive's alone (request A9); no call is refused so.
-#[derive(Drop)]
+#[derive(Clone, Copy)]
 pub enum Refusal {
     Malformed,
     NoSuchCall,
@@ -21,7 +21,7 @@ pub enum Refusal {
 }
 
 // What a call answers.
-#[derive(Drop)]
+#[derive(Clone, Copy)]
 pub enum Answer {
     Value(u32),
     Refused(Refusal),

@@ -2,6 +2,8 @@
 // It promises: the passes are those of kept/specs/Test, over the runs of a sandbox and over the kept frames; by the laws of `kept` the test is true exactly
 // where `Spare` holds.
 // It stands on `kept` for the test, on `runs` for the runs, on `marks` for what a pass finds, and on `frames` and `pages` for a frame and its bytes.
+#![tactic(auto)]
+
 ghost use Rattle.std.specs.Prelude.{◌≡◌, ◌&&◌, ◌+◌, ◌*◌, ◌≤◌, eqb, ltb, length, get_or};
 ghost use Rattle.interface.specs.Numbers.{page_bytes, most_frames};
 ghost use Rattle.basics.specs.Ranges.{every};

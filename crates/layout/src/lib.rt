@@ -3,6 +3,8 @@
 // are equal states, and every sound state can be written so; a fresh state is 932 zero bytes. The code is in `fields`, `places` and `encoding`, from the
 // least parts to the whole.
 // It stands on `state`, with `areas`, `runs` and `frames`, for what is laid out, and knows nothing of calls.
+#![tactic(auto)]
+
 pub use size::{AreaAt, At, Size};
 
 pub mod size;

@@ -3,7 +3,7 @@ use areas::area::Area;
 use runs::Runs;
 use state::sandbox::Machine;
 
-#[derive(Drop)]
+#[derive(Clone, Copy)]
 pub struct Size;
 
 impl Size {
@@ -27,7 +27,7 @@ impl Size {
 }
 
 // Where the held marks stand in the bytes of a state, and the parts of a sandbox in its own.
-#[derive(Drop)]
+#[derive(Clone, Copy)]
 pub struct At;
 
 impl At {
@@ -47,7 +47,7 @@ impl At {
 }
 
 // Where each byte of an area stands.
-#[derive(Drop)]
+#[derive(Clone, Copy)]
 pub struct AreaAt;
 
 impl AreaAt {

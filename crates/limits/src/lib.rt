@@ -1,6 +1,8 @@
 // The limits of each call's parameters, as code.
 // It promises: `within_limits` is the test of `interface`'s table of limits (specs/Limits), for any request and any image.
 // It stands on `interface`, whose definitions it computes.
+#![tactic(auto)]
+
 ghost use Rattle.std.specs.Prelude.{◌≡◌, ◌+◌, ltb};
 ghost use Rattle.interface.specs.Numbers.{page_count, address_count, byte_values};
 ghost use Rattle.interface.specs.Limits.{between, rights_ok, pages_ok, place_ok, backing_ok};

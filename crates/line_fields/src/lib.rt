@@ -1,6 +1,8 @@
 // A field of a line, read where it stands.
 // It promises what the field says, as a field and as a number (`field_at`, lines/specs/Lines).
 // It stands on `lines` for where the fields stand, on `blanks` and `digits` for a field of one digit, and on `numerals` for any other.
+#![tactic(auto)]
+
 ghost use Rattle.std.specs.Prelude.{◌≡◌, ◌<◌, length};
 ghost use Rattle.columns.specs.Sizes.{line_bytes};
 ghost use Rattle.columns.specs.Reading.{as_field};

@@ -2,6 +2,8 @@
 // It promises that a line's numbers stand at its place and the rest stays (`put_line`), and that the line taken from there is the one that was put
 // (`numbers-back` of proofs/NumbersLaws).
 // It stands on `lines` for what a line says. `read_ahead` puts the lines of a roll so.
+#![tactic(auto)]
+
 ghost use Rattle.std.specs.Prelude.{◌≡◌, [], ◌∷◌, ◌++◌, ◌+◌, ◌*◌, ◌≤◌, length, take, drop};
 ghost use Rattle.line_numbers.specs.Numbers.{line_number_count, numbers_of, line_in};
 

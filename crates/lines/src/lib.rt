@@ -1,6 +1,8 @@
 // The roll's text: what a line of the roll says, where each line stands in the lent bytes, and how many lines they are.
 // It promises that a line has one accepted form: what is taken for a request is that request's print, and every request's print is taken (proofs/LineLaws).
 // It stands on `columns` for a number in 6 columns, and on `interface` for the request. `parser` parses a line.
+#![tactic(auto)]
+
 ghost use Rattle.std.specs.Prelude.{◌≡◌};
 ghost use Rattle.lines.specs.Lines.{lines_of};
 
@@ -8,7 +10,7 @@ use columns::Field;
 use interface::Request;
 
 // What a line of the roll says: a call, or nothing.
-#[derive(Drop)]
+#[derive(Clone, Copy)]
 pub enum Line {
     Call(Request),
     Malformed,

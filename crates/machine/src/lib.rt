@@ -3,6 +3,8 @@
 // and gives up being the only thing left open; a refused call leaves state, pool and table as they were. It asks nothing of its caller.
 // It stands on `soundness` for the test of a state, on `rewind_call`, `in_place` and `performing` for a call on one sandbox, and on `totals` for what the
 // sandboxes have together.
+#![tactic(auto)]
+
 ghost use Rattle.std.specs.Prelude.{◌≡◌};
 ghost use Rattle.state.specs.World.{world_of};
 ghost use Rattle.step.specs.Step.{Stepped};

@@ -3,6 +3,8 @@
 // marks of these frames. specs/Named.antt says what that means, proofs/MarkLaws.antt that the pass says it, and that it counts the entries
 // that name a frame. The pass is made in `entry_pass`; here the entries of a sandbox that name a frame are counted, and eight in a row are looked at.
 // It stands on `frames`, for the marks and the number of a frame.
+#![tactic(auto)]
+
 ghost use Rattle.std.specs.Prelude.{◌≡◌, ◌+◌, ◌*◌, ◌≤◌, ◌<◌, eqb, length, get_or};
 ghost use Rattle.basics.specs.Ranges.{every};
 ghost use Rattle.interface.specs.Numbers.{sandbox_entries, table_entries};
@@ -12,7 +14,7 @@ ghost use Rattle.marks.specs.Named.{used as usedOne, used_below};
 use frames::Held;
 
 // What a pass over entries found: whether each names none or a frame of the pool, and none names a frame twice; and the marks of these frames.
-#[derive(Drop)]
+#[derive(Clone, Copy)]
 pub struct Marks {
     pub good: bool,
     pub held: Held,

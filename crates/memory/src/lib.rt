@@ -4,3 +4,5 @@
 // frames are what is asked of them (proofs/RewindRuns). The code is in `rewinding` and `effects`.
 // It stands on `table` for the store, on `rewind_cases` and `rewound_store` for a rewind of it, on `granting`, `reuse` and `kept` for the runs, on `content`
 // for what a page reads, and on `rules` for what a request within its limits is.
+
+#![tactic(auto)]

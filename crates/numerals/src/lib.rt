@@ -1,6 +1,8 @@
 // A numeral in 6 columns, read: blanks, then digits.
 // It promises what the columns say, as a field and as a number (`field_of`, `as_field`, columns/specs).
 // It stands on `digits` for those behind the blanks.
+#![tactic(auto)]
+
 ghost use Rattle.std.specs.Prelude.{◌≡◌, length};
 ghost use Rattle.columns.specs.Fields.{field_of};
 ghost use Rattle.columns.specs.Reading.{as_field};

@@ -4,6 +4,8 @@
 // (proofs/KeptLaws). One area more is put behind those that are packed (specs/ByAreas), as if its pages were put there one by one (proofs/RunLaws). They
 // are packed anew after a change in `repacking`.
 // It stands on `areas`, whose runs it makes, on `area_parts`, and on `basics` and `interface`.
+#![tactic(auto)]
+
 pub mod pack;
 
 pub use pack::{Change, Packed};

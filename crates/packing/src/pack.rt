@@ -9,7 +9,7 @@ use areas::area::{Area, Areas};
 use interface::Attributes;
 
 // A change of some pages: they become mapped from a first page with these attributes on, or unmapped, or get rights, or become committed.
-#[derive(Drop)]
+#[derive(Clone, Copy)]
 pub enum Change {
     Map(Attributes),
     Unmap,
@@ -18,7 +18,7 @@ pub enum Change {
 }
 
 // Areas, and whether they are all: a ninth is left out.
-#[derive(Drop)]
+#[derive(Clone, Copy)]
 pub struct Packed {
     pub areas: Areas,
     pub fits: bool,

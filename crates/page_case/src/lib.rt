@@ -2,6 +2,8 @@
 // It promises: the case is the definition's (rewind_cases/specs/Rewind, `case_of`), and so the only one that the page meets.
 // It stands on `rewind_cases` for the cases, and on `interface` for a page's backing. (A crate of its own, so that an edit of the definitions is tried without
 // it.)
+#![tactic(auto)]
+
 ghost use Rattle.std.specs.Prelude.{◌≡◌};
 ghost use Rattle.rewind_cases.specs.Rewind.{case_of};
 

@@ -2,6 +2,8 @@
 // It promises: two pages are alike where all their bytes are, in the terms of table/specs/Store and Backing. Nothing is copied and nothing changes.
 // It stands on `table` for entries and for what a page's bytes are, on `pages` for two parts compared, on `frames` for the number of a frame,
 // and on `interface` for backings.
+#![tactic(auto)]
+
 ghost use Rattle.std.specs.Prelude.{◌≡◌, ◌*◌, ◌≤◌, length};
 ghost use Rattle.interface.specs.Numbers.{page_bytes, most_frames};
 ghost use Rattle.pages.specs.Parts.{same_bytes};

@@ -3,6 +3,8 @@
 // It promises: `decide_pages` gives the number of `interface`'s one table of refusals, for any call that no row before 9 refuses, on a sandbox with a sound
 // record, and the areas afterwards.
 // It stands on `page_rows` and `share_row` for the tests of the rows, and on `rules` for what results.
+#![tactic(auto)]
+
 ghost use Rattle.std.specs.Prelude.{◌≡◌, true};
 ghost use Rattle.interface.specs.declared.answer.Refusal.TheVariants.{NotMapped};
 ghost use Rattle.areas.specs.Areas.{empty};
@@ -19,14 +21,14 @@ use rules::packed_after;
 use share_row::share_exceeded;
 
 // Whether a request is accepted, or why it is refused.
-#[derive(Drop)]
+#[derive(Clone, Copy)]
 pub enum Verdict {
     Accepted,
     Refused(Refusal),
 }
 
 // A verdict, and the areas that an accepted request leaves; no areas where it is refused.
-#[derive(Drop)]
+#[derive(Clone, Copy)]
 pub struct Decision {
     pub verdict: Verdict,
     pub areas: Areas,

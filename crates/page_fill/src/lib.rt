@@ -1,6 +1,8 @@
 // A frame filled with the bytes of a page: those of the frame that an entry names, or those that the page starts with.
 // It promises: the pool is left with that frame's bytes replaced (`set_frame`) by what table/specs says the page reads there (`page_from`), and no other.
 // It stands on `table` for entries and backings, on `pool` and `pages` for the bytes of a frame, and on `interface` for a page's backing.
+#![tactic(auto)]
+
 ghost use Rattle.std.specs.Prelude.{◌≡◌, ◌+◌, ◌*◌, ◌≤◌, length};
 ghost use Rattle.interface.specs.Numbers.{page_bytes, most_frames};
 ghost use Rattle.pages.specs.Parts.{set_frame};

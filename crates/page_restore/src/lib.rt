@@ -3,6 +3,8 @@
 // "whether any byte differed" (specs/Differs, `page_differs`).
 // It stands on `page_case` and `rewind_cases` for the cases and the definition, on `table` for entries and the store, on `pool` and `pages` for the bytes of a
 // frame, and on `interface` for a page's backing.
+#![tactic(auto)]
+
 ghost use Rattle.std.specs.Prelude.{◌≡◌, true, ◌+◌, ◌*◌, ◌≤◌, ◌<◌, length};
 ghost use Rattle.interface.specs.Numbers.{page_bytes, page_count, table_entries};
 ghost use Rattle.frames.specs.declared.Held.{Held as Words};

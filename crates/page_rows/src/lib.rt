@@ -2,6 +2,8 @@
 // It promises: each test is its row's condition in `interface`'s one table of refusals. No lent memory is touched here.
 // It stands on `areas`, `area_counts` and `area_gaps` for the pages, on `rules` for what a request within its limits is, and on `rows` for the page that an
 // address names.
+#![tactic(auto)]
+
 ghost use Rattle.std.specs.Prelude.{◌≡◌};
 ghost use Rattle.interface.specs.declared.answer.Refusal.TheVariants.{NotMapped, AlreadyMapped, NoGap, NotWritable};
 ghost use Rattle.interface.specs.Refusals.{View, applies};

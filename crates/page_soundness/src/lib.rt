@@ -3,6 +3,8 @@
 // it shows.
 // It stands on `page_test` for the test, on `committed_pages` for the parts that look at no entry, on `areas`, along which it goes, and on `marks` for the
 // entries of a sandbox.
+#![tactic(auto)]
+
 ghost use Rattle.std.specs.Prelude.{◌≡◌, List, ℕ, ◌+◌, ◌-◌, ◌≤◌, ◌<◌, eqb, length, get_or};
 ghost use Rattle.interface.specs.Numbers.{page_count, sandbox_count, table_entries};
 ghost use Rattle.basics.specs.Ranges.{every};

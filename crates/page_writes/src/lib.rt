@@ -2,6 +2,8 @@
 // address order".
 // It promises: the lines put are those of specs/PageLines. Pool, table and image are only read.
 // It stands on `printing` for a line put, on `table` and `frame_bytes` for the page's back frame, and on `archive` for the lines of a roll.
+#![tactic(auto)]
+
 ghost use Rattle.std.specs.Prelude.{◌≡◌, ◌+◌, ◌*◌, ◌≤◌, ◌<◌, length};
 ghost use Rattle.interface.specs.Numbers.{page_bytes, page_count, sandbox_count};
 ghost use Rattle.interface.specs.Requests.{request_of, write_code};

@@ -2,12 +2,14 @@
 // It promises what each function leaves in the part, byte for byte, and laws (proofs/) of parts and frames for any page length. A part is restored in
 // `part_restore`.
 // It stands on the shared words alone: no function here takes a page number or a frame number.
+#![tactic(auto)]
+
 ghost use Rattle.std.specs.Prelude.{◌≡◌, ◌<◌, length, get_or, set};
 ghost use Rattle.interface.specs.Numbers.{page_bytes};
 ghost use Rattle.pages.specs.Parts.{zeros, same_bytes};
 
 // "a page has 256 bytes"
-#[derive(Drop)]
+#[derive(Clone, Copy)]
 pub struct Page;
 
 impl Page {

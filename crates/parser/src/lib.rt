@@ -1,6 +1,8 @@
 // A line of the roll parsed, by itself and at its place in the lent bytes.
 // It promises what the line says (`parsed`, `line_at`, lines/specs/Lines).
 // It stands on `lines` for the form of a line, and on `line_fields` for its fields.
+#![tactic(auto)]
+
 ghost use Rattle.std.specs.Prelude.{◌≡◌};
 ghost use Rattle.lines.specs.Lines.{parsed, line_at};
 

@@ -2,6 +2,8 @@
 // It promises: of any length, the part then has the other's bytes, and the word is the definition's (pages/specs/Parts, `differs`), which holds exactly where
 // the two were not equal (pages/proofs/SameLaws, `differs-told`).
 // It stands on `pages` for parts that are filled and compared. (A crate of its own, so that an edit of those is tried without it.)
+#![tactic(auto)]
+
 ghost use Rattle.std.specs.Prelude.{◌≡◌, length};
 ghost use Rattle.pages.specs.Parts.{differs};
 

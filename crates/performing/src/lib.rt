@@ -4,6 +4,8 @@
 // A rewind is performed by `rewind_call`.
 // It stands on `decision` for what is refused, on `effects` and `values` for the lent memory, the runs and the value, on `rules` for the sandbox's record, and
 // on `totals` for what it is told of the other sandboxes.
+#![tactic(auto)]
+
 ghost use Rattle.std.specs.Prelude.{◌≡◌, true, List, ◌<◌};
 ghost use Rattle.interface.specs.Numbers.{sandbox_count};
 ghost use Rattle.interface.specs.Requests.{is_call, rewind_code};

@@ -4,6 +4,8 @@
 // length (specs/Replies of `conversation`).
 // It stands on `playing`, on `conversation` for what is promised, on `image_file` for the image, and on the kit's `io`, `os` and `libc`; which bytes these
 // read and write nothing proves.
+#![tactic(auto)]
+
 ghost use Rattle.std.specs.Prelude.{◌≡◌, ◌≤◌, length};
 ghost use Rattle.columns.specs.Sizes.{line_bytes, most_lines, reply_bytes};
 ghost use Rattle.state.specs.World.{world_of};

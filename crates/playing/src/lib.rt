@@ -1,6 +1,8 @@
 // A roll played over lent bytes: lines are read ahead, then each is answered and its reply printed, in order; and so on until all are.
 // It promises that the replies are those of a run of the well-formed lines' requests, and refusal 1 for each other line (`Played` of `roll`).
 // It stands on `read_ahead` for the lines, on `replying` for the replies to them, and on `roll` for what is played.
+#![tactic(auto)]
+
 ghost use Rattle.std.specs.Prelude.{◌≡◌, ◌+◌, ◌*◌, ◌≤◌, min, length};
 ghost use Rattle.columns.specs.Sizes.{printed_numbers, reply_bytes};
 ghost use Rattle.lines.specs.Lines.{lines_of};
@@ -16,7 +18,7 @@ use replying::{Playing, reply_lines};
 use state::sandbox::Machine;
 
 // Who plays: the machine, whether its state is sound, and the number of the next line.
-#[derive(Drop)]
+#[derive(Clone, Copy)]
 pub struct Player {
     pub machine: Machine,
     pub sound: bool,

@@ -2,6 +2,8 @@
 // It promises that a function which is given a frame to change leaves the pool it got with "one frame's 256 bytes of the pool"
 // replaced, and no other byte changed.
 // It stands on `pages` and `part_restore`, to which the frame's part of the pool is lent on, and on `frames` for the number of a frame.
+#![tactic(auto)]
+
 ghost use Rattle.std.specs.Prelude.{◌≡◌, ◌+◌, ◌*◌, ◌≤◌, length};
 ghost use Rattle.interface.specs.Numbers.{page_bytes};
 ghost use Rattle.pages.specs.Parts.{zeros, frame, set_frame, differs};

@@ -1,6 +1,8 @@
 // The roll's text printed: a reply, and a request, into the bytes of a line.
 // It promises that what is printed is the line that `lines` defines, for a reply and for a request, and so the one form of a request that the parser takes.
 // It stands on `field_text` for a number printed as a field, and on `lines` for what a line has in its columns.
+#![tactic(auto)]
+
 ghost use Rattle.std.specs.Prelude.{◌≡◌, ◌≤◌, length};
 ghost use Rattle.columns.specs.Prints.{printed_request, printed_reply};
 ghost use Rattle.columns.specs.Sizes.{line_bytes, reply_bytes};

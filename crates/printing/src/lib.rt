@@ -1,6 +1,8 @@
 // Lines of a roll put into lent output one behind the other, or only counted.
 // It promises: a line stands where its number says, and nothing else of the output changes; where lines are only counted, nothing does.
 // It stands on `printer` for a request printed and on `archive` for the text of a roll.
+#![tactic(auto)]
+
 ghost use Rattle.std.specs.Prelude.{◌≡◌, [], ◌∷◌, ◌+◌, ◌<◌};
 ghost use Rattle.columns.specs.Sizes.{most_lines};
 ghost use Rattle.archive.specs.Archive.{only};
@@ -11,7 +13,7 @@ use lines::Line;
 use printer::print_request;
 
 // Where the next line goes, from 0 on, and whether lines are written or only counted.
-#[derive(Drop)]
+#[derive(Clone, Copy)]
 pub struct Cursor {
     pub line: u32,
     pub writes: bool,

@@ -2,6 +2,8 @@
 // It promises that what stands in the numbers is the roll's lines in their order, eight numbers a line (`numbers_in`), and so that each line can be taken
 // from its place (`line-ahead` of proofs/AheadLaws).
 // It stands on `reader` for the lines, and on `line_numbers` for a line's numbers.
+#![tactic(auto)]
+
 ghost use Rattle.std.specs.Prelude.{◌≡◌, ◌++◌, ◌*◌, ◌/◌, length, drop};
 ghost use Rattle.line_numbers.specs.Numbers.{line_number_count};
 ghost use Rattle.read_ahead.specs.ReadAhead.{numbers_in};

@@ -1,6 +1,8 @@
 // The roll's reader: the lent bytes, and the number of the line before which it stands.
 // It promises that what is read is what that line says (`line_at` of `lines`): the 43 bytes there, or "A short last line"; and that it moves on by one line.
 // It stands on `parser`, whose `line_at` does the work. `read_ahead` goes over lines with one reader.
+#![tactic(auto)]
+
 ghost use Rattle.std.specs.Prelude.{◌≡◌, ◌+◌, ◌<◌, ◌^◌};
 ghost use Rattle.lines.specs.Lines.{line_at};
 
@@ -8,7 +10,7 @@ use lines::Line;
 use parser::line_at;
 
 // "The roll's reader goes over the lent bytes line by line"
-#[derive(Drop)]
+#[derive(Clone, Copy)]
 pub struct Reader<'a> {
     pub src: &'a [u8],
     pub line: usize,

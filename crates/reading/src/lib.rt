@@ -3,6 +3,8 @@
 // in the terms of table/specs/Store, Backing and Virtual.
 // It stands on `table` for entries and the store, on `frame_bytes` and `pages` for a byte of a frame and of the image, on `frames`,
 // and on `slots` and `interface` for what stands at a page.
+#![tactic(auto)]
+
 mod backing;
 pub mod store;
 

@@ -2,6 +2,8 @@
 // It promises: the test of specs/Test, whatever numbers a record holds; every sound record passes it, and what passes is sound but for what is asked page by
 // page of both areas (proofs/RecordLaws).
 // It stands on `records`, which says what a sound record is, and on `area_soundness` for the areas. It knows nothing of frames.
+#![tactic(auto)]
+
 ghost use Rattle.std.specs.Prelude.{◌≡◌, ◌≤◌};
 ghost use Rattle.interface.specs.Numbers.{most_image_pages};
 ghost use Rattle.record_soundness.specs.Test.{fields_ok, record_ok};

@@ -2,6 +2,8 @@
 // refusals and areas are decided from it alone.
 // It promises: the charge, computed; what a sound record is (specs/Sound), and that what refusals are decided from is settled of one (proofs/SettledLaws).
 // It stands on `areas` for the mappings, and on `area_counts` for the pages that are charged.
+#![tactic(auto)]
+
 ghost use Rattle.std.specs.Prelude.{◌≡◌};
 ghost use Rattle.interface.specs.Slots.{charge_of};
 ghost use Rattle.areas.specs.Areas.{slots};
@@ -14,7 +16,7 @@ use areas::area::Areas;
 use interface::Request;
 
 // What is kept for a sandbox: whether it is open, its share, its areas, whether a snapshot was taken, and the snapshot's areas.
-#[derive(Drop)]
+#[derive(Clone, Copy)]
 pub struct Record {
     pub opened: bool,
     pub share: u8,

@@ -2,6 +2,8 @@
 // It promises: the areas after a change are those of `packing` (packing/specs/Pack), packed page by page from left to right, and it says when a ninth would
 // be needed. The code goes by the parts of areas, which comes to the same (proofs/PartLaws, BeforeLaws, RepackLaws).
 // It stands on `packing`, whose areas it puts one behind the other, on `area_parts`, which cuts them, and on `areas`, `basics` and `interface`.
+#![tactic(auto)]
+
 ghost use Rattle.std.specs.Prelude.{◌≡◌, ◌-◌, ◌≤◌};
 ghost use Rattle.interface.specs.Numbers.{page_count};
 ghost use Rattle.areas.specs.Areas.{slots};

@@ -3,3 +3,5 @@
 // accepts every line and has the snapshot again, as snapshot and as present pages; that its archive roll is then the same;
 // and that the text is read as the roll.
 // It stands on `archive` for the roll, on `claims` for runs of the machine, on `roll` for what lines say.
+
+#![tactic(auto)]

@@ -1,6 +1,8 @@
 // The reply to a line, printed at its place of the output.
 // It promises that the 19 bytes of its place are the answer's number and value under the line's number, and that the rest of the output is as it was.
 // It stands on `codes` for the number and the value of an answer, and on `printer` for the print.
+#![tactic(auto)]
+
 ghost use Rattle.std.specs.Prelude.{◌≡◌, ◌++◌, ◌+◌, ◌*◌, ◌≤◌, length, take, drop};
 ghost use Rattle.interface.specs.Answers.{number_of, value_of};
 ghost use Rattle.columns.specs.Prints.{printed_reply};

@@ -4,6 +4,8 @@
 // It stands on `line_numbers` for the lines, on `asking` for what a line asks, on `rewind_call`, `in_place`, `writing` and `performing` for a call on one
 // sandbox, on `totals` for what the sandboxes have together, on `reply_text` for the reply printed, and on `roll` for what a reply is and for what is known
 // of a state.
+#![tactic(auto)]
+
 ghost use Rattle.std.specs.Prelude.{◌≡◌, ◌+◌, ◌*◌, ◌/◌, ◌≤◌, length};
 ghost use Rattle.columns.specs.Sizes.{printed_numbers, reply_bytes};
 ghost use Rattle.line_numbers.specs.Numbers.{line_number_count};
@@ -23,7 +25,7 @@ use writing::write;
 
 // A roll that is being played: the machine's sandboxes and held marks, whether its state is sound, the number of the roll's first line, and how many lines are
 // answered. The machine stands here in its parts, so that a line takes one sandbox out and puts one back, and the others stay where they are.
-#[derive(Drop)]
+#[derive(Clone, Copy)]
 pub struct Playing {
     pub sandboxes: [Sandbox; Machine::SANDBOXES],
     pub held: Held,

@@ -3,6 +3,8 @@
 // is the one of specs/Changed (`changed_to`): together `RestoredTo`.
 // It stands on `page_restore` for one page, on `rewind_cases` and `rewound_store` for the definition and its laws, on `table` for entries and the store, and on
 // `slots` and `interface` for a page's backing.
+#![tactic(auto)]
+
 ghost use Rattle.std.specs.Prelude.{◌≡◌, ℕ, ◌+◌, ◌≤◌, ◌<◌, ltb, length, get_or};
 ghost use Rattle.basics.specs.Choice.{◌when◌else◌};
 ghost use Rattle.basics.specs.Ranges.{one};

@@ -2,6 +2,8 @@
 // It promises: a write gives up a frame of the longest run exactly where the share would be exceeded; the frame found is one that no entry names and no run
 // keeps.
 // It stands on `kept`, `runs` and `run_search` for the runs, on `marks` for the entries that name a frame, and on `free_frames` for one that is not held.
+#![tactic(auto)]
+
 ghost use Rattle.std.specs.Prelude.{◌≡◌, ℕ, ◌+◌, ◌*◌, ◌≤◌, ◌<◌, ltb, length};
 ghost use Rattle.interface.specs.Numbers.{sandbox_count, table_entries, most_frames, sandbox_entries};
 ghost use Rattle.frames.specs.Frames.{held};
@@ -17,7 +19,7 @@ use run_search::longest;
 use runs::Runs;
 
 // The runs, and the marks of all kept frames, once a frame was given up where it must be.
-#[derive(Drop)]
+#[derive(Clone, Copy)]
 pub struct Given {
     pub runs: Runs,
     pub kept: Held,

@@ -3,6 +3,8 @@
 // sandbox.
 // It stands on `few_rows` for what is refused, on `gathering` for the runs, on `rewinding` for the lent memory, on `records` and `rules` for the sandbox's
 // record, and on `step` for what a call is.
+#![tactic(auto)]
+
 ghost use Rattle.std.specs.Prelude.{◌≡◌, List, ◌<◌};
 ghost use Rattle.interface.specs.Numbers.{sandbox_count};
 ghost use Rattle.interface.specs.Requests.{rewind_code};

@@ -4,10 +4,12 @@
 // cases that there was before, and so is what a front then holds (proofs/BeforeLaws). The case is found in `page_case`, and a page is restored by it in
 // `page_restore`.
 // It stands on `table` for the store and its laws, and on `interface` for a page's backing.
+#![tactic(auto)]
+
 use interface::ImagePageNo;
 
 // The cases in the paper's order. Its "original PTE" is the front entry of the page, its "buddy PTE" the back entry.
-#[derive(Drop)]
+#[derive(Clone, Copy)]
 pub enum RewindCase {
     // "a page shared with the original PTE": not written since the snapshot, so it has no front.
     Shared,

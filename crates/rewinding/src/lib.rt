@@ -4,6 +4,8 @@
 // fronts there are: of the other entries, eight are looked at together.
 // It stands on `area_rewind` for one area and the pages before it, on `rewind_cases` for the definition, on `areas`, along which it goes, on `memory` for the
 // definitions of what is kept and their laws, on `content` for the backing of a page without a back, and on `rules` for what well formed areas are asked.
+#![tactic(auto)]
+
 pub mod store;
 
 pub use store::{Restored, rewind};

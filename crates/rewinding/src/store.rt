@@ -14,7 +14,7 @@ use interface::PageNo;
 use records::Record;
 
 // The held marks after a rewind, and "the number of committed pages still mapped whose bytes differed from the snapshot".
-#[derive(Drop)]
+#[derive(Clone, Copy)]
 pub struct Restored {
     pub held: Held,
     pub changed: u8,

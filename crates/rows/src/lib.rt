@@ -1,6 +1,8 @@
 // The rows of "Turned back" that look at whether a sandbox is open and has a snapshot, as tests: 4, 5, 7 and 8. Beside them the page that an address names.
 // It promises: each test is its row's condition in `interface`'s one table of refusals. No lent memory is touched here.
 // It stands on `records` for the record, and on `codes` for the calls that need a snapshot.
+#![tactic(auto)]
+
 ghost use Rattle.std.specs.Prelude.{◌≡◌, ◌<◌};
 ghost use Rattle.interface.specs.declared.answer.Refusal.TheVariants.{NotOpen, AlreadyOpen, SnapshotTaken, NoSnapshot};
 ghost use Rattle.interface.specs.Numbers.{sandbox_count, address_count};

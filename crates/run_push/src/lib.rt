@@ -2,6 +2,8 @@
 // It promises: the runs are those of the definition `pushed` (runs/specs/Row.antt): the newcomer takes the place of the shortest, of equals the newest, unless
 // it is no longer than that, and the others keep their order.
 // It stands on `runs` for the runs in their places, and on `run_search` for the shortest.
+#![tactic(auto)]
+
 ghost use Rattle.std.specs.Prelude.{◌≡◌, ◌<◌};
 ghost use Rattle.runs.specs.Row.{moved_runs, pushed};
 

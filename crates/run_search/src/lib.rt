@@ -1,6 +1,8 @@
 // Which run of kept frames is chosen by its length (A3): the longest, the shortest, or the one that suits so many pages.
 // It promises: the place found is that of the definition, `best` by the rule's test (specs/Search.antt), and one of the eight.
 // It stands on `runs` for the runs in their places, and on `run_choice` for which one a map takes and which one a write gives up from.
+#![tactic(auto)]
+
 ghost use Rattle.std.specs.Prelude.{◌≡◌, ◌<◌};
 ghost use Rattle.basics.specs.Rows.{best, no_longer, fitter};
 ghost use Rattle.run_choice.specs.Runs.{longest_run, run_for};
@@ -10,7 +12,7 @@ ghost use Rattle.run_search.specs.Search.{better_by, or_better};
 use runs::Runs;
 
 // Which run is chosen: the longest, the shortest, or the one that suits so many pages.
-#[derive(Drop)]
+#[derive(Clone, Copy)]
 enum Rule {
     Longest,
     Shortest,
@@ -59,7 +61,7 @@ fn best(runs: Runs, rule: Rule) -> u8
 }
 
 // A place, and the length of the run in it.
-#[derive(Drop)]
+#[derive(Clone, Copy)]
 struct Choice {
     place: u8,
     length: u8,

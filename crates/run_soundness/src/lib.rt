@@ -2,6 +2,8 @@
 // It promises: the test of specs/Test for the runs of a sandbox (proofs/RunLaws: true exactly of sound ones), and that of kept/specs/Test for the kept frames;
 // of the pool it reads the kept frames alone, and where a sandbox keeps none its entries are not counted.
 // It stands on `runs` and `marks` for what a sandbox's runs and entries come to, and on `totals` and `kept` for the kept frames.
+#![tactic(auto)]
+
 ghost use Rattle.std.specs.Prelude.{◌≡◌, List, ℕ, ◌*◌, ◌≤◌, ◌<◌, length, get_or};
 ghost use Rattle.interface.specs.Numbers.{page_bytes, sandbox_count, table_entries, most_frames, sandbox_entries};
 ghost use Rattle.frames.specs.declared.Held.{Held as Words};

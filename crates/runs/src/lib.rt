@@ -2,6 +2,8 @@
 // It promises: each method's outcome is a definition of specs/Row.antt, which goes by the lengths of the runs in the order
 // of their ages. Which run is chosen is found in `run_search`, a new one pushed in `run_push`.
 // It stands on `frames` for the frames of a run.
+#![tactic(auto)]
+
 ghost use Rattle.std.specs.Prelude.{◌≡◌, ◌≤◌, ◌<◌};
 ghost use Rattle.basics.specs.Ranges.{sum, every};
 ghost use Rattle.frames.specs.Frames.{none_held, same_held, count_held};
@@ -11,7 +13,7 @@ ghost use Rattle.runs.specs.Row.{row, lengths_of, no_runs, with_run_at};
 use frames::Held;
 
 // "At most 8 runs are kept": the oldest first. A place without a frame is no run, and may stand anywhere.
-#[derive(Drop)]
+#[derive(Clone, Copy)]
 pub struct Runs {
     pub list: [Held; Runs::PLACES],
 }

@@ -1,6 +1,8 @@
 // A sandbox in bytes: written, read and tested.
 // It promises: the bytes, and what is read of them, are those of layout/specs/Layout (`sandbox_bytes`, `sandbox_from`, `is_sandbox`).
 // It stands on `layout` for the definitions and their laws, on `fields` for a flag, on `places` for areas and runs, and on `state` for what is laid out.
+#![tactic(auto)]
+
 ghost use Rattle.std.specs.Prelude.{◌≡◌, length};
 ghost use Rattle.layout.specs.Layout.{sandbox_size, sandbox_bytes, sandbox_from, is_sandbox};
 

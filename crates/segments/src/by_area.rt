@@ -11,7 +11,7 @@ use printing::{Cursor, put_if};
 use slots::{kind_of, start_of};
 
 // Which of the two segments that go by areas.
-#[derive(Drop)]
+#[derive(Clone, Copy)]
 pub enum Segment {
     Maps,
     Protects,

@@ -1,6 +1,8 @@
 // Row 13 of "Turned back" as a test: whether the shares would exceed the pool, or the charge the share.
 // It promises: the test is the row's condition in `interface`'s one table of refusals. No lent memory is touched here.
 // It stands on `records` for the record and its charge, on `area_counts` for the pages counted, and on `rules` for what the rows before it have let pass.
+#![tactic(auto)]
+
 ghost use Rattle.std.specs.Prelude.{◌≡◌, true, ℕ};
 ghost use Rattle.interface.specs.declared.answer.Refusal.TheVariants.{ShareExceeded};
 ghost use Rattle.interface.specs.Refusals.{applies};

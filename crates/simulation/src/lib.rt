@@ -3,3 +3,5 @@
 // state stays sound (AnySound); what a refused and an accepted call leave (StepLaws, AcceptedLaws); and that a write finds the frame that it takes (TakenLaws).
 // A reader of the claims needs specs/Lent alone: what a start that is not refused is given.
 // It stands on `machine`, whose `step` is what `call` ensures, and on `plain`.
+
+#![tactic(auto)]

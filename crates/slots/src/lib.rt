@@ -1,6 +1,8 @@
 // What stands at a page, as code: questions about a slot and its backing, and what a change makes of them.
 // It promises: each function computes the definition of `interface` that it is named after.
 // It stands on `interface`, whose definitions it computes. (A crate of its own, so that an edit of those definitions is tried without it.)
+#![tactic(auto)]
+
 ghost use Rattle.std.specs.Prelude.{◌≡◌, ◌+◌, ◌<◌};
 ghost use Rattle.interface.specs.Slots.{is_mapped, is_committed, is_uncommitted, rights_at, backing_at, is_anonymous};
 ghost use Rattle.interface.specs.Slots.{with_rights, with_committed, advance, kind_of, start_of, follows};

@@ -1,6 +1,8 @@
 // The start: a fresh state over a cleared pool and table.
 // It promises: the state, pool and table of specs/Start in `state`, and its answer; where a length is wrong, nothing is cleared.
 // It stands on `state` for the fresh state and on `freeing` for the store that is cleared.
+#![tactic(auto)]
+
 ghost use Rattle.std.specs.Prelude.{◌≡◌, eqb};
 ghost use Rattle.interface.specs.Answers.{number_of};
 ghost use Rattle.state.specs.World.{world_of};
@@ -11,7 +13,7 @@ use state::lengths::lengths_ok;
 use state::sandbox::Machine;
 
 // What a start gives: a state, fresh either way, and its answer.
-#[derive(Drop)]
+#[derive(Clone, Copy)]
 pub struct Started {
     pub machine: Machine,
     pub answer: Answer,

@@ -8,14 +8,14 @@ use records::Record;
 use runs::Runs;
 
 // What is kept for a sandbox: its record, and the runs of kept frames.
-#[derive(Drop)]
+#[derive(Clone, Copy)]
 pub struct Sandbox {
     pub rec: Record,
     pub runs: Runs,
 }
 
 // "Four sandboxes stand in a row, numbered 0 to 3"; "Held frames are marked one bit a frame".
-#[derive(Drop)]
+#[derive(Clone, Copy)]
 pub struct Machine {
     pub sandboxes: [Sandbox; Machine::SANDBOXES],
     pub held: Held,

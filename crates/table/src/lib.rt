@@ -5,6 +5,8 @@
 // `filling`, pages are read in `reading`, and what a rewind makes of a page stands in `rewind_cases`.
 // It stands on `pages` for the bytes of a frame, on `frames` for the held marks, on `marks` for the frames that entries name, and on
 // `interface` for what a page is.
+#![tactic(auto)]
+
 pub mod entry;
 pub mod page;
 

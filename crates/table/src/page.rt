@@ -2,7 +2,7 @@
 use interface::{PageNo, Slot};
 
 // Whose page it is, its number, and what stands there.
-#[derive(Drop)]
+#[derive(Clone, Copy)]
 pub struct VirtualPage {
     pub sandbox: u8,
     pub number: PageNo,

@@ -2,6 +2,8 @@
 // It promises: held marks are told from the frames that the table names by the test of the definition (`marksb`, marks/specs/Marks.antt), and the frames of a
 // sandbox are counted by their marks.
 // It stands on `entry_pass` for the pass over the entries, and on `frames` for the marks.
+#![tactic(auto)]
+
 ghost use Rattle.std.specs.Prelude.{◌≡◌, ◌*◌, ◌≤◌, ◌<◌, length};
 ghost use Rattle.interface.specs.Numbers.{most_frames, sandbox_entries, table_entries};
 ghost use Rattle.frames.specs.Frames.{count_held};

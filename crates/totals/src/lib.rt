@@ -1,6 +1,8 @@
 // What the four sandboxes have together: their shares, and the frames that their runs keep.
 // It promises: the sum of the shares, and the marks of kept frames as a pass over the runs finds them (kept/specs/Test).
 // It stands on `state` for the sandboxes, on `kept` for the runs of one sandbox, on `marks` and on `frames` for the held marks.
+#![tactic(auto)]
+
 ghost use Rattle.std.specs.Prelude.{◌≡◌, ◌≤◌, get_or};
 ghost use Rattle.basics.specs.Ranges.{sum};
 ghost use Rattle.runs.specs.Row.{row};

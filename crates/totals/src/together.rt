@@ -12,7 +12,7 @@ use state::sandbox::{Machine, Sandbox};
 
 // The marks of the frames that entries name, those of all kept frames, and the shares together. The kept frames are put together only for a write, the one call
 // that may take a frame, since all runs are looked at for them.
-#[derive(Drop)]
+#[derive(Clone, Copy)]
 pub struct Together {
     pub held: Held,
     pub kept: Held,

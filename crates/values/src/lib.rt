@@ -2,6 +2,8 @@
 // It promises: the value is the one stated in memory/specs/Memory (`value_at`). Nothing is changed.
 // It stands on `memory` for the definition and its laws, on `content` for what is read and compared, and on `area_counts` and `table_marks` for the
 // pages and frames that are counted.
+#![tactic(auto)]
+
 ghost use Rattle.std.specs.Prelude.{◌≡◌, ◌≤◌, ◌<◌, length};
 ghost use Rattle.interface.specs.Numbers.{page_bytes, sandbox_count, most_frames, pages_in};
 ghost use Rattle.interface.specs.Requests.{rewind_code};

@@ -1,6 +1,8 @@
 // The whole archive roll of a snapshot, segment by segment: counted, or written into lent output; and written only where it fits.
 // It promises: the lines are those of `roll_of`, and what is answered and left is `fitted` (specs/Whole). A roll that does not fit leaves every byte.
 // It stands on `segments` for the roll's maps, writes and protects, and on `printing` for a line put.
+#![tactic(auto)]
+
 ghost use Rattle.std.specs.Prelude.{◌≡◌};
 ghost use Rattle.interface.specs.Requests.{request_of};
 ghost use Rattle.printing.specs.Put.{placed, put, Room};

@@ -2,6 +2,8 @@
 // It promises: each outcome is what specs/Word.antt says of the word's binary digits; proofs/WordLaws has the laws of these for any number and any place,
 // proofs/OperatorLaws what the machine's operators do to them, proofs/SumLaws sums of 0s and 1s.
 // It stands on `basics` alone.
+#![tactic(auto)]
+
 ghost use Rattle.std.specs.Prelude.{◌≡◌, ◌<◌, eqb};
 ghost use Rattle.basics.specs.Ranges.{one, lowest};
 ghost use Rattle.words.specs.Word.{bit, put_bit, word_bits};

@@ -3,6 +3,8 @@
 // gives up first.
 // It stands on `memory` for the definitions and their laws, on `reuse` for the frame that is taken, on `totals` for the frames that are kept, on `filling`
 // for what is put into it, and on `granting` for the type of what a request leaves.
+#![tactic(auto)]
+
 ghost use Rattle.std.specs.Prelude.{◌≡◌};
 ghost use Rattle.interface.specs.Requests.{write_code};
 ghost use Rattle.table.specs.Store.{kept};
