@@ -5,49 +5,49 @@ use borrow.Author.Rules.{rules}
 use Rattle.archiver.proofs.main.Statement.{statement}
 use Rattle.archiver.proofs.main.Tie as tie
 
-slice-aggregate-load : tie.Need-slice-aggregate-load
+slice-aggregate-load : tie.Need-slice_bounds-load-end
 slice-aggregate-load c = search rules
 
 load-requires : tie.Need-load-requires
 load-requires c κs = search rules
 
-image-bytes-requires : tie.Need-image-bytes-requires
+image-bytes-requires : tie.Need-image_bytes-bytes-requires
 image-bytes-requires c κs = search rules
 
-output-requires : tie.Need-output-requires
+output-requires : tie.Need-output-out-requires
 output-requires c κs = search rules
 
-sandbox-requires : tie.Need-sandbox-requires
+sandbox-requires : tie.Need-sandbox-sandbox-requires
 sandbox-requires c κs = search rules
 
-slice-aggregate-perform : tie.Need-slice-aggregate-perform
+slice-aggregate-perform : tie.Need-slice_bounds-perform-end
 slice-aggregate-perform c = search rules
 
-slice-aggregate-perform-2 : tie.Need-slice-aggregate-perform-2
+slice-aggregate-perform-2 : tie.Need-slice_bounds-perform-end-2
 slice-aggregate-perform-2 c = search rules
 
-array-share-prefix-image : tie.Need-array-share-prefix-image
+array-share-prefix-image : tie.Need-slice_bounds-image-end
 array-share-prefix-image c = search rules
 
-slice-aggregate-perform-3 : tie.Need-slice-aggregate-perform-3
+slice-aggregate-perform-3 : tie.Need-slice_bounds-perform-end-3
 slice-aggregate-perform-3 c = sym (length-take-le _ _ (array-share-prefix-image c.before))
 
-slice-aggregate-perform-4 : tie.Need-slice-aggregate-perform-4
+slice-aggregate-perform-4 : tie.Need-slice_bounds-perform-end-4
 slice-aggregate-perform-4 c = search rules
 
-perform-requires : tie.Need-perform-requires
+perform-requires : tie.Need-perform-answer-requires
 perform-requires c κs = search rules
 
-size-requires : tie.Need-size-requires
+size-requires : tie.Need-size-size-requires
 size-requires c κs = search rules
 
-array-share-prefix-out : tie.Need-array-share-prefix-out
+array-share-prefix-out : tie.Need-slice_bounds-out-end
 array-share-prefix-out c = search rules
 
-slice-aggregate-write-all : tie.Need-slice-aggregate-write-all
+slice-aggregate-write-all : tie.Need-slice_bounds-write_all-end
 slice-aggregate-write-all c = sym (length-take-le _ _ (array-share-prefix-out c.before))
 
-write-all-requires : tie.Need-write-all-requires
+write-all-requires : tie.Need-write_all-requires
 write-all-requires c κs = search rules
 
 complain-requires : tie.Need-complain-requires

@@ -11,5 +11,5 @@ as_long n a = sym (length-replicate n a)
 returns : tie.Need-returns
 returns c = as_long 705286 0
 
-pub output-spec : {M : Type 1} → statement M
-output-spec = tie.close (tie.spec returns)
+pub output_spec : {M : Type 1} → statement M
+output_spec = tie.close (tie.spec returns)

@@ -42,99 +42,99 @@ same-sandbox c row = let l = four c in get_d_any c.args.machine.sandboxes c.args
 
 -- ---- what is known behind each test
 
-abbrev behind_no : tie.Then1 → tie.Start
+abbrev behind_no : tie.Then-not-sound → tie.Start
 behind_no c = c.before.before.before.before.before.before
 
-fails : (c : tie.Then1) → let start = behind_no c in soundb (image_in start) (world_in start) ≡ false
-fails c = sym c.before.sound.ensures ∙ not-true c.before.sound.result c.if1.true
+fails : (c : tie.Then-not-sound) → let start = behind_no c in soundb (image_in start) (world_in start) ≡ false
+fails c = sym c.before.sound.ensures ∙ not-true c.before.sound.result c.if-not-sound.true-raw
 
-abbrev behind_state : tie.Else1 → tie.Start
+abbrev behind_state : tie.Else-not-sound → tie.Start
 behind_state c = c.before.before.before.before.before.before
 
-passes : (c : tie.Else1) → soundb (image_in (behind_state c)) (world_in (behind_state c)) ≡ true
-passes c = sym c.before.sound.ensures ∙ not-false c.before.sound.result c.if1.false
+passes : (c : tie.Else-not-sound) → soundb (image_in (behind_state c)) (world_in (behind_state c)) ≡ true
+passes c = sym c.before.sound.ensures ∙ not-false c.before.sound.result c.if-not-sound.false-raw
 
-abbrev behind_row : tie.Else2 → tie.Start
+abbrev behind_row : tie.Else-k-ge-SANDBOXES → tie.Start
 behind_row c = behind_state c.before
 
-in-row : (c : tie.Else2) → (behind_row c).args.sandbox < 4
-in-row c = omega (arith, c.if2.false)
+in-row : (c : tie.Else-k-ge-SANDBOXES) → (behind_row c).args.sandbox < 4
+in-row c = omega (arith, c.if-k-ge-SANDBOXES.false)
 
-same : (c : tie.Else2) → (sandbox_in (behind_row c)).rec ≡ record_at (world_in (behind_row c)) (behind_row c).args.sandbox
+same : (c : tie.Else-k-ge-SANDBOXES) → (sandbox_in (behind_row c)).rec ≡ record_at (world_in (behind_row c)) (behind_row c).args.sandbox
 same c = ap (λ (b : Sandbox). b.rec) (same-sandbox (behind_row c) (in-row c))
 
-abbrev behind_open : tie.Else3 → tie.Else2
+abbrev behind_open : tie.Else-not-b → tie.Else-k-ge-SANDBOXES
 behind_open c = c.before.before.before.before
 
-is_open : (c : tie.Else3) → let start = behind_row (behind_open c) in (record_at (world_in start) start.args.sandbox).opened ≡ true
-is_open c = rw (← same (behind_open c)) (not-false (sandbox_in (behind_row (behind_open c))).rec.opened c.if3.false)
+is_open : (c : tie.Else-not-b) → let start = behind_row (behind_open c) in (record_at (world_in start) start.args.sandbox).opened ≡ true
+is_open c = rw (← same (behind_open c)) (not-false (sandbox_in (behind_row (behind_open c))).rec.opened c.if-not-b.false)
 
-abbrev behind_taken : tie.Else4 → tie.Else3
+abbrev behind_taken : tie.Else-not-b-2 → tie.Else-not-b
 behind_taken c = c.before.before
 
-has-snapshot : (c : tie.Else4) → let start = behind_row (behind_open (behind_taken c)) in (record_at (world_in start) start.args.sandbox).taken ≡ true
-has-snapshot c = let row = behind_open (behind_taken c) in rw (← same row) (not-false (sandbox_in (behind_row row)).rec.taken c.if4.false)
+has-snapshot : (c : tie.Else-not-b-2) → let start = behind_row (behind_open (behind_taken c)) in (record_at (world_in start) start.args.sandbox).taken ≡ true
+has-snapshot c = let row = behind_open (behind_taken c) in rw (← same row) (not-false (sandbox_in (behind_row row)).rec.taken c.if-not-b-2.false)
 
 -- ---- the needs
 
 sound-requires : tie.Need-sound-requires
 sound-requires c κs = search rules
 
-returns : tie.Need-returns
+returns : tie.Need-returns-then-not-sound
 returns c =
     let start = behind_no c in
     refused-3 (image_in start) (world_in start) start.args.sandbox (out_in start) (fails c)
 
-returns-2 : tie.Need-returns-2
+returns-2 : tie.Need-returns-then-k-ge-SANDBOXES
 returns-2 c =
     let start = behind_state c.before in
-    refused-4 (image_in start) (world_in start) start.args.sandbox (out_in start) (passes c.before) c.if2.true
+    refused-4 (image_in start) (world_in start) start.args.sandbox (out_in start) (passes c.before) c.if-k-ge-SANDBOXES.true
 
-mul-b : tie.Need-overflow-mul-b
+mul-b : tie.Need-offset_bounds-sandboxes-k
 mul-b c = search rules
 
-array-copy-out-b : tie.Need-array-copy-out-b
+array-copy-out-b : tie.Need-bounds-sandboxes-k
 array-copy-out-b c = search rules
 
-returns-3 : tie.Need-returns-3
+returns-3 : tie.Need-returns-then-not-b
 returns-3 c =
     let row = c.before.before.before.before in
     let start = behind_row row in
     refused-closed (image_in start) (world_in start) start.args.sandbox (out_in start) (passes row.before) (in-row row)
-    (rw (← same row) (not-true (sandbox_in start).rec.opened c.if3.true))
+    (rw (← same row) (not-true (sandbox_in start).rec.opened c.if-not-b.true))
 
-returns-4 : tie.Need-returns-4
+returns-4 : tie.Need-returns-then-not-b-2
 returns-4 c =
     let opened = c.before.before in
     let row = behind_open opened in
     let start = behind_row row in
     refused-8 (image_in start) (world_in start) start.args.sandbox (out_in start) (passes row.before) (in-row row) (is_open opened)
-    (rw (← same row) (not-true (sandbox_in start).rec.taken c.if4.true))
+    (rw (← same row) (not-true (sandbox_in start).rec.taken c.if-not-b-2.true))
 
-cast-t22 : tie.Need-overflow-cast-t22
+cast-t22 : tie.Need-overflow_cast-snapshot
 cast-t22 c = search rules
 
-returns-5 : tie.Need-returns-5
+returns-5 : tie.Need-returns
 returns-5 c =
     let taken = c.before.before.before.before.before in
     let row = behind_open (behind_taken taken) in
     let start = behind_row row in
-    let fitting = c.before.before.put-fitting in
+    let fitting = c.before.before.put_fitting in
     filed (image_in start) (world_in start) start.args.sandbox (out_in start) (passes row.before) (in-row row) (is_open (behind_taken taken))
     (has-snapshot taken) fitting.result fitting.new.0 _
     (rw (same row) (roll-here (image_in start) (world_in start) start.args.sandbox (passes row.before) (in-row row))) fitting.ensures
 
-put-fitting-requires : tie.Need-put-fitting-requires
+put-fitting-requires : tie.Need-put_fitting-requires
 put-fitting-requires c κs =
     let row = behind_open (behind_taken c.before.before) in
     let start = behind_row row in
     rw (same row) (readable (image_in start) (world_in start) start.args.sandbox (passes row.before) (in-row row))
 
-same_length : tie.Need-same-length
+same_length : tie.Need-shape_of-out
 same_length c = search rules
 
-pub write-archive-spec : {M : Type 1} → statement M
-write-archive-spec =
+pub write_archive_spec : {M : Type 1} → statement M
+write_archive_spec =
     tie.close
     (tie.spec
     sound-requires

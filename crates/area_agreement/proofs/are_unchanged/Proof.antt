@@ -16,53 +16,53 @@ use Rattle.area_agreement.proofs.are_unchanged.Tie as tie
 abbrev of : Areas → Areas → ℕ → Bool
 of present snapshot k = stays (get_or present.list k none) (get_or snapshot.list k none)
 
-abbrev invariant-loop : tie.invariant-loop
+abbrev invariant-loop : tie.invariant-loop-k
 invariant-loop present snapshot same₀ k₀ same k = (k ≤ 8) × (same ≡ every (of present snapshot) 0 k)
 
-abbrev decreases-loop : tie.decreases-loop
+abbrev decreases-loop : tie.decreases-loop-k
 decreases-loop present snapshot same₀ k₀ same k = 8 - k
 
-loop-holds : tie.Need-loop-init invariant-loop decreases-loop
+loop-holds : tie.Need-loop-k-init invariant-loop decreases-loop
 unfolding every
 loop-holds c = (omega arith, refl)
 
-mul-area : tie.Need-overflow-mul-area invariant-loop decreases-loop
+mul-area : tie.Need-offset_bounds-present-k invariant-loop decreases-loop
 mul-area c = omega arith
 
-element-copy-out-area : tie.Need-element-copy-out-area invariant-loop decreases-loop
+element-copy-out-area : tie.Need-bounds-present-k invariant-loop decreases-loop
 element-copy-out-area c = omega arith
 
-mul-copied : tie.Need-overflow-mul-copied invariant-loop decreases-loop
+mul-copied : tie.Need-offset_bounds-snapshot-k invariant-loop decreases-loop
 mul-copied c = omega arith
 
-element-copy-out-copied : tie.Need-element-copy-out-copied invariant-loop decreases-loop
+element-copy-out-copied : tie.Need-bounds-snapshot-k invariant-loop decreases-loop
 element-copy-out-copied c = omega arith
 
-stays-requires : tie.Need-stays-requires invariant-loop decreases-loop
+stays-requires : tie.Need-stays-same-requires invariant-loop decreases-loop
 stays-requires c κs = tt
 
-add-k : tie.Need-overflow-add-k invariant-loop decreases-loop
+add-k : tie.Need-overflow_step-k invariant-loop decreases-loop
 add-k c = omega arith
 
-loop-less : tie.Need-loop-smaller invariant-loop decreases-loop
+loop-less : tie.Need-loop-k-smaller invariant-loop decreases-loop
 loop-less c = omega arith
 
-loop-again : tie.Need-loop-preserved invariant-loop decreases-loop
+loop-again : tie.Need-loop-k-preserved invariant-loop decreases-loop
 loop-again c =
     let turn = c.before.before.before in
-    let l = turn.before.loop in
+    let l = turn.before.loop-k in
     let a = turn.before.before.args in
-    (omega arith, rw (c.stays.ensures, l.invariant.1) (sym (every-last (of a.t1 a.t2) l.k)))
+    (omega arith, rw (c.stays-same.ensures, l.invariant.1) (sym (every-last (of a.present a.snapshot) l.k)))
 
 returns : tie.Need-returns invariant-loop decreases-loop
 unfolding unchanged
 returns c =
     let a = c.before.before.args in
-    let l = c.before.loop in
-    l.invariant.1 ∙ ap (every (of a.t1 a.t2) 0) (omega (arith, c.loop-test.false, l.invariant.0))
+    let l = c.before.loop-k in
+    l.invariant.1 ∙ ap (every (of a.present a.snapshot) 0) (omega (arith, c.loop-k-test.false, l.invariant.0))
 
-pub are-unchanged-spec : {M : Type 1} → statement M
-are-unchanged-spec =
+pub are_unchanged_spec : {M : Type 1} → statement M
+are_unchanged_spec =
     tie.close
     (tie.spec
     invariant-loop

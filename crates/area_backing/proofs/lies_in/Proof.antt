@@ -7,27 +7,27 @@ use borrow.Author.Rules.{rules}
 use Rattle.area_backing.proofs.lies_in.Statement.{statement}
 use Rattle.area_backing.proofs.lies_in.Tie as tie
 
-returns : tie.Need-returns
+returns : tie.Need-returns-then-not-area
 returns c = search rules
 
-cast-first : tie.Need-overflow-cast-first
+cast-first : tie.Need-overflow_cast-first
 cast-first c = search rules
 
-cast-result : tie.Need-overflow-cast-result
+cast-result : tie.Need-overflow_cast-result
 cast-result c = search rules
 
-add-result : tie.Need-overflow-add-result
+add-result : tie.Need-overflow_add-result
 add-result c = search rules
 
 reached-requires : tie.Need-reached-requires
 reached-requires c κs = search rules
 
-returns-2 : tie.Need-returns-2
+returns-2 : tie.Need-returns
 returns-2 c =
     let p = c.before.before.before in
     let a = p.before.before.args.area in
-    rw (not-false a.committed p.if1.false) (ap (leb (a.first.0 + a.pages)) c.reached.ensures)
+    rw (not-false a.committed p.if-not-area.false) (ap (leb (a.first.0 + a.pages)) c.reached.ensures)
 
-pub lies-in-spec : {M : Type 1} → statement M
-lies-in-spec =
+pub lies_in_spec : {M : Type 1} → statement M
+lies_in_spec =
     tie.close (tie.spec returns cast-first cast-result add-result reached-requires returns-2)

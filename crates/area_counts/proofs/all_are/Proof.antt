@@ -5,18 +5,18 @@ use Rattle.area_counts.proofs.MappedLaws.{all-counted}
 use Rattle.area_counts.proofs.all_are.Statement.{statement}
 use Rattle.area_counts.proofs.all_are.Tie as tie
 
-mapped-in-requires : tie.Need-mapped-in-requires
+mapped-in-requires : tie.Need-mapped_in-pages-requires
 mapped-in-requires c κs = c.requires
 
-returns : tie.Need-returns
+returns : tie.Need-returns-then-mapped
 returns c =
     let a = c.before.before.args in
-    rw (c.before.mapped_in.ensures, c.if1.true) (all-counted true (slots a.areas) a.first.0 a.n)
+    rw (c.before.mapped_in-pages.ensures, c.if-mapped.true) (all-counted true (slots a.areas) a.first.0 a.n)
 
-returns-2 : tie.Need-returns-2
+returns-2 : tie.Need-returns-else-mapped
 returns-2 c =
     let a = c.before.before.args in
-    rw (c.before.mapped_in.ensures, c.if1.false) (all-counted false (slots a.areas) a.first.0 a.n)
+    rw (c.before.mapped_in-pages.ensures, c.if-mapped.false) (all-counted false (slots a.areas) a.first.0 a.n)
 
-pub all-are-spec : {M : Type 1} → statement M
-all-are-spec = tie.close (tie.spec mapped-in-requires returns returns-2)
+pub all_are_spec : {M : Type 1} → statement M
+all_are_spec = tie.close (tie.spec mapped-in-requires returns returns-2)

@@ -10,5 +10,5 @@ returns : tie.Need-returns
 unfolding mapped_pages
 returns c = c.pages.ensures
 
-pub mapped-pages-spec : {M : Type 1} → statement M
-mapped-pages-spec = tie.close (tie.spec pages-requires returns)
+pub mapped_pages_spec : {M : Type 1} → statement M
+mapped_pages_spec = tie.close (tie.spec pages-requires returns)

@@ -6,10 +6,10 @@ use Rattle.area_counts.proofs.MappedLaws.{clamped-le}
 use Rattle.area_counts.proofs.overlap.Statement.{statement}
 use Rattle.area_counts.proofs.overlap.Tie as tie
 
-add-end : tie.Need-overflow-add-end
+add-end : tie.Need-overflow_add-end
 add-end c = search rules
 
-add-clamped : tie.Need-overflow-add-clamped
+add-clamped : tie.Need-overflow_add-area
 add-clamped c = search rules
 
 clamped-requires : tie.Need-clamped-requires
@@ -18,12 +18,12 @@ clamped-requires c κs = search rules
 clamped-requires-2 : tie.Need-clamped-requires-2
 clamped-requires-2 c κs = search rules
 
-sub-result : tie.Need-overflow-sub-result
+sub-result : tie.Need-overflow_sub-result
 sub-result c =
     let a = c.before.before.before.before.args in
     omega (
       arith,
-      c.clamped2.ensures,
+      c.clamped-2.ensures,
       c.before.clamped.ensures,
       clamped-le a.first.0 (a.first.0 + a.n) (omega arith) a.area.first.0 (a.area.first.0 + a.area.pages) (omega arith),
     )
@@ -31,6 +31,6 @@ sub-result c =
 returns : tie.Need-returns
 returns c = search rules
 
-pub overlap-spec : {M : Type 1} → statement M
-overlap-spec =
+pub overlap_spec : {M : Type 1} → statement M
+overlap_spec =
     tie.close (tie.spec add-end add-clamped clamped-requires clamped-requires-2 sub-result returns)

@@ -10,5 +10,5 @@ returns : tie.Need-returns
 unfolding uncommitted_pages
 returns c = c.pages.ensures
 
-pub uncommitted-pages-spec : {M : Type 1} → statement M
-uncommitted-pages-spec = tie.close (tie.spec pages-requires returns)
+pub uncommitted_pages_spec : {M : Type 1} → statement M
+uncommitted_pages_spec = tie.close (tie.spec pages-requires returns)

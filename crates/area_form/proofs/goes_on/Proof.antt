@@ -8,11 +8,11 @@ use Rattle.area_form.proofs.goes_on.Tie as tie
 attributes-requires : tie.Need-attributes-requires
 attributes-requires c κs = search rules
 
-goes-on-requires : tie.Need-goes-on-requires
+goes-on-requires : tie.Need-goes_on-requires
 goes-on-requires c κs = search rules
 
 returns : tie.Need-returns
 returns c = let a = c.before.before.before.args in c.goes_on.ensures ∙ ap (goes_on a.area a.other.first.0) c.before.attributes.ensures
 
-pub goes-on-spec : {M : Type 1} → statement M
-goes-on-spec = tie.close (tie.spec attributes-requires goes-on-requires returns)
+pub goes_on_spec : {M : Type 1} → statement M
+goes_on_spec = tie.close (tie.spec attributes-requires goes-on-requires returns)

@@ -4,24 +4,24 @@ use borrow.Author.Rules.{rules}
 use Rattle.area_form.proofs.images_exist.Statement.{statement}
 use Rattle.area_form.proofs.images_exist.Tie as tie
 
-enum_told : tie.Need-enum-told
-enum_told c = c.match.keys1
+enum_told : tie.Need-enum_told-1
+enum_told c = c.in-Anonymous.keys1
 
-enum-known-backing : tie.Need-enum-known-backing
-enum-known-backing c = c.match.keys2
+enum-known-backing : tie.Need-enum_known-backing
+enum-known-backing c = c.in-Image.keys2
 
-cast-result : tie.Need-overflow-cast-result
+cast-result : tie.Need-overflow_cast-result
 cast-result c = omega arith
 
-add-result : tie.Need-overflow-add-result
+add-result : tie.Need-overflow_add-result
 add-result c = omega arith
 
-returns : tie.Need-returns
+returns : tie.Need-returns-in-Anonymous
 returns c = search rules
 
-returns-2 : tie.Need-returns-2
-returns-2 c = rw c.before.before.backing.given.1
+returns-2 : tie.Need-returns-in-Image
+returns-2 c = rw c.before.before.backing-1.given.1
 
-pub images-exist-spec : {M : Type 1} → statement M
-images-exist-spec =
+pub images_exist_spec : {M : Type 1} → statement M
+images_exist_spec =
     tie.close (tie.spec enum_told enum-known-backing cast-result add-result returns returns-2)

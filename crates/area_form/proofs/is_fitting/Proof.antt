@@ -6,14 +6,14 @@ use borrow.Author.Rules.{rules}
 use Rattle.area_form.proofs.is_fitting.Statement.{statement}
 use Rattle.area_form.proofs.is_fitting.Tie as tie
 
-is-proper-requires : tie.Need-is-proper-requires
+is-proper-requires : tie.Need-is_proper-requires
 is-proper-requires c κs = search rules
 
-cast-result : tie.Need-overflow-cast-result
+cast-result : tie.Need-overflow_cast-result
 cast-result c = search rules
 
 returns : tie.Need-returns
-returns c = let a = c.before.before.args in ap (λ (x : Bool). x && leb a.end a.area.first.0) c.before.is-proper.ensures
+returns c = let a = c.before.before.args in ap (λ (x : Bool). x && leb a.end a.area.first.0) c.before.is_proper.ensures
 
-pub is-fitting-spec : {M : Type 1} → statement M
-is-fitting-spec = tie.close (tie.spec is-proper-requires cast-result returns)
+pub is_fitting_spec : {M : Type 1} → statement M
+is_fitting_spec = tie.close (tie.spec is-proper-requires cast-result returns)

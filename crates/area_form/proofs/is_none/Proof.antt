@@ -17,19 +17,19 @@ none-order true true false d e = refl
 none-order true true true true e = and-true e
 none-order true true true false e = and-false e
 
-is-anonymous-requires : tie.Need-is-anonymous-requires
+is-anonymous-requires : tie.Need-is_anonymous-requires
 is-anonymous-requires c κs = search rules
 
 -- the way back from where a fact is needed to where it was learned
-abbrev at-start : tie.After-struct-known4 → tie.Start
+abbrev at-start : tie.After-struct_known-4-1 → tie.Start
 at-start c = c.before.before.before.before.before
 
 returns : tie.Need-returns
 unfolding is_none
 returns c =
     let a = (at-start c).args.area in
-    (λ i. ((eqb a.first.0 0 && eqb a.pages 0) && (eqb a.rights 0 && c.before.is-anonymous.ensures i)) && not a.committed)
+    (λ i. ((eqb a.first.0 0 && eqb a.pages 0) && (eqb a.rights 0 && c.before.is_anonymous.ensures i)) && not a.committed)
     ∙ none-order (eqb a.first.0 0) (eqb a.pages 0) (eqb a.rights 0) (not a.committed) (is_anonymous a.backing)
 
-pub is-none-spec : {M : Type 1} → statement M
-is-none-spec = tie.close (tie.spec is-anonymous-requires returns)
+pub is_none_spec : {M : Type 1} → statement M
+is_none_spec = tie.close (tie.spec is-anonymous-requires returns)

@@ -6,75 +6,75 @@ use Rattle.area_gaps.proofs.GapLaws.{Sought, sought-start, gap-before, gap-behin
 use Rattle.area_gaps.proofs.lowest_gap.Statement.{statement}
 use Rattle.area_gaps.proofs.lowest_gap.Tie as tie
 
-abbrev invariant-loop : tie.invariant-loop
+abbrev invariant-loop : tie.invariant-loop-k
 invariant-loop n areas page₀ k₀ k-end page k = (k ≤ areas.count) × Sought areas n k page
 
-abbrev decreases-loop : tie.decreases-loop
+abbrev decreases-loop : tie.decreases-loop-k
 decreases-loop n areas page₀ k₀ k-end page k = k-end - k
 
 -- the way back from where a fact is needed to where it was learned
-abbrev at-area : tie.After-struct-known2 invariant-loop decreases-loop → tie.In-loop invariant-loop decreases-loop
+abbrev at-area : tie.After-struct_known-in-loop-k-1 invariant-loop decreases-loop → tie.In-loop-k invariant-loop decreases-loop
 at-area c = c.before.before.before.before
 
-loop-holds : tie.Need-loop-init invariant-loop decreases-loop
-loop-holds c = (omega arith, sought-start c.args.t1 c.args.n)
+loop-holds : tie.Need-loop-k-init invariant-loop decreases-loop
+loop-holds c = (omega arith, sought-start c.args.areas c.args.n)
 
-cast-area : tie.Need-overflow-cast-area invariant-loop decreases-loop
+cast-area : tie.Need-overflow_cast-area invariant-loop decreases-loop
 cast-area c = omega arith
 
-mul-area : tie.Need-overflow-mul-area invariant-loop decreases-loop
+mul-area : tie.Need-offset_bounds-areas-k invariant-loop decreases-loop
 mul-area c = omega arith
 
-element-copy-out-area : tie.Need-element-copy-out-area invariant-loop decreases-loop
+element-copy-out-area : tie.Need-bounds-areas-k invariant-loop decreases-loop
 element-copy-out-area c = omega (arith, c.before.before.requires.formed.few)
 
-sub-if1 : tie.Need-overflow-sub-if1 invariant-loop decreases-loop
+sub-if1 : tie.Need-overflow_sub-area invariant-loop decreases-loop
 sub-if1 c =
-    let l = c.before.before.before.loop in
-    l.invariant.1.there.ahead l.k (omega arith) c.before.before.loop-test.true
+    let l = c.before.before.before.loop-k in
+    l.invariant.1.there.ahead l.k (omega arith) c.before.before.loop-k-test.true
 
-returns : tie.Need-returns invariant-loop decreases-loop
+returns : tie.Need-returns-then-n-area invariant-loop decreases-loop
 returns c =
     let turn = c.before.before.before in
-    let l = turn.before.loop in
+    let l = turn.before.loop-k in
     let s = turn.before.before in
-    gap-before s.args.t1 s.requires s.args.n l.k l.page l.invariant.1 turn.loop-test.true c.if1.true
+    gap-before s.args.areas s.requires s.args.n l.k l.page l.invariant.1 turn.loop-k-test.true c.if-n-area.true
 
-add-page : tie.Need-overflow-add-page invariant-loop decreases-loop
+add-page : tie.Need-overflow_add-page invariant-loop decreases-loop
 add-page c =
     let s = (at-area c).before.before in
-    record { fits = omega (arith, end-small s.args.t1 s.pre (at-area c).before.loop.k) }
+    record { fits = omega (arith, end-small s.args.areas s.requires (at-area c).before.loop-k.k) }
 
-add-k : tie.Need-overflow-add-k invariant-loop decreases-loop
+add-k : tie.Need-overflow_step-k invariant-loop decreases-loop
 add-k c = omega arith
 
-loop-less : tie.Need-loop-smaller invariant-loop decreases-loop
+loop-less : tie.Need-loop-k-smaller invariant-loop decreases-loop
 loop-less c = omega arith
 
-loop-again : tie.Need-loop-preserved invariant-loop decreases-loop
+loop-again : tie.Need-loop-k-preserved invariant-loop decreases-loop
 loop-again c =
     let turn = at-area c in
-    let l = turn.before.loop in
+    let l = turn.before.loop-k in
     let s = turn.before.before in
-    (omega arith, gap-behind s.args.t1 s.pre s.args.n l.k l.page l.inv.1 turn.loop-test.taken c.before.if1.false)
+    (omega arith, gap-behind s.args.areas s.requires s.args.n l.k l.page l.invariant.1 turn.loop-k-test.taken c.before.if-n-area.false)
 
-sub-if2 : tie.Need-overflow-sub-if2 invariant-loop decreases-loop
-sub-if2 c = c.before.loop.invariant.1.there.small
+sub-if2 : tie.Need-overflow_sub-page invariant-loop decreases-loop
+sub-if2 c = c.before.loop-k.invariant.1.there.small
 
-returns-2 : tie.Need-returns-2 invariant-loop decreases-loop
+returns-2 : tie.Need-returns-then-n-page invariant-loop decreases-loop
 returns-2 c =
-    let l = c.before.before.loop in
+    let l = c.before.before.loop-k in
     let s = c.before.before.before in
-    gap-last s.args.t1 s.requires s.args.n l.k l.page l.invariant.1 c.before.loop-test.false c.if2.true
+    gap-last s.args.areas s.requires s.args.n l.k l.page l.invariant.1 c.before.loop-k-test.false c.if-n-page.true
 
-returns-3 : tie.Need-returns-3 invariant-loop decreases-loop
+returns-3 : tie.Need-returns invariant-loop decreases-loop
 returns-3 c =
-    let l = c.before.before.loop in
+    let l = c.before.before.loop-k in
     let s = c.before.before.before in
-    gap-none s.args.t1 s.requires s.args.n l.k l.page l.invariant.1 c.before.loop-test.false c.if2.false
+    gap-none s.args.areas s.requires s.args.n l.k l.page l.invariant.1 c.before.loop-k-test.false c.if-n-page.false
 
-pub lowest-gap-spec : {M : Type 1} → statement M
-lowest-gap-spec =
+pub lowest_gap_spec : {M : Type 1} → statement M
+lowest_gap_spec =
     tie.close
     (tie.spec
     invariant-loop

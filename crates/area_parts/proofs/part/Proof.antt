@@ -4,25 +4,25 @@ use borrow.Author.Rules.{rules}
 use Rattle.area_parts.proofs.part.Statement.{statement}
 use Rattle.area_parts.proofs.part.Tie as tie
 
-most-requires : tie.Need-most-requires
+most-requires : tie.Need-most-first-requires
 most-requires c κs = search rules
 
-add-least : tie.Need-overflow-add-least
+add-least : tie.Need-overflow_add-start
 add-least c = search rules
 
-least-requires : tie.Need-least-requires
+least-requires : tie.Need-least-end-requires
 least-requires c κs = search rules
 
 attributes-requires : tie.Need-attributes-requires
 attributes-requires c κs = search rules
 
-sub-page-on : tie.Need-overflow-sub-page-on
+sub-page-on : tie.Need-overflow_sub-first
 sub-page-on c = search rules
 
-page-on-requires : tie.Need-page-on-requires
-page-on-requires c κs = rw c.attributes.ensures (omega (arith, c.before.before.before.most.ensures))
+page-on-requires : tie.Need-page_on-requires
+page-on-requires c κs = rw c.attributes.ensures (omega (arith, c.before.before.before.most-first.ensures))
 
-backing-at-requires : tie.Need-backing-at-requires
+backing-at-requires : tie.Need-backing_at-backing-requires
 backing-at-requires c κs = search rules
 
 less-requires : tie.Need-less-requires
@@ -30,19 +30,19 @@ less-requires c κs = search rules
 
 returns : tie.Need-returns
 returns c =
-    let least = c.before.before.before.before.least in
-    let most = c.before.before.before.before.before.before.most in
+    let least = c.before.before.before.before.least-end in
+    let most = c.before.before.before.before.before.before.most-first in
     rw (
       c.less.ensures,
-      c.before.backing-at.ensures,
-      c.before.before.page-on.ensures,
+      c.before.backing_at-backing.ensures,
+      c.before.before.page_on.ensures,
       c.before.before.before.attributes.ensures,
       least.ensures,
       most.ensures,
     )
 
-pub part-spec : {M : Type 1} → statement M
-part-spec =
+pub part_spec : {M : Type 1} → statement M
+part_spec =
     tie.close
     (tie.spec
     most-requires

@@ -29,83 +29,83 @@ area-made image s area page st mid after n at before is_at is-mid R = (R.left �
 
 -- ---- what is known behind the test and the fronts that were given up
 
-abbrev tested : tie.Else1 → tie.Start
+abbrev tested : tie.Else-not-area → tie.Start
 tested c = c.before.before.before.before.before
 
-abbrev freed : tie.After-free-before → tie.Else1
+abbrev freed : tie.After-free_before-held → tie.Else-not-area
 freed c = c.before.before.before.before
 
-abbrev placed : tie.After-front-index → tie.After-free-before
+abbrev placed : tie.After-front_index-at → tie.After-free_before-held
 placed c = c.before.before.before.before.before
 
-abbrev behind : tie.After-front-index → tie.Start
+abbrev behind : tie.After-front_index-at → tie.Start
 behind c = tested (freed (placed c))
 
 -- the store after that
-abbrev between : tie.After-front-index → Store
-between c = let f = (placed c).free-before in kept f.result f.last.1.0 f.last.1.1.0
+abbrev between : tie.After-front_index-at → Store
+between c = let f = (placed c).free_before-held in kept f.result f.last.1.0 f.last.1.1.0
 
 -- ---- the needs
 
-returns : tie.Need-returns
+returns : tie.Need-returns-then-not-area
 returns c =
     let a = c.before.before.before.before.before.args in
-    let e : a.area.committed ≡ false = not-true _ c.if1.true in
+    let e : a.area.committed ≡ false = not-true _ c.if-not-area.true in
     (rw e, (rw e, rw e))
 
-free-before-requires : tie.Need-free-before-requires
+free-before-requires : tie.Need-free_before-held-requires
 free-before-requires c κs =
     let s = tested c.before.before.before in
-    (s.pre.0, (omega (arith, s.pre.1.0, s.pre.1.1.0), (omega (arith, s.pre.1.1.0), s.pre.1.1.1.1.0)))
+    (s.requires.s_bound, (omega (arith, s.requires.page_le_first, s.requires.pages_bound), (omega (arith, s.requires.pages_bound), s.requires.ranged)))
 
-front-index-requires : tie.Need-front-index-requires
+front-index-requires : tie.Need-front_index-at-requires
 front-index-requires c κs = search rules
 
-restore-pages-requires : tie.Need-restore-pages-requires
+restore-pages-requires : tie.Need-restore_pages-changed-requires
 restore-pages-requires c κs =
     let at = c.before.before in
     let s = behind at in
     let a = s.args in
     let st : Store = kept a.done.held a.pool.now a.table.now in
     let n : ℕ = a.area.first.0 - a.done.page.0 in
-    let k = free_to-kept-as 256 (front_of a.s a.done.page.0) st (between at) n (placed at).free-before.ensures s.pre.1.1.1.1.0 in (
-      omega (arith, at.front-index.ensures, s.pre.0, s.pre.1.1.0),
-      (k.ranged, (s.pre.1.1.1.1.1.0, omega (arith, s.pre.1.1.0))),
+    let k = free_to-kept-as 256 (front_of a.s a.done.page.0) st (between at) n (placed at).free_before-held.ensures s.requires.ranged in (
+      omega (arith, at.front-index.ensures, s.requires.s_bound, s.requires.pages_bound),
+      (k.ranged, (s.requires.backed, omega (arith, s.requires.pages_bound))),
     )
 
-add-t22 : tie.Need-overflow-add-t22
-add-t22 c = let s = behind c.before.before.before.before.before.before.before in omega (arith, s.pre.1.1.0)
+add-t22 : tie.Need-overflow_add-result
+add-t22 c = let s = behind c.before.before.before.before.before.before.before in omega (arith, s.requires.pages_bound)
 
-add-t24 : tie.Need-overflow-add-t24
+add-t24 : tie.Need-overflow_add-result-2
 add-t24 c =
     let restored = c.before.before.before.before in
     let at = restored.before.before.before in
     let s = behind at in
     let a = s.args in
     let few = changed-few a.image.now at.front-index.result (λ i. true) (advance a.area.backing) (between at) a.area.pages in
-    omega (arith, (restored.restore-pages.ensures (placed at).free-before.result).told, few, s.pre.1.0, s.pre.1.1.0, s.pre.1.1.1.1.1.1)
+    omega (arith, (restored.restore_pages-changed.ensures (placed at).free_before-held.result).told, few, s.requires.page_le_first, s.requires.pages_bound, s.requires.changed_le_page)
 
-same_length : tie.Need-same-length
+same_length : tie.Need-shape_of-pool
 same_length c = search rules
 
-same-length-2 : tie.Need-same-length-2
+same-length-2 : tie.Need-shape_of-table
 same-length-2 c = search rules
 
-returns-2 : tie.Need-returns-2
+returns-2 : tie.Need-returns
 returns-2 c =
     let restored = c.before.before.before.before in
     let at = restored.before.before.before in
     let a = (behind at).args in
     let area = a.area in
     let e : area.committed ≡ true = not-false _ (freed (placed at)).if1.false in
-    let f = (placed at).free-before in
+    let f = (placed at).free_before-held in
     let st : Store = kept a.done.held a.pool.now a.table.now in
     let made = area-made a.image.now a.s area a.done.page.0 st (between at) _ _ at.front-index.result a.done.changed
-    at.front-index.ensures f.ensures (restored.restore-pages.ensures f.result) in
+    at.front-index.ensures f.ensures (restored.restore_pages-changed.ensures f.result) in
     (made.0 ∙ chosen _ _ area.committed e, (chosen _ _ area.committed e, made.1 ∙ chosen _ _ area.committed e))
 
-pub with-area-spec : {M : Type 1} → statement M
-with-area-spec =
+pub with_area_spec : {M : Type 1} → statement M
+with_area_spec =
     tie.close
     (tie.spec
     returns

@@ -13,73 +13,63 @@ use Rattle.asking.proofs.ask.Statement.{statement}
 use Rattle.asking.proofs.ask.Tie as tie
 
 -- the request that the line says, and what is known behind each test
-abbrev said : tie.After-is-call → Request
-said c = c.before.before.line.given.0.0
+abbrev said : tie.After-is_call → Request
+said c = c.before.before.line-1.given.0.0
 
-coded : (c : tie.Else1) → is_call (said c.before) ≡ true
-coded c = sym c.before.is-call.ensures ∙ not-false c.before.is-call.result c.if1.false
+coded : (c : tie.Else-not-is_call) → is_call (said c.before) ≡ true
+coded c = sym c.before.is_call.ensures ∙ not-false c.before.is_call.result c.if-not-is_call.false-raw
 
-abbrev start_of : tie.After-is-call → tie.Start
+abbrev start_of : tie.After-is_call → tie.Start
 start_of c = c.before.before.before.before
 
 -- ---- the needs
 
-enum-known-line : tie.Need-enum-known-line
+enum-known-line : tie.Need-enum_known-line
 enum-known-line c = search rules
 
-enum_told : tie.Need-enum-told
+enum_told : tie.Need-enum_told-1
 enum_told c = search rules
 
-returns : tie.Need-returns
+returns : tie.Need-returns-in_default
 unfolding asked_by
-returns c = rw c.enum_told.given.1
+returns c = rw c.enum_told-1.given.1
 
-is-call-requires : tie.Need-is-call-requires
+is-call-requires : tie.Need-is_call-requires
 is-call-requires c κs = search rules
 
-returns-2 : tie.Need-returns-2
+returns-2 : tie.Need-returns-then-not-is_call
 returns-2 c =
     let tested = c.before in
-    rw tested.before.before.line.given.1
-    (sym (asks-no-call (start_of tested).args.sound (said tested) (sym tested.is-call.ensures ∙ not-true tested.is-call.result c.if1.true)))
+    rw tested.before.before.line-1.given.1
+    (sym (asks-no-call (start_of tested).args.sound (said tested) (sym tested.is_call.ensures ∙ not-true tested.is_call.result c.if-not-is_call.true-raw)))
 
-returns-3 : tie.Need-returns-3
+returns-3 : tie.Need-returns-then-not-sound
 returns-3 c =
     let tested = c.before.before in
     let sound = (start_of tested).args.sound in
-    rw tested.before.before.line.given.1 (sym (asks-unsound sound (said tested) (coded c.before) (not-true sound c.if2.true)))
+    rw tested.before.before.line-1.given.1 (sym (asks-unsound sound (said tested) (coded c.before) (not-true sound c.if-not-sound.true-raw)))
 
-cast-if3 : tie.Need-overflow-cast-if3
+cast-if3 : tie.Need-overflow_cast-q
 cast-if3 c = search rules
 
-returns-4 : tie.Need-returns-4
+returns-4 : tie.Need-returns-then-q-ge-SANDBOXES
 returns-4 c =
     let sounded = c.before.before in
     let tested = sounded.before.before in
     let sound = (start_of tested).args.sound in
-    let past : 4 ≤ (said tested).sandbox = omega (arith, c.if3.true) in
-    rw tested.before.before.line.given.1
-    (sym (asks-past sound (said tested) (coded sounded.before) (not-false sound sounded.if2.false) (le-ltb (said tested).sandbox 4 past)))
+    let past : 4 ≤ (said tested).sandbox = omega (arith, c.if-q-ge-SANDBOXES.true) in
+    rw tested.before.before.line-1.given.1
+    (sym (asks-past sound (said tested) (coded sounded.before) (not-false sound sounded.if-not-sound.false-raw) (le-ltb (said tested).sandbox 4 past)))
 
-returns-5 : tie.Need-returns-5
+returns-5 : tie.Need-returns
 returns-5 c =
     let sounded = c.before.before in
     let tested = sounded.before.before in
     let sound = (start_of tested).args.sound in
-    let low : (said tested).sandbox < 4 = omega (arith, c.if3.false) in
-    rw tested.before.before.line.given.1
-    (sym (asks-call sound (said tested) (coded sounded.before) (not-false sound sounded.if2.false) (lt-ltb (said tested).sandbox 4 low)))
+    let low : (said tested).sandbox < 4 = omega (arith, c.if-q-ge-SANDBOXES.false) in
+    rw tested.before.before.line-1.given.1
+    (sym (asks-call sound (said tested) (coded sounded.before) (not-false sound sounded.if-not-sound.false-raw) (lt-ltb (said tested).sandbox 4 low)))
 
-pub ask-spec : {M : Type 1} → statement M
-ask-spec =
-    tie.close
-    (tie.spec
-    enum-known-line
-    enum_told
-    returns
-    is-call-requires
-    returns-2
-    returns-3
-    cast-if3
-    returns-4
-    returns-5)
+pub ask_spec : {M : Type 1} → statement M
+ask_spec =
+    tie.close (tie.spec enum-known-line enum_told returns is-call-requires returns-2 returns-3 cast-if3 returns-4 returns-5)

@@ -18,7 +18,7 @@ put-at : (q : Request) (before after : Store) (page offset : ℕ) → page ≡ p
 put-at q before after page offset p o e = e ∙ rw (p, o)
 
 -- where the page's front was found, and what was handed in
-abbrev fronted : tie.After-struct-known2 → tie.After-front
+abbrev fronted : tie.After-struct_known-2-1 → tie.After-front
 fronted c = c.before.before.before.before
 
 abbrev behind : tie.After-front → tie.Start
@@ -26,44 +26,44 @@ behind c = c.before.before.before.before.before
 
 -- ---- the needs
 
-cast-s : tie.Need-overflow-cast-s
+cast-s : tie.Need-overflow_cast-s
 cast-s c = search rules
 
-page-of-requires : tie.Need-page-of-requires
+page-of-requires : tie.Need-page_of-page-requires
 page-of-requires c κs = search rules
 
 front-requires : tie.Need-front-requires
 front-requires c κs = search rules
 
-returns : tie.Need-returns
+returns : tie.Need-returns-then-front-eq0
 returns c = record { front = λ t. absurd (false≢true t); byte = λ t. absurd (false≢true t); none = λ t. refl }
 
-offset-of-requires : tie.Need-offset-of-requires
+offset-of-requires : tie.Need-offset_of-requires
 offset-of-requires c κs = search rules
 
-cast-store-byte : tie.Need-overflow-cast-store-byte
+cast-store-byte : tie.Need-overflow_cast-q
 cast-store-byte c = search rules
 
-store-byte-requires : tie.Need-store-byte-requires
+store-byte-requires : tie.Need-store_byte-requires
 store-byte-requires c κs =
     let s = behind (fronted c) in
-    (s.pre.0, (rw (fronted c).before.page-of.ensures (page-small s.args.q.p1 s.pre.1.0), s.pre.1.1.1))
+    (s.requires.sandbox_bound, (rw (fronted c).before.page_of-page.ensures (page-small s.args.q.p1 s.requires.p1_bound), s.requires.ranged))
 
-same_length : tie.Need-same-length
+same_length : tie.Need-shape_of-pool
 same_length c = search rules
 
-returns-2 : tie.Need-returns-2
+returns-2 : tie.Need-returns
 returns-2 c =
     let stored = c.before.before in
     let found = fronted stored.before in
     let s = behind found in
     record {
       front = λ t z.
-          stored.before.before.before.before.if1.false
-          (found.front.ensures ∙ ap (λ (i : ℕ). get_or s.args.table.now (front_of s.args.q.sandbox i) 0) found.before.page-of.ensures ∙ z);
+          stored.before.before.before.before.if-front-eq0.false
+          (found.front.ensures ∙ ap (λ (i : ℕ). get_or s.args.table.now (front_of s.args.q.sandbox i) 0) found.before.page_of-page.ensures ∙ z);
       byte = λ t h.
           put-at s.args.q (kept h s.args.pool.now s.args.table.now) _ _ _
-          found.before.page-of.ensures stored.before.before.offset-of.ensures (stored.IsStore-byte.ensures h);
+          found.before.page_of-page.ensures stored.before.before.offset_of.ensures (stored.IsStore-byte.ensures h);
       none = λ t. absurd (false≢true (sym t));
     }
 

@@ -17,55 +17,55 @@ use Rattle.content.proofs.read.Tie as tie
 -- the present areas, and the page of the address
 near-present : (s : tie.Start) → Near s.args.b.present.list
 near-present s =
-    let ready = s.requires.1.1.1.0 in near (pages_in (length s.args.image.now)) s.args.b.present ready.sound.present ready.few
+    let ready = s.requires.ready in near (pages_in (length s.args.image.now)) s.args.b.present ready.sound.present ready.few
 
 small : (s : tie.Start) → s.args.q.p1 / 256 < 64
-small s = page-small s.args.q.p1 (s.requires.1.1.0.read s.requires.0)
+small s = page-small s.args.q.p1 (s.requires.fit.read s.requires.code_value)
 
-abbrev behind : tie.After-slot → tie.Start
+abbrev behind : tie.After-slot-slot → tie.Start
 behind c = c.before.before.before.before.before.before
 
 -- ---- the needs
 
-cast-read-byte : tie.Need-overflow-cast-read-byte
+cast-read-byte : tie.Need-overflow_cast-number
 cast-read-byte c = search rules
 
-div-read-byte : tie.Need-nonzero-div-read-byte
+div-read-byte : tie.Need-nonzero_div-number
 div-read-byte c = search rules
 
-cast-read-byte-2 : tie.Need-overflow-cast-read-byte-2
+cast-read-byte-2 : tie.Need-overflow_cast-number-2
 cast-read-byte-2 c = search rules
 
-slot-requires : tie.Need-slot-requires
+slot-requires : tie.Need-slot-slot-requires
 slot-requires c κs =
     let s = c.before.before.before.before.before in
     (near-present s, small s)
 
-cast-read-byte-3 : tie.Need-overflow-cast-read-byte-3
+cast-read-byte-3 : tie.Need-overflow_cast-page
 cast-read-byte-3 c = search rules
 
-cast-read-byte-4 : tie.Need-overflow-cast-read-byte-4
+cast-read-byte-4 : tie.Need-overflow_cast-read_byte
 cast-read-byte-4 c = search rules
 
-rem-read-byte : tie.Need-nonzero-rem-read-byte
+rem-read-byte : tie.Need-nonzero_rem-q
 rem-read-byte c = search rules
 
-cast-read-byte-5 : tie.Need-overflow-cast-read-byte-5
+cast-read-byte-5 : tie.Need-overflow_cast-q
 cast-read-byte-5 c = search rules
 
-read-byte-requires : tie.Need-read-byte-requires
+read-byte-requires : tie.Need-read_byte-requires
 read-byte-requires c κs =
     let found = c.before.before in
     let s = behind found in
-    let there = backing-there s.args.image.now s.args.b.present s.pre.1.1.1.0.sound.present (s.args.q.p1 / 256) in
-    (record { row = s.pre.1.0; inside = small s; backed = rw found.slot.ensures there }, s.pre.1.1.1.1)
+    let there = backing-there s.args.image.now s.args.b.present s.requires.ready.sound.present (s.args.q.p1 / 256) in
+    (record { row = s.requires.sandbox_bound; inside = small s; backed = rw found.slot-slot.ensures there }, s.requires.ranged)
 
 returns : tie.Need-returns
 returns c = λ h.
     let found = c.before.before.before in
     let a = (behind found).args in
     c.read_byte.ensures h ∙ ap (λ (page : List ℕ). get_or page (offset_of a.q) 0)
-    (read_is a.image.now (kept h a.pool.now a.table.now) a.b a.q.sandbox _ found.slot.result found.slot.ensures)
+    (read_is a.image.now (kept h a.pool.now a.table.now) a.b a.q.sandbox _ found.slot-slot.result found.slot-slot.ensures)
 
 pub read_spec : {M : Type 1} → statement M
 read_spec =

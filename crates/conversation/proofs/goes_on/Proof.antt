@@ -6,5 +6,5 @@ use Rattle.conversation.proofs.goes_on.Tie as tie
 returns : tie.Need-returns
 returns c = search rules
 
-pub goes-on-spec : {M : Type 1} → statement M
-goes-on-spec = tie.close (tie.spec returns)
+pub goes_on_spec : {M : Type 1} → statement M
+goes_on_spec = tie.close (tie.spec returns)

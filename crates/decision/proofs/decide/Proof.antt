@@ -29,132 +29,132 @@ abbrev Row : Refusal → tie.Start → Bool
 Row row s = applies (view s) (request s) row
 
 past3 : (s : tie.Start) → Past NotOpen s
-past3 s = sound-call (view s) (request s) refl s.requires.0
+past3 s = sound-call (view s) (request s) refl s.requires.q_value
 
 -- ---- what each test says of its row: the state at the test, the rows passed, the row's outcome
 
-abbrev at4 : tie.After-not-open → tie.Start
+abbrev at4 : tie.After-not_open → tie.Start
 at4 c = c.before
 
-row4 : (c : tie.After-not-open) → c.not-open.result ≡ Row NotOpen (at4 c)
-row4 c = c.not-open.ensures (view (at4 c)) refl
+row4 : (c : tie.After-not_open) → c.not_open.result ≡ Row NotOpen (at4 c)
+row4 c = c.not_open.ensures (view (at4 c)) refl
 
-past4 : (c : tie.Else1) → Past AlreadyOpen (at4 c.before)
-past4 c = (sym (row4 c.before) ∙ c.if1.false, past3 (at4 c.before))
+past4 : (c : tie.Else-not_open) → Past AlreadyOpen (at4 c.before)
+past4 c = (sym (row4 c.before) ∙ c.if-not_open.false, past3 (at4 c.before))
 
-abbrev at5 : tie.After-already-open → tie.Start
+abbrev at5 : tie.After-already_open → tie.Start
 at5 c = at4 c.before.before
 
-row5 : (c : tie.After-already-open) → c.already-open.result ≡ Row AlreadyOpen (at5 c)
-row5 c = c.already-open.ensures (view (at5 c)) refl
+row5 : (c : tie.After-already_open) → c.already_open.result ≡ Row AlreadyOpen (at5 c)
+row5 c = c.already_open.ensures (view (at5 c)) refl
 
-past5 : (c : tie.Else2) → Past OutsideLimits (at5 c.before)
-past5 c = (sym (row5 c.before) ∙ c.if2.false, past4 c.before.before)
+past5 : (c : tie.Else-already_open) → Past OutsideLimits (at5 c.before)
+past5 c = (sym (row5 c.before) ∙ c.if-already_open.false, past4 c.before.before)
 
-abbrev at6 : tie.After-within-limits → tie.Start
+abbrev at6 : tie.After-within_limits → tie.Start
 at6 c = at5 c.before.before
 
-row6 : (c : tie.After-within-limits) → not c.within-limits.result ≡ Row OutsideLimits (at6 c)
-row6 c = ap not c.within-limits.ensures ∙ limits-row (view (at6 c)) (request (at6 c))
+row6 : (c : tie.After-within_limits) → not c.within_limits.result ≡ Row OutsideLimits (at6 c)
+row6 c = ap not c.within_limits.ensures ∙ limits-row (view (at6 c)) (request (at6 c))
 
-past6 : (c : tie.Else3) → Past SnapshotTaken (at6 c.before)
-past6 c = (sym (row6 c.before) ∙ c.if3.false, past5 c.before.before)
+past6 : (c : tie.Else-not-within_limits) → Past SnapshotTaken (at6 c.before)
+past6 c = (sym (row6 c.before) ∙ c.if-not-within_limits.false-raw, past5 c.before.before)
 
-abbrev at7 : tie.After-snapshot-taken → tie.Start
+abbrev at7 : tie.After-snapshot_taken → tie.Start
 at7 c = at6 c.before.before
 
-row7 : (c : tie.After-snapshot-taken) → c.snapshot-taken.result ≡ Row SnapshotTaken (at7 c)
-row7 c = c.snapshot-taken.ensures (view (at7 c)) refl
+row7 : (c : tie.After-snapshot_taken) → c.snapshot_taken.result ≡ Row SnapshotTaken (at7 c)
+row7 c = c.snapshot_taken.ensures (view (at7 c)) refl
 
-past7 : (c : tie.Else4) → Past NoSnapshot (at7 c.before)
-past7 c = (sym (row7 c.before) ∙ c.if4.false, past6 c.before.before)
+past7 : (c : tie.Else-snapshot_taken) → Past NoSnapshot (at7 c.before)
+past7 c = (sym (row7 c.before) ∙ c.if-snapshot_taken.false, past6 c.before.before)
 
-abbrev at8 : tie.After-no-snapshot → tie.Start
+abbrev at8 : tie.After-no_snapshot → tie.Start
 at8 c = at7 c.before.before
 
-row8 : (c : tie.After-no-snapshot) → c.no-snapshot.result ≡ Row NoSnapshot (at8 c)
-row8 c = c.no-snapshot.ensures (view (at8 c)) refl
+row8 : (c : tie.After-no_snapshot) → c.no_snapshot.result ≡ Row NoSnapshot (at8 c)
+row8 c = c.no_snapshot.ensures (view (at8 c)) refl
 
-past8 : (c : tie.Else5) → Past NotMapped (at8 c.before)
-past8 c = (sym (row8 c.before) ∙ c.if5.false, past7 c.before.before)
+past8 : (c : tie.Else-no_snapshot) → Past NotMapped (at8 c.before)
+past8 c = (sym (row8 c.before) ∙ c.if-no_snapshot.false, past7 c.before.before)
 
 -- ---- the needs
 
-not-open-requires : tie.Need-not-open-requires
+not-open-requires : tie.Need-not_open-requires
 not-open-requires c κs = search rules
 
 refuse-requires : tie.Need-refuse-requires
 refuse-requires c κs = search rules
 
-returns : tie.Need-returns
+returns : tie.Need-returns-then-not_open
 returns c =
     let test = c.before.before in
     let s = at4 test in
     refused (view s) (request s) s.args.b NotOpen c.refuse.result c.refuse.ensures
-    (past3 s) (sym (row4 test) ∙ c.before.if1.true)
+    (past3 s) (sym (row4 test) ∙ c.before.if-not_open.true)
 
-already-open-requires : tie.Need-already-open-requires
+already-open-requires : tie.Need-already_open-requires
 already-open-requires c κs = search rules
 
-refuse-requires-2 : tie.Need-refuse-requires-2
+refuse-requires-2 : tie.Need-refuse-requires-then-already_open
 refuse-requires-2 c κs = search rules
 
-returns-2 : tie.Need-returns-2
+returns-2 : tie.Need-returns-then-already_open
 returns-2 c =
     let test = c.before.before in
     let s = at5 test in
-    refused (view s) (request s) s.args.b AlreadyOpen c.refuse2.result c.refuse2.ensures
-    (past4 test.before) (sym (row5 test) ∙ c.before.if2.true)
+    refused (view s) (request s) s.args.b AlreadyOpen c.refuse-then-already_open.result c.refuse-then-already_open.ensures
+    (past4 test.before) (sym (row5 test) ∙ c.before.if-already_open.true)
 
-within-limits-requires : tie.Need-within-limits-requires
+within-limits-requires : tie.Need-within_limits-requires
 within-limits-requires c κs = search rules
 
-refuse-requires-3 : tie.Need-refuse-requires-3
+refuse-requires-3 : tie.Need-refuse-requires-then-not-within_limits
 refuse-requires-3 c κs = search rules
 
-returns-3 : tie.Need-returns-3
+returns-3 : tie.Need-returns-then-not-within_limits
 returns-3 c =
     let test = c.before.before in
     let s = at6 test in
-    refused (view s) (request s) s.args.b OutsideLimits c.refuse3.result c.refuse3.ensures
-    (past5 test.before) (sym (row6 test) ∙ c.before.if3.true)
+    refused (view s) (request s) s.args.b OutsideLimits c.refuse-then-not-within_limits.result c.refuse-then-not-within_limits.ensures
+    (past5 test.before) (sym (row6 test) ∙ c.before.if-not-within_limits.true-raw)
 
-snapshot-taken-requires : tie.Need-snapshot-taken-requires
+snapshot-taken-requires : tie.Need-snapshot_taken-requires
 snapshot-taken-requires c κs = search rules
 
-refuse-requires-4 : tie.Need-refuse-requires-4
+refuse-requires-4 : tie.Need-refuse-requires-then-snapshot_taken
 refuse-requires-4 c κs = search rules
 
-returns-4 : tie.Need-returns-4
+returns-4 : tie.Need-returns-then-snapshot_taken
 returns-4 c =
     let test = c.before.before in
     let s = at7 test in
-    refused (view s) (request s) s.args.b SnapshotTaken c.refuse4.result c.refuse4.ensures
-    (past6 test.before) (sym (row7 test) ∙ c.before.if4.true)
+    refused (view s) (request s) s.args.b SnapshotTaken c.refuse-then-snapshot_taken.result c.refuse-then-snapshot_taken.ensures
+    (past6 test.before) (sym (row7 test) ∙ c.before.if-snapshot_taken.true)
 
-no-snapshot-requires : tie.Need-no-snapshot-requires
+no-snapshot-requires : tie.Need-no_snapshot-requires
 no-snapshot-requires c κs = search rules
 
-refuse-requires-5 : tie.Need-refuse-requires-5
+refuse-requires-5 : tie.Need-refuse-requires-then-no_snapshot
 refuse-requires-5 c κs = search rules
 
-returns-5 : tie.Need-returns-5
+returns-5 : tie.Need-returns-then-no_snapshot
 returns-5 c =
     let test = c.before.before in
     let s = at8 test in
-    refused (view s) (request s) s.args.b NoSnapshot c.refuse5.result c.refuse5.ensures
-    (past7 test.before) (sym (row8 test) ∙ c.before.if5.true)
+    refused (view s) (request s) s.args.b NoSnapshot c.refuse-then-no_snapshot.result c.refuse-then-no_snapshot.ensures
+    (past7 test.before) (sym (row8 test) ∙ c.before.if-no_snapshot.true)
 
-decide-pages-requires : tie.Need-decide-pages-requires
+decide-pages-requires : tie.Need-decide_pages-requires
 decide-pages-requires c κs =
     let s = at8 c.before in
-    (none-before-9 (view s) (request s) (past8 c), s.pre.1.1)
+    (none-before-9 (view s) (request s) (past8 c), s.requires.ready)
 
-returns-6 : tie.Need-returns-6
-returns-6 c = c.decide-pages.ensures
+returns-6 : tie.Need-returns
+returns-6 c = c.decide_pages.ensures
 
-pub decide-spec : {M : Type 1} → statement M
-decide-spec =
+pub decide_spec : {M : Type 1} → statement M
+decide_spec =
     tie.close
     (tie.spec
     not-open-requires

@@ -36,11 +36,11 @@ same image pool table s present snapshot i =
 abbrev of : List ℕ → List ℕ → List ℕ → ℕ → Areas → Areas → ℕ → Bool
 of image pool table s present snapshot i = agree (slots present i) (slots snapshot i) (same image pool table s present snapshot i)
 
-abbrev invariant-loop : tie.invariant-loop
+abbrev invariant-loop : tie.invariant-loop-i
 invariant-loop pool table image s present snapshot stay i₀ i =
     (i ≤ 64) × (lowest (λ k. not (of image pool table s present snapshot k)) 0 64 ≡ lowest (λ k. not (of image pool table s present snapshot k)) i (64 - i))
 
-abbrev decreases-loop : tie.decreases-loop
+abbrev decreases-loop : tie.decreases-loop-i
 decreases-loop pool table image s present snapshot stay i₀ i = 64 - i
 
 -- ---- where the loop starts
@@ -49,29 +49,29 @@ abbrev Start : Type 0
 Start = tie.Start invariant-loop decreases-loop
 
 formed : (s : Start) → Formed s.args.b.present
-formed s = settled (pages_in (length s.args.image.now)) s.args.b.present s.requires.1.0.sound.present s.requires.1.0.few
+formed s = settled (pages_in (length s.args.image.now)) s.args.b.present s.requires.ready.sound.present s.requires.ready.few
 
 formed-copy : (s : Start) → Formed s.args.b.snapshot
-formed-copy s = settled (pages_in (length s.args.image.now)) s.args.b.snapshot s.requires.1.0.sound.snapshot s.requires.1.0.few
+formed-copy s = settled (pages_in (length s.args.image.now)) s.args.b.snapshot s.requires.ready.sound.snapshot s.requires.ready.few
 
 -- what page i is tested by
 abbrev of_in : Start → ℕ → Bool
 of_in s = of s.args.image.now s.args.pool.now s.args.table.now s.args.s s.args.b.present s.args.b.snapshot
 
-abbrev behind : tie.In-loop invariant-loop decreases-loop → Start
+abbrev behind : tie.In-loop-i invariant-loop decreases-loop → Start
 behind c = c.before.before.before.before.before.before.before.before
 
-abbrev page_in : tie.In-loop invariant-loop decreases-loop → ℕ
-page_in c = c.before.loop.i
+abbrev page_in : tie.In-loop-i invariant-loop decreases-loop → ℕ
+page_in c = c.before.loop-i.i
 
 -- the turn in which a page was found, and where the page that is compared was
-abbrev turn_of : tie.After-slot invariant-loop decreases-loop → tie.In-loop invariant-loop decreases-loop
+abbrev turn_of : tie.After-slot-slot invariant-loop decreases-loop → tie.In-loop-i invariant-loop decreases-loop
 turn_of c = c.before.before.before.before
 
-abbrev found_same : tie.After-agrees invariant-loop decreases-loop → tie.After-slot invariant-loop decreases-loop
+abbrev found_same : tie.After-agrees invariant-loop decreases-loop → tie.After-slot-slot invariant-loop decreases-loop
 found_same c = c.before.before
 
-abbrev found_other : tie.After-agrees2 invariant-loop decreases-loop → tie.After-slot invariant-loop decreases-loop
+abbrev found_other : tie.After-agrees-else-same invariant-loop decreases-loop → tie.After-slot-slot invariant-loop decreases-loop
 found_other c = c.before.before.before
 
 -- ---- a turn of the loop
@@ -82,23 +82,23 @@ entries : (s : Start) (i : ℕ) → let at : ℕ → ℕ = λ k. get_or s.args.t
     (at (front_of s.args.s i) ≤ 128) × (at (front_of s.args.s i) * 256 ≤ room) × (at (back_of s.args.s i) ≤ 128)
     × (at (back_of s.args.s i) * 256 ≤ room)
 entries s i =
-    let ranged = s.requires.1.1 in
+    let ranged = s.requires.ranged in
     (ranged.few (front_of s.args.s i), ranged.room (front_of s.args.s i), ranged.few (back_of s.args.s i), ranged.room (back_of s.args.s i))
 
 -- a page without a front, where every area stays
-passed : (c : tie.Else1 invariant-loop decreases-loop) → let turn = c.before.before in of_in (behind turn) (page_in turn) ≡ true
+passed : (c : tie.Else-not-same-front invariant-loop decreases-loop) → let turn = c.before.before in of_in (behind turn) (page_in turn) ≡ true
 passed c =
     let turn = c.before.before in
     let s = behind turn in
     let i = page_in turn in
-    let all = turn.before.before.are-unchanged in
-    let both = not-false _ c.if1.false in
+    let all = turn.before.before.are_unchanged-same in
+    let both = not-false _ c.if-not-same-front.false-raw in
     let still = sym all.ensures ∙ and_left all.result _ both in
-    let none = rw c.before.front.ensures at (and_right all.result _ both) in
+    let none = rw c.before.front-front.ensures at (and_right all.result _ both) in
     let entry : ℕ → ℕ = λ k. get_or s.args.table.now k 0 in
     stays-alike s.args.b.present s.args.b.snapshot (formed s) (formed-copy s) still i _
     (λ m. passed_over s.args.image.now s.args.pool.now (slots s.args.b.present i) (slots s.args.b.snapshot i)
-    (entry (front_of s.args.s i)) (entry (back_of s.args.s i)) (and-of m none) (s.pre.1.0.sound.backing i))
+    (entry (front_of s.args.s i)) (entry (back_of s.args.s i)) (and-of m none) (s.requires.ready.sound.backing i))
 
 -- where every area stays, a page with a front is compared with what stands there itself
 itself : (s : Start) (i : ℕ) → unchanged s.args.b.present s.args.b.snapshot ≡ true
@@ -109,68 +109,68 @@ itself : (s : Start) (i : ℕ) → unchanged s.args.b.present s.args.b.snapshot 
     (same_bytes 256 (reads_now s.args.image.now s.args.pool.now mine mine front back)
     (reads_copied s.args.image.now s.args.pool.now mine mine front back))
     ≡ of_in s i
-itself s i u = alike-slots s.args.b.present s.args.b.snapshot (formed s) (formed-copy s) u i _ _ (λ m. rw (s.requires.1.0.sound.backing i m))
+itself s i u = alike-slots s.args.b.present s.args.b.snapshot (formed s) (formed-copy s) u i _ _ (λ m. rw (s.requires.ready.sound.backing i m))
 
 compared-itself : (c : tie.After-agrees invariant-loop decreases-loop) → let turn = turn_of (found_same c) in c.agrees.result ≡ of_in (behind turn) (page_in turn)
 compared-itself c =
     let found = found_same c in
     let turn = turn_of found in
     let a = (behind turn).args in
-    let all = turn.before.before.are-unchanged in
-    let slot = found.slot.ensures in
+    let all = turn.before.before.are_unchanged-same in
+    let slot = found.slot-slot.ensures in
     c.agrees.ensures
-    ∙ agree-as a.image.now a.pool.now _ _ _ _ _ _ _ _ slot slot found.before.before.before.front.ensures found.before.back.ensures
-    ∙ itself (behind turn) (page_in turn) (sym all.ensures ∙ c.before.if2.true)
+    ∙ agree-as a.image.now a.pool.now _ _ _ _ _ _ _ _ slot slot found.before.before.before.front-front.ensures found.before.back-back.ensures
+    ∙ itself (behind turn) (page_in turn) (sym all.ensures ∙ c.before.if-same.true)
 
 -- else with the snapshot's
-compared : (c : tie.After-agrees2 invariant-loop decreases-loop) → let turn = turn_of (found_other c) in c.agrees2.result ≡ of_in (behind turn) (page_in turn)
+compared : (c : tie.After-agrees-else-same invariant-loop decreases-loop) → let turn = turn_of (found_other c) in c.agrees-else-same.result ≡ of_in (behind turn) (page_in turn)
 compared c =
     let found = found_other c in
     let a = (behind (turn_of found)).args in
-    c.agrees2.ensures
-    ∙ agree-as a.image.now a.pool.now _ _ _ _ _ _ _ _ found.slot.ensures c.before.slot2.ensures
-    found.before.before.before.front.ensures found.before.back.ensures
+    c.agrees-else-same.ensures
+    ∙ agree-as a.image.now a.pool.now _ _ _ _ _ _ _ _ found.slot-slot.ensures c.before.slot-copied.ensures
+    found.before.before.before.front-front.ensures found.before.back-back.ensures
 
 -- any way the page agrees
-agreed : (c : tie.Joined1 invariant-loop decreases-loop) → let turn = c.before.before in of_in (behind turn) (page_in turn) ≡ true
+agreed : (c : tie.Joined-not-same-front invariant-loop decreases-loop) → let turn = c.before.before in of_in (behind turn) (page_in turn) ≡ true
 agreed c =
     ⊎_elim
     (λ w.
-    let found : tie.After-slot invariant-loop decreases-loop = record { before = record { before = record { before = c.before; if1 = w.0 }; back = w.1 }; slot = w.2 } in
-    let stays : tie.Then2 invariant-loop decreases-loop = record { before = found; if2 = w.3 } in
+    let found : tie.After-slot-slot invariant-loop decreases-loop = record { before = record { before = record { before = c.before; if1 = w.0 }; back = w.1 }; slot = w.2 } in
+    let stays : tie.Then-same invariant-loop decreases-loop = record { before = found; if2 = w.3 } in
     sym (compared-itself (record { before = stays; agrees = w.4 })) ∙ not-false _ w.5.left)
     (λ v. ⊎_elim
     (λ w.
-    let found : tie.After-slot invariant-loop decreases-loop = record { before = record { before = record { before = c.before; if1 = w.0 }; back = w.1 }; slot = w.2 } in
-    let both : tie.After-slot2 invariant-loop decreases-loop = record { before = record { before = found; if2 = w.3 }; slot2 = w.4 } in
+    let found : tie.After-slot-slot invariant-loop decreases-loop = record { before = record { before = record { before = c.before; if1 = w.0 }; back = w.1 }; slot = w.2 } in
+    let both : tie.After-slot-copied invariant-loop decreases-loop = record { before = record { before = found; if2 = w.3 }; slot2 = w.4 } in
     sym (compared (record { before = both; agrees2 = w.5 })) ∙ not-false _ w.6.left)
     (λ w. passed (record { before = c.before; if1 = w }))
     v)
-    c.if1.branch
+    c.if-not-same-front.branch
 
 -- where it does not, the loop stops there
-stops : (turn : tie.In-loop invariant-loop decreases-loop) → not (of_in (behind turn) (page_in turn)) ≡ true
+stops : (turn : tie.In-loop-i invariant-loop decreases-loop) → not (of_in (behind turn) (page_in turn)) ≡ true
     → page_in turn ≡ lowest (λ k. not (of_in (behind turn) k)) 0 64
-stops turn h = sym (turn.before.loop.invariant.1 ∙ lowest-stop (λ k. not (of_in (behind turn) k)) 64 (page_in turn) turn.loop-test.true h)
+stops turn h = sym (turn.before.loop-i.invariant.1 ∙ lowest-stop (λ k. not (of_in (behind turn) k)) 64 (page_in turn) turn.loop-i-test.true h)
 
 -- ---- the needs
 
-are-unchanged-requires : tie.Need-are-unchanged-requires invariant-loop decreases-loop
+are-unchanged-requires : tie.Need-are_unchanged-same-requires invariant-loop decreases-loop
 are-unchanged-requires c κs = tt
 
-loop-holds : tie.Need-loop-init invariant-loop decreases-loop
+loop-holds : tie.Need-loop-i-init invariant-loop decreases-loop
 loop-holds c = (omega arith, refl)
 
-front-requires : tie.Need-front-requires invariant-loop decreases-loop
-front-requires c κs = let s = behind c in (s.pre.0, (c.loop-test.true, s.pre.1.1.entries))
+front-requires : tie.Need-front-front-requires invariant-loop decreases-loop
+front-requires c κs = let s = behind c in (s.requires.s_bound, (c.loop-i-test.true, s.requires.ranged.entries))
 
-back-requires : tie.Need-back-requires invariant-loop decreases-loop
-back-requires c κs = let s = behind c.before.before in (s.pre.0, (c.before.before.loop-test.true, s.pre.1.1.entries))
+back-requires : tie.Need-back-back-requires invariant-loop decreases-loop
+back-requires c κs = let s = behind c.before.before in (s.requires.s_bound, (c.before.before.loop-i-test.true, s.requires.ranged.entries))
 
-slot-requires : tie.Need-slot-requires invariant-loop decreases-loop
+slot-requires : tie.Need-slot-slot-requires invariant-loop decreases-loop
 slot-requires c κs =
     let turn = c.before.before.before in
-    (near-formed (behind turn).args.b.present (formed (behind turn)), turn.loop-test.true)
+    (near-formed (behind turn).args.b.present (formed (behind turn)), turn.loop-i-test.true)
 
 agrees-requires : tie.Need-agrees-requires invariant-loop decreases-loop
 agrees-requires c κs =
@@ -178,61 +178,61 @@ agrees-requires c κs =
     let turn = turn_of found in
     let s = behind turn in
     let i = page_in turn in
-    let front = found.before.before.before.front in
-    let backing = backing-there s.args.image.now s.args.b.present s.pre.1.0.sound.present i in
+    let front = found.before.before.before.front-front in
+    let backing = backing-there s.args.image.now s.args.b.present s.requires.ready.sound.present i in
     let named = entries s i in
-    rw (found.slot.ensures, found.before.back.ensures, front.ensures)
+    rw (found.slot-slot.ensures, found.before.back-back.ensures, front.ensures)
     (named.0, (named.1, (named.2, (named.3, (backing, (backing, λ m. refl))))))
 
-returns : tie.Need-returns invariant-loop decreases-loop
+returns : tie.Need-returns-then-not-agrees invariant-loop decreases-loop
 unfolding differing lowest_difference page_read page_under copy_read contents
-returns c = λ h. stops (turn_of (found_same c.before)) (ap not (sym (compared-itself c.before)) ∙ c.if3.true)
+returns c = λ h. stops (turn_of (found_same c.before)) (ap not (sym (compared-itself c.before)) ∙ c.if-not-agrees.true-raw)
 
-slot-requires-2 : tie.Need-slot-requires-2 invariant-loop decreases-loop
+slot-requires-2 : tie.Need-slot-copied-requires invariant-loop decreases-loop
 slot-requires-2 c κs =
     let turn = turn_of c.before in
-    (near-formed (behind turn).args.b.snapshot (formed-copy (behind turn)), turn.loop-test.taken)
+    (near-formed (behind turn).args.b.snapshot (formed-copy (behind turn)), turn.loop-i-test.taken)
 
-agrees-requires-2 : tie.Need-agrees-requires-2 invariant-loop decreases-loop
+agrees-requires-2 : tie.Need-agrees-requires-else-same invariant-loop decreases-loop
 agrees-requires-2 c κs =
     let found = c.before.before in
     let turn = turn_of found in
     let s = behind turn in
     let i = page_in turn in
-    let front = found.before.before.before.front in
-    let ready = s.pre.1.0 in
+    let front = found.before.before.before.front-front in
+    let ready = s.requires.ready in
     let backing = backing-there s.args.image.now s.args.b.present ready.sound.present i in
     let copied = backing-there s.args.image.now s.args.b.snapshot ready.sound.snapshot i in
     let named = entries s i in
-    rw (c.slot2.ensures, found.slot.ensures, found.before.back.ensures, front.ensures)
+    rw (c.slot-copied.ensures, found.slot-slot.ensures, found.before.back-back.ensures, front.ensures)
     (named.0, (named.1, (named.2, (named.3, (backing, (copied, ready.sound.backing i))))))
 
-returns-2 : tie.Need-returns-2 invariant-loop decreases-loop
+returns-2 : tie.Need-returns-then-not-agrees-2 invariant-loop decreases-loop
 unfolding differing lowest_difference page_read page_under copy_read contents
-returns-2 c = λ h. stops (turn_of (found_other c.before)) (ap not (sym (compared c.before)) ∙ c.if4.true)
+returns-2 c = λ h. stops (turn_of (found_other c.before)) (ap not (sym (compared c.before)) ∙ c.if-not-agrees-2.true-raw)
 
-add-i : tie.Need-overflow-add-i invariant-loop decreases-loop
+add-i : tie.Need-overflow_step-i invariant-loop decreases-loop
 add-i c = omega arith
 
-loop-less : tie.Need-loop-smaller invariant-loop decreases-loop
+loop-less : tie.Need-loop-i-smaller invariant-loop decreases-loop
 loop-less c = omega arith
 
-loop-again : tie.Need-loop-preserved invariant-loop decreases-loop
+loop-again : tie.Need-loop-i-preserved invariant-loop decreases-loop
 loop-again c =
     let turn = c.before.before in
     let s = behind turn in
-    let test = turn.loop-test.true in
-    (omega (arith, test), turn.before.loop.invariant.1 ∙ lowest-next (λ k. not (of_in s k)) 64 (page_in turn) test (ap not (agreed c)))
+    let test = turn.loop-i-test.true in
+    (omega (arith, test), turn.before.loop-i.invariant.1 ∙ lowest-next (λ k. not (of_in s k)) 64 (page_in turn) test (ap not (agreed c)))
 
-returns-3 : tie.Need-returns-3 invariant-loop decreases-loop
+returns-3 : tie.Need-returns invariant-loop decreases-loop
 unfolding differing lowest_difference page_read page_under copy_read contents
 returns-3 c = λ h.
     let s = c.before.before.before.before.before.before.before.before in
-    let l = c.before.loop in
-    sym (l.invariant.1 ∙ lowest-end (λ k. not (of_in s k)) 64 l.i c.loop-test.false ∙ omega arith)
+    let l = c.before.loop-i in
+    sym (l.invariant.1 ∙ lowest-end (λ k. not (of_in s k)) 64 l.i c.loop-i-test.false ∙ omega arith)
 
-pub lowest-difference-spec : {M : Type 1} → statement M
-lowest-difference-spec =
+pub lowest_difference_spec : {M : Type 1} → statement M
+lowest_difference_spec =
     tie.close
     (tie.spec
     invariant-loop

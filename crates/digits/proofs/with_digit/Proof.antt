@@ -4,27 +4,27 @@ use Rattle.digits.proofs.DigitLaws.{digit-read, digit-missing}
 use Rattle.digits.proofs.with_digit.Statement.{statement}
 use Rattle.digits.proofs.with_digit.Tie as tie
 
-digit-of-requires : tie.Need-digit-of-requires
+digit-of-requires : tie.Need-digit_of-digit-requires
 digit-of-requires c κs = search rules
 
-returns : tie.Need-returns
+returns : tie.Need-returns-then-digit-ge-RADIX
 returns c =
     let start = c.before.before in
-    let taken = c.before.digit-of in
-    digit-missing start.args.n start.args.byte taken.result taken.ensures (search rules) c.if1.true
+    let taken = c.before.digit_of-digit in
+    digit-missing start.args.n start.args.byte taken.result taken.ensures (search rules) c.if-digit-ge-RADIX.true
 
-mul-result : tie.Need-overflow-mul-result
+mul-result : tie.Need-overflow_mul-result
 mul-result c = search rules
 
-add-result : tie.Need-overflow-add-result
+add-result : tie.Need-overflow_add-result
 add-result c = search rules
 
-returns-2 : tie.Need-returns-2
+returns-2 : tie.Need-returns
 returns-2 c =
     let start = c.before.before in
-    let taken = c.before.digit-of in
-    digit-read start.args.n start.args.byte taken.result taken.ensures (search rules) c.if1.false
+    let taken = c.before.digit_of-digit in
+    digit-read start.args.n start.args.byte taken.result taken.ensures (search rules) c.if-digit-ge-RADIX.false
 
-pub with-digit-spec : {M : Type 1} → statement M
-with-digit-spec =
+pub with_digit_spec : {M : Type 1} → statement M
+with_digit_spec =
     tie.close (tie.spec digit-of-requires returns mul-result add-result returns-2)

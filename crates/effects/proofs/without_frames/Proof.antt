@@ -11,71 +11,71 @@ store_in s = kept s.args.held s.args.pool.now s.args.table.now
 
 -- ---- where each arm starts
 
-abbrev behind : tie.After-runs → tie.Start
+abbrev behind : tie.After-runs-1 → tie.Start
 behind c = c.before.before.before.before.before
 
-abbrev freeing : tie.After-struct-known2 → tie.At-match-keys1
+abbrev freeing : tie.After-struct_known-in-3-1 → tie.In-3
 freeing c = c.before.before.before
 
-abbrev copying : tie.After-move-fronts-arg → tie.At-match-keys2
+abbrev copying : tie.After-move_fronts-arg-1 → tie.In-7
 copying c = c.before
 
 -- ---- the needs
 
-cast-s : tie.Need-overflow-cast-s
+cast-s : tie.Need-overflow_cast-s
 cast-s c = search rules
 
-cast-t16 : tie.Need-overflow-cast-t16
+cast-t16 : tie.Need-overflow_cast-q
 cast-t16 c =
     let arm = freeing c in
-    omega (arith, (behind arm.before).requires.1.1.1.1.0.unmapped arm.match.keys1)
+    omega (arith, (behind arm.before).requires.fit.unmapped arm.in-3.keys1)
 
-cast-free-range : tie.Need-overflow-cast-free-range
+cast-free-range : tie.Need-overflow_cast-q-in-3
 cast-free-range c =
     let arm = freeing c.before in
-    omega (arith, (behind arm.before).requires.1.1.1.1.0.unmapped arm.match.keys1)
+    omega (arith, (behind arm.before).requires.fit.unmapped arm.in-3.keys1)
 
-free-range-requires : tie.Need-free-range-requires
+free-range-requires : tie.Need-free_range-h-requires
 free-range-requires c κs =
     let arm = freeing c.before in
     let s = behind arm.before in
-    (s.pre.1.1.1.0, (s.pre.1.1.1.1.0.unmapped arm.match.keys1, s.pre.1.1.1.1.1.1))
+    (s.requires.sandbox_bound, (s.requires.fit.unmapped arm.in-3.keys1, s.requires.ranged))
 
-move-fronts-requires : tie.Need-move-fronts-requires
+move-fronts-requires : tie.Need-move_fronts-requires
 move-fronts-requires c κs = search rules
 
-same_length : tie.Need-same-length
+same_length : tie.Need-shape_of-pool
 same_length c = search rules
 
-same-length-2 : tie.Need-same-length-2
+same-length-2 : tie.Need-shape_of-table-in-3
 same-length-2 c = search rules
 
-returns : tie.Need-returns
+returns : tie.Need-returns-in-3
 returns c =
     let freed = c.before.before.before.before in
     let arm = freeing freed.before.before in
     let s = behind arm.before in
-    unmapped s.args.image.now s.args.q s.args.b (store_in s) _ arm.match.keys1 freed.free-range.ensures
+    unmapped s.args.image.now s.args.q s.args.b (store_in s) _ arm.in-3.keys1 freed.free_range-h.ensures
 
-same-length-3 : tie.Need-same-length-3
+same-length-3 : tie.Need-shape_of-table-in-7
 same-length-3 c = search rules
 
-returns-2 : tie.Need-returns-2
+returns-2 : tie.Need-returns-in-7
 returns-2 c =
     let moved = c.before.before in
     let arm = copying moved.before in
     let s = behind arm.before in
-    copied s.args.image.now s.args.q s.args.b (store_in s) _ arm.match.keys2
-    (moved.move-fronts.ensures s.args.held s.args.pool.now)
+    copied s.args.image.now s.args.q s.args.b (store_in s) _ arm.in-7.keys2
+    (moved.move_fronts.ensures s.args.held s.args.pool.now)
 
-returns-3 : tie.Need-returns-3
+returns-3 : tie.Need-returns-in_default
 returns-3 c =
     let s = behind c.before in
-    let none = c.match.rest in
-    left_alone s.args.image.now s.args.q s.args.b (store_in s) s.pre.0 none.0.1 s.pre.1.0 none.1 s.pre.1.1.0
+    let none = c.in_default.rest in
+    left_alone s.args.image.now s.args.q s.args.b (store_in s) s.requires.fact none.0.1 s.requires.fact_2 none.1 s.requires.fact_3
 
-pub without-frames-spec : {M : Type 1} → statement M
-without-frames-spec =
+pub without_frames_spec : {M : Type 1} → statement M
+without_frames_spec =
     tie.close
     (tie.spec
     cast-s

@@ -11,60 +11,60 @@ use borrow.Author.Rules.{rules}
 use Rattle.encoding.proofs.are_sandboxes.Statement.{statement}
 use Rattle.encoding.proofs.are_sandboxes.Tie as tie
 
-abbrev invariant-loop : tie.invariant-loop
+abbrev invariant-loop : tie.invariant-loop-s
 invariant-loop bytes all₀ s₀ all s = Tested (λ j. is_sandbox (part_in sandbox_size bytes j)) 4 all s
 
-abbrev decreases-loop : tie.decreases-loop
+abbrev decreases-loop : tie.decreases-loop-s
 decreases-loop bytes all₀ s₀ all s = 4 - s
 
 -- the bytes, seen from the loop
-abbrev bytes_of : tie.At-loop invariant-loop decreases-loop → List ℕ
+abbrev bytes_of : tie.At-loop-s invariant-loop decreases-loop → List ℕ
 bytes_of c = c.before.before.args.bytes.now
 
-loop-holds : tie.Need-loop-init invariant-loop decreases-loop
+loop-holds : tie.Need-loop-s-init invariant-loop decreases-loop
 loop-holds c = let bytes = c.before.args.bytes.now in tested-none (λ j. is_sandbox (part_in sandbox_size bytes j)) 4
 
-mul_at : tie.Need-overflow-mul-at invariant-loop decreases-loop
+mul_at : tie.Need-overflow_mul-at invariant-loop decreases-loop
 mul_at c = search rules
 
-add-end : tie.Need-overflow-add-end invariant-loop decreases-loop
+add-end : tie.Need-overflow_add-end invariant-loop decreases-loop
 add-end c = search rules
 
-sub-is-sandbox : tie.Need-overflow-sub-is-sandbox invariant-loop decreases-loop
+sub-is-sandbox : tie.Need-slice_bounds-is_sandbox-count invariant-loop decreases-loop
 sub-is-sandbox c = search rules
 
-part-is-sandbox-start : tie.Need-slice-bounds-is-sandbox-start invariant-loop decreases-loop
+part-is-sandbox-start : tie.Need-slice_bounds-is_sandbox-start invariant-loop decreases-loop
 part-is-sandbox-start c = search rules
 
-part-is-sandbox-end : tie.Need-slice-bounds-is-sandbox-end invariant-loop decreases-loop
+part-is-sandbox-end : tie.Need-slice_bounds-is_sandbox-end invariant-loop decreases-loop
 part-is-sandbox-end c = search rules
 
-is-sandbox-requires : tie.Need-is-sandbox-requires invariant-loop decreases-loop
+is-sandbox-requires : tie.Need-is_sandbox-all-requires invariant-loop decreases-loop
 is-sandbox-requires c κs = search rules
 
-add-s : tie.Need-overflow-add-s invariant-loop decreases-loop
+add-s : tie.Need-overflow_step-s invariant-loop decreases-loop
 add-s c = search rules
 
-loop-less : tie.Need-loop-smaller invariant-loop decreases-loop
+loop-less : tie.Need-loop-s-smaller invariant-loop decreases-loop
 loop-less c = search rules
 
-loop-again : tie.Need-loop-preserved invariant-loop decreases-loop
+loop-again : tie.Need-loop-s-preserved invariant-loop decreases-loop
 loop-again c =
     let turn = c.before.before in
-    let at = turn.before.loop in
+    let at = turn.before.loop-s in
     let bytes = bytes_of turn.before in
-    let got = c.is-sandbox.ensures ∙ ap is_sandbox (part-lent bytes (at.s * sandbox_size) sandbox_size) in
-    tested-next (λ j. is_sandbox (part_in sandbox_size bytes j)) 4 at.all c.is-sandbox.result at.s at.invariant turn.loop-test.true got
+    let got = c.is_sandbox-all.ensures ∙ ap is_sandbox (part-lent bytes (at.s * sandbox_size) sandbox_size) in
+    tested-next (λ j. is_sandbox (part_in sandbox_size bytes j)) 4 at.all c.is_sandbox-all.result at.s at.invariant turn.loop-s-test.true got
 
 returns : tie.Need-returns invariant-loop decreases-loop
 unfolding are_sandboxes
 returns c =
-    let at = c.before.loop in
+    let at = c.before.loop-s in
     let bytes = bytes_of c.before in
-    tested-all (λ j. is_sandbox (part_in sandbox_size bytes j)) 4 at.all at.s at.invariant (omega (arith, c.loop-test.false))
+    tested-all (λ j. is_sandbox (part_in sandbox_size bytes j)) 4 at.all at.s at.invariant (omega (arith, c.loop-s-test.false))
 
-pub are-sandboxes-spec : {M : Type 1} → statement M
-are-sandboxes-spec =
+pub are_sandboxes_spec : {M : Type 1} → statement M
+are_sandboxes_spec =
     tie.close
     (tie.spec
     invariant-loop

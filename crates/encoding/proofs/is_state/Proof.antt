@@ -6,18 +6,18 @@ use borrow.Author.Rules.{rules}
 use Rattle.encoding.proofs.is_state.Statement.{statement}
 use Rattle.encoding.proofs.is_state.Tie as tie
 
-returns : tie.Need-returns
+returns : tie.Need-returns-then-bytes-ne-STATE
 unfolding is_state
-returns c = rw (ne_eqb (length c.before.before.args.bytes.now) state_size c.if1.true)
+returns c = rw (ne_eqb (length c.before.before.args.bytes.now) state_size c.if-bytes-ne-STATE.true)
 
-are-sandboxes-requires : tie.Need-are-sandboxes-requires
+are-sandboxes-requires : tie.Need-are_sandboxes-requires
 are-sandboxes-requires c κs = search rules
 
-returns-2 : tie.Need-returns-2
+returns-2 : tie.Need-returns
 unfolding is_state
 returns-2 c =
     let branch = c.before in
-    rw (eq-eqb (length branch.before.before.args.bytes.now) state_size branch.if1.false) c.are-sandboxes.ensures
+    rw (eq-eqb (length branch.before.before.args.bytes.now) state_size branch.if-bytes-ne-STATE.false) c.are_sandboxes.ensures
 
-pub is-state-spec : {M : Type 1} → statement M
-is-state-spec = tie.close (tie.spec returns are-sandboxes-requires returns-2)
+pub is_state_spec : {M : Type 1} → statement M
+is_state_spec = tie.close (tie.spec returns are-sandboxes-requires returns-2)

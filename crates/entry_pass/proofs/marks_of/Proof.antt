@@ -14,110 +14,110 @@ use Rattle.entry_pass.proofs.PassLaws.{pass-more, pass-none, pass-small, pass-ma
 use Rattle.entry_pass.proofs.marks_of.Statement.{statement}
 use Rattle.entry_pass.proofs.marks_of.Tie as tie
 
-abbrev invariant-loop : tie.invariant-loop
+abbrev invariant-loop : tie.invariant-loop-i
 invariant-loop table first entries frames found₀ i₀ found i = (i ≤ entries) × (found ≡ pass_to frames (from first table) i)
 
-abbrev decreases-loop : tie.decreases-loop
+abbrev decreases-loop : tie.decreases-loop-i
 decreases-loop table first entries frames found₀ i₀ found i = entries - i
 
-abbrev invariant-loop2 : tie.invariant-loop2
+abbrev invariant-loop2 : tie.invariant-loop-i-2
 invariant-loop2 table first entries frames found₀ i₀ found i = (i ≤ entries) × (found ≡ pass_to frames (from first table) i)
 
-abbrev decreases-loop2 : tie.decreases-loop2
+abbrev decreases-loop2 : tie.decreases-loop-i-2
 decreases-loop2 table first entries frames found₀ i₀ found i = entries - i
 
 none-requires : tie.Need-none-requires invariant-loop decreases-loop invariant-loop2 decreases-loop2
 none-requires c κs = search rules
 
-loop-holds : tie.Need-loop-init invariant-loop decreases-loop invariant-loop2 decreases-loop2
+loop-holds : tie.Need-loop-i-init invariant-loop decreases-loop invariant-loop2 decreases-loop2
 unfolding pass_to
 loop-holds c = (omega arith, rw c.none.ensures)
 
-sub-loop : tie.Need-overflow-sub-loop invariant-loop decreases-loop invariant-loop2 decreases-loop2
+sub-loop : tie.Need-overflow_sub-entries invariant-loop decreases-loop invariant-loop2 decreases-loop2
 sub-loop c = search rules
 
-add-names-none : tie.Need-overflow-add-names-none invariant-loop decreases-loop invariant-loop2 decreases-loop2
+add-names-none : tie.Need-overflow_add-first invariant-loop decreases-loop invariant-loop2 decreases-loop2
 add-names-none c = search rules
 
-names-none-requires : tie.Need-names-none-requires invariant-loop decreases-loop invariant-loop2 decreases-loop2
+names-none-requires : tie.Need-names_none-requires invariant-loop decreases-loop invariant-loop2 decreases-loop2
 names-none-requires c κs = search rules
 
-add-eight-requires : tie.Need-add-eight-requires invariant-loop decreases-loop invariant-loop2 decreases-loop2
+add-eight-requires : tie.Need-add_eight-found-requires invariant-loop decreases-loop invariant-loop2 decreases-loop2
 add-eight-requires c κs = search rules
 
-add-i : tie.Need-overflow-add-i invariant-loop decreases-loop invariant-loop2 decreases-loop2
+add-i : tie.Need-overflow_add-i invariant-loop decreases-loop invariant-loop2 decreases-loop2
 add-i c = search rules
 
-loop-less : tie.Need-loop-smaller invariant-loop decreases-loop invariant-loop2 decreases-loop2
+loop-less : tie.Need-loop-i-smaller invariant-loop decreases-loop invariant-loop2 decreases-loop2
 loop-less c = search rules
 
 -- the way back from where a fact is needed to where it was learned
-abbrev at-loop : tie.Joined1 invariant-loop decreases-loop invariant-loop2 decreases-loop2 → tie.At-loop invariant-loop decreases-loop invariant-loop2 decreases-loop2
+abbrev at-loop : tie.Joined-not-names_none invariant-loop decreases-loop invariant-loop2 decreases-loop2 → tie.At-loop-i invariant-loop decreases-loop invariant-loop2 decreases-loop2
 at-loop c = c.before.before.before
 
-abbrev start-of-loop : tie.At-loop invariant-loop decreases-loop invariant-loop2 decreases-loop2 → tie.Start invariant-loop decreases-loop invariant-loop2 decreases-loop2
+abbrev start-of-loop : tie.At-loop-i invariant-loop decreases-loop invariant-loop2 decreases-loop2 → tie.Start invariant-loop decreases-loop invariant-loop2 decreases-loop2
 start-of-loop c = c.before.before.before
 
 -- the pass behind the eight entries, whether one of them names a frame or none
-behind : (c : tie.Joined1 invariant-loop decreases-loop invariant-loop2 decreases-loop2) →
+behind : (c : tie.Joined-not-names_none invariant-loop decreases-loop invariant-loop2 decreases-loop2) →
     let a = (start-of-loop (at-loop c)).args in
-    c.if1.found ≡ pass_to a.frames (from a.first a.table.now) ((at-loop c).loop.i + 8)
+    c.if-not-names_none.found ≡ pass_to a.frames (from a.first a.table.now) ((at-loop c).loop-i.i + 8)
 behind c =
     let a = (start-of-loop (at-loop c)).args in
-    let l = (at-loop c).loop in
+    let l = (at-loop c).loop-i in
     ⊎_elim
     (λ w. w.2 ∙ w.1.ensures)
-    (λ w. w.1 ∙ l.inv.1 ∙ sym (pass-none a.frames (from a.first a.table.now) l.i 8
-    (λ j d. eight-none a.table.now a.first l.i (sym c.before.names-none.ensures ∙ not-false _ w.0.left) j d)))
-    c.if1.branch
+    (λ w. w.1 ∙ l.invariant.1 ∙ sym (pass-none a.frames (from a.first a.table.now) l.i 8
+    (λ j d. eight-none a.table.now a.first l.i (sym c.before.names_none.ensures ∙ not-false _ w.0.left) j d)))
+    c.if-not-names_none.branch
 
-loop-again : tie.Need-loop-preserved invariant-loop decreases-loop invariant-loop2 decreases-loop2
+loop-again : tie.Need-loop-i-preserved invariant-loop decreases-loop invariant-loop2 decreases-loop2
 loop-again c = (omega arith, behind c)
 
-loop2-holds : tie.Need-loop2-init invariant-loop decreases-loop invariant-loop2 decreases-loop2
-loop2-holds c = (c.before.loop.invariant.0, c.before.loop.invariant.1)
+loop2-holds : tie.Need-loop-i-2-init invariant-loop decreases-loop invariant-loop2 decreases-loop2
+loop2-holds c = (c.before.loop-i.invariant.0, c.before.loop-i.invariant.1)
 
-add-add : tie.Need-overflow-add-add invariant-loop decreases-loop invariant-loop2 decreases-loop2
+add-add : tie.Need-overflow_add-first-in-loop-i-2 invariant-loop decreases-loop invariant-loop2 decreases-loop2
 add-add c = search rules
 
-mul-add : tie.Need-overflow-mul-add invariant-loop decreases-loop invariant-loop2 decreases-loop2
+mul-add : tie.Need-offset_bounds-table-first invariant-loop decreases-loop invariant-loop2 decreases-loop2
 mul-add c = search rules
 
-shared-slice-read-add : tie.Need-shared-slice-read-add invariant-loop decreases-loop invariant-loop2 decreases-loop2
+shared-slice-read-add : tie.Need-bounds-table-first invariant-loop decreases-loop invariant-loop2 decreases-loop2
 shared-slice-read-add c = search rules
 
-add-requires : tie.Need-add-requires invariant-loop decreases-loop invariant-loop2 decreases-loop2
+add-requires : tie.Need-add-found-requires invariant-loop decreases-loop invariant-loop2 decreases-loop2
 add-requires c κs =
     let m = c.before.before in
     let s = start-of-loop m.before.before in
     let a = s.args in
-    let l = m.loop2 in
+    let l = m.loop-i-2 in
     let most = pass-small a.frames (from a.first a.table.now) l.i in
     let same = ap (λ (x : Pass). x.named) l.invariant.1 in
-    (s.pre.1, omega (arith, most, same, c.before.loop2-test.true, s.pre.0))
+    (s.requires.frames_bound, omega (arith, most, same, c.before.loop-i-2-test.true, s.requires.entries_in_bounds))
 
-add-i-2 : tie.Need-overflow-add-i-2 invariant-loop decreases-loop invariant-loop2 decreases-loop2
+add-i-2 : tie.Need-overflow_add-i-in-loop-i-2 invariant-loop decreases-loop invariant-loop2 decreases-loop2
 add-i-2 c = search rules
 
-loop2-less : tie.Need-loop2-smaller invariant-loop decreases-loop invariant-loop2 decreases-loop2
+loop2-less : tie.Need-loop-i-2-smaller invariant-loop decreases-loop invariant-loop2 decreases-loop2
 loop2-less c = search rules
 
-abbrev at-loop2 : tie.After-add invariant-loop decreases-loop invariant-loop2 decreases-loop2 → tie.At-loop2 invariant-loop decreases-loop invariant-loop2 decreases-loop2
+abbrev at-loop2 : tie.After-add-found invariant-loop decreases-loop invariant-loop2 decreases-loop2 → tie.At-loop-i-2 invariant-loop decreases-loop invariant-loop2 decreases-loop2
 at-loop2 c = c.before.before.before
 
-loop2-again : tie.Need-loop2-preserved invariant-loop decreases-loop invariant-loop2 decreases-loop2
+loop2-again : tie.Need-loop-i-2-preserved invariant-loop decreases-loop invariant-loop2 decreases-loop2
 loop2-again c =
-    let l = c.before.before.before.loop2 in
+    let l = c.before.before.before.loop-i-2 in
     let a = (start-of-loop (at-loop2 c).before.before).args in
-    (search rules, c.add.ensures ∙ pass-more a.frames (from a.first a.table.now) l.i l.found l.invariant.1)
+    (search rules, c.add-found.ensures ∙ pass-more a.frames (from a.first a.table.now) l.i l.found l.invariant.1)
 
 count-requires : tie.Need-count-requires invariant-loop decreases-loop invariant-loop2 decreases-loop2
 count-requires c κs = search rules
 
-cast-t18 : tie.Need-overflow-cast-t18 invariant-loop decreases-loop invariant-loop2 decreases-loop2
+cast-t18 : tie.Need-overflow_cast-result invariant-loop decreases-loop invariant-loop2 decreases-loop2
 cast-t18 c = search rules
 
-abbrev at-end : tie.After-struct-known2 invariant-loop decreases-loop invariant-loop2 decreases-loop2 → tie.After-loop2 invariant-loop decreases-loop invariant-loop2 decreases-loop2
+abbrev at-end : tie.After-struct_known-2-1 invariant-loop decreases-loop invariant-loop2 decreases-loop2 → tie.After-loop-i-2 invariant-loop decreases-loop invariant-loop2 decreases-loop2
 at-end c = c.before.before.before.before
 
 returns : tie.Need-returns invariant-loop decreases-loop invariant-loop2 decreases-loop2
@@ -125,15 +125,15 @@ returns c =
     let m = c.before.before.before.before.before in
     let s = start-of-loop m.before.before in
     let a = s.args in
-    let l = m.loop2 in
+    let l = m.loop-i-2 in
     let p : ℕ → ℕ = from a.first a.table.now in
-    let end : l.i ≡ a.entries = omega (arith, l.invariant.0, (at-end c).loop2-test.false) in
+    let end : l.i ≡ a.entries = omega (arith, l.invariant.0, (at-end c).loop-i-2-test.false) in
     let counted = c.before.before.count.ensures in
     (λ j. record { good = l.found.inside && eqb (counted j) l.found.named; held = l.found.held })
-    ∙ ap foundBy l.invariant.1 ∙ pass-marks a.frames s.pre.1 p l.i ∙ ap (marks_to a.frames p) end
+    ∙ ap foundBy l.invariant.1 ∙ pass-marks a.frames s.requires.frames_bound p l.i ∙ ap (marks_to a.frames p) end
 
-pub marks-of-spec : {M : Type 1} → statement M
-marks-of-spec =
+pub marks_of_spec : {M : Type 1} → statement M
+marks_of_spec =
     tie.close
     (tie.spec
     invariant-loop

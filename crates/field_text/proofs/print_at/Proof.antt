@@ -9,43 +9,34 @@ use borrow.Author.Rules.{rules}
 use Rattle.field_text.proofs.print_at.Statement.{statement}
 use Rattle.field_text.proofs.print_at.Tie as tie
 
-mul_at : tie.Need-overflow-mul-at
+mul_at : tie.Need-overflow_mul-at
 mul_at c = search rules
 
-add-end : tie.Need-overflow-add-end
+add-end : tie.Need-overflow_add-end
 add-end c = search rules
 
-sub-print-field : tie.Need-overflow-sub-print-field
+sub-print-field : tie.Need-slice_bounds-print_field-count
 sub-print-field c = search rules
 
-part-print-field-start : tie.Need-slice-bounds-print-field-start
+part-print-field-start : tie.Need-slice_bounds-print_field-start
 part-print-field-start c = search rules
 
-part-print-field-end : tie.Need-slice-bounds-print-field-end
+part-print-field-end : tie.Need-slice_bounds-print_field-end
 part-print-field-end c = search rules
 
-print-field-requires : tie.Need-print-field-requires
+print-field-requires : tie.Need-print_field-requires
 print-field-requires c κs = search rules
 
-same_length : tie.Need-same-length
+same_length : tie.Need-shape_of-out
 same_length c = search rules
 
 returns : tie.Need-returns
 returns c =
-    let printed = c.before.before.print-field in
+    let printed = c.before.before.print_field in
     let a = c.before.before.before.before.before.args in
     let at = a.field * 6 in
     rw printed.ensures (came-back a.out.now (printed_field a.n) at (at + 6) (length-field a.n ∙ omega arith))
 
-pub print-at-spec : {M : Type 1} → statement M
-print-at-spec =
-    tie.close
-    (tie.spec
-    mul_at
-    add-end
-    sub-print-field
-    part-print-field-start
-    part-print-field-end
-    print-field-requires
-    same_length
-    returns)
+pub print_at_spec : {M : Type 1} → statement M
+print_at_spec =
+    tie.close (tie.spec mul_at add-end sub-print-field part-print-field-start part-print-field-end print-field-requires same_length returns)

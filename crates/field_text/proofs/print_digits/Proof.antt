@@ -13,52 +13,52 @@ use Rattle.field_text.proofs.FieldTextLaws.{digits-begun, digits-left, column-pr
 use Rattle.field_text.proofs.print_digits.Statement.{statement}
 use Rattle.field_text.proofs.print_digits.Tie as tie
 
-abbrev invariant-loop : tie.invariant-loop
+abbrev invariant-loop : tie.invariant-loop-rest
 invariant-loop out₀ n rest₀ i₀ out rest i =
     (i ≤ 6) × (length out ≡ 6) × (rest < 10 ^ i) × (columns i rest ++ drop i out ≡ printed_field n) × (take i out ≡ columns i 0) × (rest ≤ 999999)
 
-abbrev decreases-loop : tie.decreases-loop
+abbrev decreases-loop : tie.decreases-loop-rest
 decreases-loop out₀ n rest₀ i₀ out rest i = rest
 
-loop-holds : tie.Need-loop-init invariant-loop decreases-loop
+loop-holds : tie.Need-loop-rest-init invariant-loop decreases-loop
 loop-holds c =
     let a = c.args in
-    let six = ap length c.requires.0 ∙ length-columns 6 0 in
-    (search rules, six, omega arith, digits-begun a.out.now a.n six c.requires.1.0, take_all 6 a.out.now (omega arith) ∙ c.requires.0, search rules)
+    let six = ap length c.requires.out_value ∙ length-columns 6 0 in
+    (search rules, six, omega arith, digits-begun a.out.now a.n six c.requires.n_nonzero.0, take_all 6 a.out.now (omega arith) ∙ c.requires.out_value, search rules)
 
-sub-i : tie.Need-overflow-sub-i invariant-loop decreases-loop
+sub-i : tie.Need-overflow_sub-i invariant-loop decreases-loop
 sub-i c =
-    let turn = c.before.loop in
-    let left = digits-left turn.rest turn.i c.loop-test.true turn.invariant.2 in
+    let turn = c.before.loop-rest in
+    let left = digits-left turn.rest turn.i c.loop-rest-test.true turn.invariant.2 in
     omega arith
 
-mul-out : tie.Need-overflow-mul-out invariant-loop decreases-loop
+mul-out : tie.Need-overflow_mul-out invariant-loop decreases-loop
 mul-out c = search rules
 
-sub_out : tie.Need-overflow-sub-out invariant-loop decreases-loop
+sub_out : tie.Need-overflow_sub-out invariant-loop decreases-loop
 sub_out c = search rules
 
-cast-out : tie.Need-overflow-cast-out invariant-loop decreases-loop
+cast-out : tie.Need-overflow_cast-out invariant-loop decreases-loop
 cast-out c = search rules
 
-add-out : tie.Need-overflow-add-out invariant-loop decreases-loop
+add-out : tie.Need-overflow_add-out invariant-loop decreases-loop
 add-out c = search rules
 
-slice-write-out : tie.Need-slice-write-out invariant-loop decreases-loop
+slice-write-out : tie.Need-bounds-out-i invariant-loop decreases-loop
 slice-write-out c =
-    let turn = c.before.loop in
-    let left = digits-left turn.rest turn.i c.loop-test.true turn.invariant.2 in
+    let turn = c.before.loop-rest in
+    let left = digits-left turn.rest turn.i c.loop-rest-test.true turn.invariant.2 in
     omega arith
 
-loop-less : tie.Need-loop-smaller invariant-loop decreases-loop
+loop-less : tie.Need-loop-rest-smaller invariant-loop decreases-loop
 loop-less c = search rules
 
-loop-again : tie.Need-loop-preserved invariant-loop decreases-loop
+loop-again : tie.Need-loop-rest-preserved invariant-loop decreases-loop
 loop-again c =
-    let turn = c.before.loop in
-    let left = digits-left turn.rest turn.i c.loop-test.true turn.invariant.2 in
+    let turn = c.before.loop-rest in
+    let left = digits-left turn.rest turn.i c.loop-rest-test.true turn.invariant.2 in
     let one_more : turn.i - 1 + 1 ≡ turn.i = omega arith in
-    let here : 48 + (turn.rest - turn.rest / 10 * 10) ≡ column turn.rest = omega arith ∙ sym (column-shown turn.rest c.loop-test.true) in
+    let here : 48 + (turn.rest - turn.rest / 10 * 10) ≡ column turn.rest = omega arith ∙ sym (column-shown turn.rest c.loop-rest-test.true) in
     let blank : take (turn.i - 1 + 1) turn.out ≡ columns (turn.i - 1 + 1) 0 = rw one_more turn.invariant.4 in (
       search rules,
       search rules,
@@ -68,17 +68,17 @@ loop-again c =
       search rules,
     )
 
-same_length : tie.Need-same-length invariant-loop decreases-loop
-same_length c = c.before.loop.invariant.1 ∙ sym (ap length c.before.before.requires.0 ∙ length-columns 6 0)
+same_length : tie.Need-shape_of-out invariant-loop decreases-loop
+same_length c = c.before.loop-rest.invariant.1 ∙ sym (ap length c.before.before.requires.out_value ∙ length-columns 6 0)
 
 returns : tie.Need-returns invariant-loop decreases-loop
 returns c =
-    let last = c.before.loop in
+    let last = c.before.loop-rest in
     let done : last.rest ≡ 0 = omega arith in
     digits-ended last.out last.i c.before.before.args.n (rw done at last.invariant.3) last.invariant.4
 
-pub print-digits-spec : {M : Type 1} → statement M
-print-digits-spec =
+pub print_digits_spec : {M : Type 1} → statement M
+print_digits_spec =
     tie.close
     (tie.spec
     invariant-loop

@@ -7,42 +7,32 @@ use Rattle.field_text.proofs.print_field.Tie as tie
 blank-requires : tie.Need-blank-requires
 blank-requires c κs = search rules
 
-cast-out : tie.Need-overflow-cast-out
+cast-out : tie.Need-overflow_cast-out
 cast-out c = search rules
 
-add-out : tie.Need-overflow-add-out
+add-out : tie.Need-overflow_add-out
 add-out c = search rules
 
-slice-write-out : tie.Need-slice-write-out
+slice-write-out : tie.Need-bounds-out-5
 slice-write-out c = search rules
 
-same_length : tie.Need-same-length
+same_length : tie.Need-shape_of-out-then-n-lt-RADIX
 same_length c = search rules
 
-returns : tie.Need-returns
+returns : tie.Need-returns-then-n-lt-RADIX
 returns c =
     let blanked = c.before.before.before.blank in
-    digit-printed blanked.new.0 c.before.before.before.before.before.before.args.n blanked.ensures c.if1.true
+    digit-printed blanked.new.0 c.before.before.before.before.before.before.args.n blanked.ensures c.if-n-lt-RADIX.true
 
-print-digits-requires : tie.Need-print-digits-requires
+print-digits-requires : tie.Need-print_digits-requires
 print-digits-requires c κs = search rules
 
-same-length-2 : tie.Need-same-length-2
+same-length-2 : tie.Need-shape_of-out
 same-length-2 c = search rules
 
-returns-2 : tie.Need-returns-2
+returns-2 : tie.Need-returns
 returns-2 c = search rules
 
-pub print-field-spec : {M : Type 1} → statement M
-print-field-spec =
-    tie.close
-    (tie.spec
-    blank-requires
-    cast-out
-    add-out
-    slice-write-out
-    same_length
-    returns
-    print-digits-requires
-    same-length-2
-    returns-2)
+pub print_field_spec : {M : Type 1} → statement M
+print_field_spec =
+    tie.close (tie.spec blank-requires cast-out add-out slice-write-out same_length returns print-digits-requires same-length-2 returns-2)

@@ -12,22 +12,22 @@ use Rattle.frame_bytes.proofs.read_byte.Tie as tie
 abbrev at-start : tie.After-read → tie.Start
 at-start c = c.before.before.before.before
 
-cast-start : tie.Need-overflow-cast-start
+cast-start : tie.Need-overflow_cast-start
 cast-start c = search rules
 
-mul-start : tie.Need-overflow-mul-start
+mul-start : tie.Need-overflow_mul-start
 mul-start c = search rules
 
-add_read : tie.Need-overflow-add-read
+add_read : tie.Need-overflow_add-start
 add_read c = search rules
 
-sub_read : tie.Need-overflow-sub-read
+sub_read : tie.Need-slice_bounds-read-count
 sub_read c = search rules
 
-part-read-start : tie.Need-slice-bounds-read-start
+part-read-start : tie.Need-slice_bounds-read-start
 part-read-start c = search rules
 
-part-read-end : tie.Need-slice-bounds-read-end
+part-read-end : tie.Need-slice_bounds-read-end
 part-read-end c = search rules
 
 read-requires : tie.Need-read-requires
@@ -39,15 +39,6 @@ returns c =
     c.read.ensures
     ∙ ap (λ (page : List ℕ). get_or page start.args.offset 0) (part-is-frame 256 start.args.pool.now start.args.f.0)
 
-pub read-byte-spec : {M : Type 1} → statement M
-read-byte-spec =
-    tie.close
-    (tie.spec
-    cast-start
-    mul-start
-    add_read
-    sub_read
-    part-read-start
-    part-read-end
-    read-requires
-    returns)
+pub read_byte_spec : {M : Type 1} → statement M
+read_byte_spec =
+    tie.close (tie.spec cast-start mul-start add_read sub_read part-read-start part-read-end read-requires returns)

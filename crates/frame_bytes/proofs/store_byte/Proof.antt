@@ -13,28 +13,28 @@ use Rattle.frame_bytes.proofs.store_byte.Tie as tie
 abbrev at-start : tie.After-store → tie.Start
 at-start c = c.before.before.before.before
 
-cast-start : tie.Need-overflow-cast-start
+cast-start : tie.Need-overflow_cast-start
 cast-start c = search rules
 
-mul-start : tie.Need-overflow-mul-start
+mul-start : tie.Need-overflow_mul-start
 mul-start c = search rules
 
-add-store : tie.Need-overflow-add-store
+add-store : tie.Need-overflow_add-start
 add-store c = search rules
 
-sub-store : tie.Need-overflow-sub-store
+sub-store : tie.Need-slice_bounds-store-count
 sub-store c = search rules
 
-part-store-start : tie.Need-slice-bounds-store-start
+part-store-start : tie.Need-slice_bounds-store-start
 part-store-start c = search rules
 
-part-store-end : tie.Need-slice-bounds-store-end
+part-store-end : tie.Need-slice_bounds-store-end
 part-store-end c = search rules
 
 store-requires : tie.Need-store-requires
 store-requires c κs = search rules
 
-same_length : tie.Need-same-length
+same_length : tie.Need-shape_of-pool
 same_length c = search rules
 
 returns : tie.Need-returns
@@ -47,18 +47,8 @@ returns c =
     let b = start.args.byte in
     frame-back-as 256 xs m.store.new.0 (set (frame 256 xs f) o b) f
     (m.store.ensures ∙ ap (λ (page : List ℕ). set page o b) (part-is-frame 256 xs f))
-    (length-set (frame 256 xs f) o b ∙ length-frame 256 xs f start.pre)
+    (length-set (frame 256 xs f) o b ∙ length-frame 256 xs f start.requires)
 
-pub store-byte-spec : {M : Type 1} → statement M
-store-byte-spec =
-    tie.close
-    (tie.spec
-    cast-start
-    mul-start
-    add-store
-    sub-store
-    part-store-start
-    part-store-end
-    store-requires
-    same_length
-    returns)
+pub store_byte_spec : {M : Type 1} → statement M
+store_byte_spec =
+    tie.close (tie.spec cast-start mul-start add-store sub-store part-store-start part-store-end store-requires same_length returns)

@@ -8,16 +8,16 @@ use Rattle.frames.proofs.marked.Tie as tie
 put-requires : tie.Need-put-requires
 put-requires c κs = search rules
 
-put-requires-2 : tie.Need-put-requires-2
+put-requires-2 : tie.Need-put-requires-else-n-lt-WORD
 put-requires-2 c κs = search rules
 
-returns : tie.Need-returns
+returns : tie.Need-returns-then-n-lt-WORD
 unfolding mark
-returns c = simp (lt-ltb _ 64 c.before.if1.true, c.put.ensures)
+returns c = simp (lt-ltb _ 64 c.before.if-n-lt-WORD.true, c.put.ensures)
 
-returns-2 : tie.Need-returns-2
+returns-2 : tie.Need-returns-else-n-lt-WORD
 unfolding mark
-returns-2 c = simp (le-ltb _ 64 c.before.if1.false, c.put2.ensures)
+returns-2 c = simp (le-ltb _ 64 c.before.if-n-lt-WORD.false, c.put-else-n-lt-WORD.ensures)
 
-pub marked-spec : {M : Type 1} → statement M
-marked-spec = tie.close (tie.spec put-requires put-requires-2 returns returns-2)
+pub marked_spec : {M : Type 1} → statement M
+marked_spec = tie.close (tie.spec put-requires put-requires-2 returns returns-2)

@@ -13,68 +13,79 @@ use Rattle.gathering.proofs.AreaLaws.{Gathered, gathered-start, gathered_next, g
 use Rattle.gathering.proofs.gathered.Statement.{statement}
 use Rattle.gathering.proofs.gathered.Tie as tie
 
-abbrev invariant-loop : tie.invariant-loop
+abbrev invariant-loop : tie.invariant-loop-k
 invariant-loop table sandbox present count all₀ k₀ all k =
     (k ≤ present.count) × ((h : Held) (pool : List ℕ) → Gathered (kept h pool table) sandbox present all₀ k all)
 
-abbrev decreases-loop : tie.decreases-loop
+abbrev decreases-loop : tie.decreases-loop-k
 decreases-loop table sandbox present count all₀ k₀ all k = present.count - k
 
 eight : (c : tie.Start invariant-loop decreases-loop) → length c.args.runs.list ≡ 8
 eight c = search length-mapped
 
-cast-count : tie.Need-overflow-cast-count invariant-loop decreases-loop
+cast-count : tie.Need-overflow_cast-count invariant-loop decreases-loop
 cast-count c = search rules
 
-loop-holds : tie.Need-loop-init invariant-loop decreases-loop
-loop-holds c = (omega arith, λ h pool. gathered-start _ _ _ c.before.requires.1.0 _)
+loop-holds : tie.Need-loop-k-init invariant-loop decreases-loop
+loop-holds c = (omega arith, λ h pool. gathered-start _ _ _ c.before.requires.formed _)
 
-mul-area : tie.Need-overflow-mul-area invariant-loop decreases-loop
+mul-area : tie.Need-offset_bounds-present-k invariant-loop decreases-loop
 mul-area c = search rules
 
-element-copy-out-area : tie.Need-element-copy-out-area invariant-loop decreases-loop
+element-copy-out-area : tie.Need-bounds-present-k invariant-loop decreases-loop
 element-copy-out-area c = search rules
 
 -- the way back from where a fact is needed to where it was learned
-abbrev start-of-turn : tie.In-loop invariant-loop decreases-loop → tie.Start invariant-loop decreases-loop
+abbrev start-of-turn : tie.In-loop-k invariant-loop decreases-loop → tie.Start invariant-loop decreases-loop
 start-of-turn c = c.before.before.before
 
-push-area-requires : tie.Need-push-area-requires invariant-loop decreases-loop
+push-area-requires : tie.Need-push_area-all-requires invariant-loop decreases-loop
 push-area-requires c κs =
-    let p = (start-of-turn c.before).pre in
-    let k = c.before.before.loop.k in
-    (p.0, (end-small _ p.1.0 k, ((p.1.0.formed.each k c.before.loop-test.true).some, p.1.1)))
+    let p = (start-of-turn c.before).requires in
+    let k = c.before.before.loop-k.k in
+    (p.0, (end-small _ p.1.0 k, ((p.1.0.formed.each k c.before.loop-k-test.true).some, p.1.1)))
 
-add-k : tie.Need-overflow-add-k invariant-loop decreases-loop
+add-k : tie.Need-overflow_step-k invariant-loop decreases-loop
 add-k c = search rules
 
-loop-less : tie.Need-loop-smaller invariant-loop decreases-loop
+loop-less : tie.Need-loop-k-smaller invariant-loop decreases-loop
 loop-less c = search rules
 
-abbrev at-loop : tie.After-push-area invariant-loop decreases-loop → tie.At-loop invariant-loop decreases-loop
+abbrev at-loop : tie.After-push_area-all invariant-loop decreases-loop → tie.At-loop-k invariant-loop decreases-loop
 at-loop c = c.before.before.before
 
-loop-again : tie.Need-loop-preserved invariant-loop decreases-loop
+loop-again : tie.Need-loop-k-preserved invariant-loop decreases-loop
 loop-again c =
-    let l = (at-loop c).loop in
-    let formed = (start-of-turn c.before.before).pre.1.0 in
-    (search rules, λ h pool. rw c.push-area.ensures (gathered_next _ _ _ formed _ l.k l.all (l.inv.1 h pool)))
+    let l = (at-loop c).loop-k in
+    let formed = (start-of-turn c.before.before).requires.formed in
+    (search rules, λ h pool. rw c.push_area-all.ensures (gathered_next _ _ _ formed _ l.k l.all (l.invariant.1 h pool)))
 
-abbrev start-of-loop-end : tie.After-loop invariant-loop decreases-loop → tie.Start invariant-loop decreases-loop
+abbrev start-of-loop-end : tie.After-loop-k invariant-loop decreases-loop → tie.Start invariant-loop decreases-loop
 start-of-loop-end c = c.before.before.before
 
 returns : tie.Need-returns invariant-loop decreases-loop
 returns c = λ h pool.
-    let l = c.before.loop in
+    let l = c.before.loop-k in
     let start = start-of-loop-end c in
-    let formed = start.pre.1.0 in
-    let end : l.k ≡ start.args.t2.count = omega (arith, l.invariant.0, c.loop-test.false) in
-    let left = 8 - start.args.t2.count in
+    let formed = start.requires.formed in
+    let end : l.k ≡ start.args.present.count = omega (arith, l.invariant.0, c.loop-k-test.false) in
+    let left = 8 - start.args.present.count in
     let e : l.k + left ≡ 8 = omega (arith, end, formed.formed.few) in
     let all = gathered-rest _ _ _ formed _ left l.k l.all (omega (arith, end)) (l.invariant.1 h pool) in
     gathered-all _ _ _ formed _ (eight start) l.all (rw e at all)
 
-pub gathered-spec : {M : Type 1} → statement M
-gathered-spec =
+pub gathered_spec : {M : Type 1} → statement M
+gathered_spec =
     tie.close
-    (tie.spec invariant-loop decreases-loop cast-count loop-holds mul-area element-copy-out-area push-area-requires add-k loop-less loop-again returns)
+    (tie.spec
+    invariant-loop
+    decreases-loop
+    cast-count
+    loop-holds
+    mul-area
+    element-copy-out-area
+    push-area-requires
+    add-k
+    loop-less
+    loop-again
+    returns)

@@ -8,19 +8,19 @@ use Rattle.frames.proofs.Held.least.Reads as least-reads
 use Rattle.frames.proofs.Held.with.Reads as with-reads
 use Rattle.frames.proofs.Held.without.Reads as without-reads
 
-least-requires : tie.Need-least-requires
+least-requires : tie.Need-least-f-requires
 least-requires c κs = search rules
 
-cast-table : tie.Need-overflow-cast-table
+cast-table : tie.Need-overflow_cast-table
 cast-table c = search rules
 
-add-table : tie.Need-overflow-add-table
+add-table : tie.Need-overflow_add-table
 add-table c = search rules
 
-mul-table : tie.Need-overflow-mul-table
+mul-table : tie.Need-offset_bounds-table-at
 mul-table c = search rules
 
-slice-write-table : tie.Need-slice-write-table
+slice-write-table : tie.Need-bounds-table-at
 slice-write-table c = search rules
 
 with-requires : tie.Need-with-requires
@@ -29,25 +29,15 @@ with-requires c κs = search rules
 without-requires : tie.Need-without-requires
 without-requires c κs = search rules
 
-same_length : tie.Need-same-length
+same_length : tie.Need-shape_of-table
 same_length c = search rules
 
 returns : tie.Need-returns
 returns c = (
-  rw (c.before.with.ensures, c.before.before.least.ensures),
-  (rw (c.without.ensures, c.before.before.least.ensures), rw c.before.before.least.ensures),
+  rw (c.before.with.ensures, c.before.before.least-f.ensures),
+  (rw (c.without.ensures, c.before.before.least-f.ensures), rw c.before.before.least-f.ensures),
 )
 
-pub grant-one-spec : {M : Type 1} → statement M
-grant-one-spec =
-    tie.close
-    (tie.spec
-    least-requires
-    cast-table
-    add-table
-    mul-table
-    slice-write-table
-    with-requires
-    without-requires
-    same_length
-    returns)
+pub grant_one_spec : {M : Type 1} → statement M
+grant_one_spec =
+    tie.close (tie.spec least-requires cast-table add-table mul-table slice-write-table with-requires without-requires same_length returns)

@@ -3,11 +3,11 @@ use borrow.Author.Tests.{le-leb, lt-leb}
 use Rattle.granting.proofs.lesser.Statement.{statement}
 use Rattle.granting.proofs.lesser.Tie as tie
 
-returns : tie.Need-returns
-returns c = rw (le-leb c.before.args.a c.before.args.b c.if1.true)
+returns : tie.Need-returns-then-a-b
+returns c = rw (le-leb c.before.args.a c.before.args.b c.if-a-b.true)
 
-returns-2 : tie.Need-returns-2
-returns-2 c = rw (lt-leb c.before.args.a c.before.args.b c.if1.false)
+returns-2 : tie.Need-returns-else-a-b
+returns-2 c = rw (lt-leb c.before.args.a c.before.args.b c.if-a-b.false)
 
-pub lesser-spec : {M : Type 1} → statement M
-lesser-spec = tie.close (tie.spec returns returns-2)
+pub lesser_spec : {M : Type 1} → statement M
+lesser_spec = tie.close (tie.spec returns returns-2)

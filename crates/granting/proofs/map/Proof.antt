@@ -16,85 +16,85 @@ use Rattle.granting.proofs.map.Statement.{statement}
 use Rattle.granting.proofs.map.Tie as tie
 
 -- behind the two tests
-abbrev unnamed : tie.Else1 → tie.Start
+abbrev unnamed : tie.Else-q-ne-ANY_PAGE → tie.Start
 unnamed c = c.before.before.before.before
 
-abbrev tested : tie.After-at → tie.Else2
+abbrev tested : tie.After-at-run → tie.Else-q-ne0
 tested c = c.before.before.before
 
 -- ---- what is known once it is counted how many frames the pages get
 
-abbrev sought : tie.After-lesser → tie.After-first-of
+abbrev sought : tie.After-lesser → tie.After-first_of-first
 sought c = c.before.before.before.before
 
-abbrev chosen : tie.After-lesser → tie.After-at
+abbrev chosen : tie.After-lesser → tie.After-at-run
 chosen c = (sought c).before.before
 
 abbrev behind : tie.After-lesser → tie.Start
 behind c = unnamed (tested (chosen c)).before.before
 
-abbrev place_is : (c : tie.After-lesser) → (chosen c).before.fitting.result ≡ run_for (behind c).args.q.p2 (lengths_of (behind c).args.b.runs)
-place_is c = (chosen c).before.fitting.ensures.0
+abbrev place_is : (c : tie.After-lesser) → (chosen c).before.fitting-place.result ≡ run_for (behind c).args.q.p2 (lengths_of (behind c).args.b.runs)
+place_is c = (chosen c).before.fitting-place.ensures.value
 
-counted : (c : tie.After-lesser) → let run = (chosen c).at.result in let pages = (behind c).args.q.p2 in
+counted : (c : tie.After-lesser) → let run = (chosen c).at-run.result in let pages = (behind c).args.q.p2 in
     c.lesser.result ≡ (pages when leb pages (count_held run) else count_held run)
 counted c =
     let pages = (behind c).args.q.p2 in
     c.lesser.ensures ∙ ap (λ (n : ℕ). pages when leb pages n else n) c.before.count.ensures
 
-run-here : (c : tie.After-lesser) → (chosen c).at.result ≡ row (behind c).args.b.runs (run_for (behind c).args.q.p2 (lengths_of (behind c).args.b.runs))
-run-here c = (chosen c).at.ensures ∙ ap (row (behind c).args.b.runs) (place_is c)
+run-here : (c : tie.After-lesser) → (chosen c).at-run.result ≡ row (behind c).args.b.runs (run_for (behind c).args.q.p2 (lengths_of (behind c).args.b.runs))
+run-here c = (chosen c).at-run.ensures ∙ ap (row (behind c).args.b.runs) (place_is c)
 
 frames-here : (c : tie.After-lesser) → c.lesser.result ≡ granted (behind c).args.q.p2 (lengths_of (behind c).args.b.runs)
 frames-here c =
     let s = behind c in
-    frames-there s.args.q s.args.b s.pre.0 (tested (chosen c)).before.before.if1.false
+    frames-there s.args.q s.args.b s.requires.code_value (tested (chosen c)).before.before.if1.false
     (tested (chosen c)).if2.false
-    _ c.lesser.result _ (place_is c) (chosen c).at.ensures (counted c)
+    _ c.lesser.result _ (place_is c) (chosen c).at-run.ensures (counted c)
 
 -- behind the frames that are granted
-abbrev granted_by : tie.After-with → tie.After-grant
+abbrev granted_by : tie.After-with → tie.After-grant-granted
 granted_by c = c.before.before.before.before.before
 
 -- ---- the needs
 
-returns : tie.Need-returns
+returns : tie.Need-returns-then-q-ne-ANY_PAGE
 returns c =
     let s = c.before.before.before.before in
-    let none = named_none s.args.q c.if1.true in
+    let none = named_none s.args.q c.if-q-ne-ANY_PAGE.true in
     (λ pool. untaken-store s.args.q s.args.b _ none, untaken-runs s.args.q s.args.b none)
 
-returns-2 : tie.Need-returns-2
+returns-2 : tie.Need-returns-then-q-ne0
 returns-2 c =
     let s = unnamed c.before.before in
-    let none = image-none s.args.q c.if2.true in
+    let none = image-none s.args.q c.if-q-ne0.true in
     (λ pool. untaken-store s.args.q s.args.b _ none, untaken-runs s.args.q s.args.b none)
 
-cast-pages : tie.Need-overflow-cast-pages
+cast-pages : tie.Need-overflow_cast-pages
 cast-pages c = search rules
 
-fitting-requires : tie.Need-fitting-requires
+fitting-requires : tie.Need-fitting-place-requires
 fitting-requires c κs = search rules
 
-at-requires : tie.Need-at-requires
+at-requires : tie.Need-at-run-requires
 at-requires c κs = search rules
 
-first-of-requires : tie.Need-first-of-requires
+first-of-requires : tie.Need-first_of-first-requires
 first-of-requires c κs =
     let s = unnamed (tested c.before).before.before in
-    let ready = s.pre.1.1.1.0 in
-    (settled ready.0 s.args.b.rec.present ready.1.sound.present ready.1.few, (s.pre.0, s.pre.1.1.0))
+    let ready = s.requires.by_index in
+    (settled ready.0 s.args.b.rec.present ready.1.sound.present ready.1.few, (s.requires.code_value, s.requires.fit))
 
-cast-at : tie.Need-overflow-cast-at
+cast-at : tie.Need-overflow_cast-at
 cast-at c = search rules
 
-mul_at : tie.Need-overflow-mul-at
+mul_at : tie.Need-overflow_mul-at
 mul_at c = search rules
 
-cast-at-2 : tie.Need-overflow-cast-at-2
+cast-at-2 : tie.Need-overflow_cast-at-2
 cast-at-2 c = search rules
 
-add_at : tie.Need-overflow-add-at
+add_at : tie.Need-overflow_add-at
 add_at c = search rules
 
 count-requires : tie.Need-count-requires
@@ -103,39 +103,39 @@ count-requires c κs = search rules
 lesser-requires : tie.Need-lesser-requires
 lesser-requires c κs = search rules
 
-grant-requires : tie.Need-grant-requires
+grant-requires : tie.Need-grant-granted-requires
 grant-requires c κs =
     let s = behind c in
     let n = frames-here c in
     let lengths = lengths_of s.args.b.runs in (
-      omega (arith, (sought c).first_of.ensures, s.pre.1.0, s.pre.1.1.1.1.0, s.pre.1.1.1.1.1, n, granted-le s.args.q.p2 lengths),
+      omega (arith, (sought c).first_of-first.ensures, s.requires.sandbox_bound, s.requires.p2_bound, s.requires.table_len, n, granted-le s.args.q.p2 lengths),
       rw (run-here c) (omega (arith, n, granted-run s.args.q.p2 lengths)),
     )
 
 with-requires : tie.Need-with-requires
 with-requires c κs = search rules
 
-same_length : tie.Need-same-length
+same_length : tie.Need-shape_of-table
 same_length c = search rules
 
-returns-3 : tie.Need-returns-3
+returns-3 : tie.Need-returns
 returns-3 c =
     let granting = granted_by c in
     let counting = granting.before in
     let s = behind counting in
     let named = (tested (chosen counting)).before.before.if1.false in
     let image = (tested (chosen counting)).if2.false in
-    let place = (chosen counting).before.fitting.result in (
-      λ pool. granting.grant.ensures.0 pool
-          ∙ taken-store s.args.q s.args.b s.pre.0 named image place counting.lesser.result (chosen counting).at.result (place_is counting)
-          (chosen counting).at.ensures (counted counting) _ (sought counting).first_of.result _ refl (sought counting).first_of.ensures,
-      c.with.ensures ∙ ap (λ (h : Held). with_run_at place h s.args.b.runs) granting.grant.ensures.1
-          ∙ taken_runs s.args.q s.args.b s.pre.0 named image place counting.lesser.result (chosen counting).at.result (place_is counting)
-          (chosen counting).at.ensures (counted counting),
+    let place = (chosen counting).before.fitting-place.result in (
+      λ pool. granting.grant-granted.ensures.by_index pool
+          ∙ taken-store s.args.q s.args.b s.requires.code_value named image place counting.lesser.result (chosen counting).at-run.result (place_is counting)
+          (chosen counting).at-run.ensures (counted counting) _ (sought counting).first_of-first.result _ refl (sought counting).first_of-first.ensures,
+      c.with.ensures ∙ ap (λ (h : Held). with_run_at place h s.args.b.runs) granting.grant-granted.ensures.rest
+          ∙ taken_runs s.args.q s.args.b s.requires.code_value named image place counting.lesser.result (chosen counting).at-run.result (place_is counting)
+          (chosen counting).at-run.ensures (counted counting),
     )
 
-pub map-spec : {M : Type 1} → statement M
-map-spec =
+pub map_spec : {M : Type 1} → statement M
+map_spec =
     tie.close
     (tie.spec
     returns

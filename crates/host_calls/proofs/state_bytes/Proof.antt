@@ -6,5 +6,5 @@ use Rattle.host_calls.proofs.state_bytes.Tie as tie
 returns : tie.Need-returns
 returns c = search rules
 
-pub state-bytes-spec : {M : Type 1} → statement M
-state-bytes-spec = tie.close (tie.spec returns)
+pub state_bytes_spec : {M : Type 1} → statement M
+state_bytes_spec = tie.close (tie.spec returns)

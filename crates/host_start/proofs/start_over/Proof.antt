@@ -10,19 +10,19 @@ use Rattle.host_start.proofs.start_over.Tie as tie
 abbrev hands : tie.Start → Handed
 hands c = handed c.args.state.now c.args.pool.now c.args.table.now
 
-abbrev short : tie.Then1 → tie.Start
+abbrev short : tie.Then-state-ne-STATE → tie.Start
 short c = c.before.before.before.before.before
 
-abbrev long : tie.Else1 → tie.Start
+abbrev long : tie.Else-state-ne-STATE → tie.Start
 long c = c.before.before.before.before.before
 
-abbrev started : tie.After-encode → tie.After-start
+abbrev started : tie.After-encode → tie.After-start-started
 started c = c.before.before.before.before.before.before.before
 
-returns : tie.Need-returns
-returns c = let first = short c in start-short first.args.image.now (hands first) c.if1.true
+returns : tie.Need-returns-then-state-ne-STATE
+returns c = let first = short c in start-short first.args.image.now (hands first) c.if-state-ne-STATE.true
 
-start-requires : tie.Need-start-requires
+start-requires : tie.Need-start-started-requires
 start-requires c κs = search rules
 
 encode-requires : tie.Need-encode-requires
@@ -31,40 +31,30 @@ encode-requires c κs = search rules
 number-requires : tie.Need-number-requires
 number-requires c κs = search rules
 
-cast-result : tie.Need-overflow-cast-result
+cast-result : tie.Need-overflow_cast-result
 cast-result c = search rules
 
-same_length : tie.Need-same-length
+same_length : tie.Need-shape_of-state
 same_length c = search rules
 
-same-length-2 : tie.Need-same-length-2
+same-length-2 : tie.Need-shape_of-pool
 same-length-2 c = search rules
 
-same-length-3 : tie.Need-same-length-3
+same-length-3 : tie.Need-shape_of-table
 same-length-3 c = search rules
 
-returns-2 : tie.Need-returns-2
+returns-2 : tie.Need-returns
 returns-2 c =
     let encoding = c.before.before.before in
     let written = encoding.encode in
     let starting = started encoding in
     let branch = starting.before.before.before in
     let first = long branch in
-    let made = starting.start in
+    let made = starting.start-started in
     let both = start-long first.args.image.now (hands first) made.result.answer made.result.machine made.last.0 made.last.1.0
-    written.new.1.0 branch.if1.left made.ensures.0 made.ensures.1 written.ensures in
+    written.new.1.0 branch.if-state-ne-STATE.left made.ensures.0 made.ensures.1 written.ensures in
     (c.number.ensures ∙ both.0, both.1)
 
-pub start-over-spec : {M : Type 1} → statement M
-start-over-spec =
-    tie.close
-    (tie.spec
-    returns
-    start-requires
-    encode-requires
-    number-requires
-    cast-result
-    same_length
-    same-length-2
-    same-length-3
-    returns-2)
+pub start_over_spec : {M : Type 1} → statement M
+start_over_spec =
+    tie.close (tie.spec returns start-requires encode-requires number-requires cast-result same_length same-length-2 same-length-3 returns-2)

@@ -9,37 +9,29 @@ use borrow.Author.Rules.{rules}
 use Rattle.in_place.proofs.answer.Statement.{statement}
 use Rattle.in_place.proofs.answer.Tie as tie
 
-read-or-write-requires : tie.Need-read-or-write-requires
+read-or-write-requires : tie.Need-read_or_write-requires
 read-or-write-requires c κs = search rules
 
-same_length : tie.Need-same-length
+same_length : tie.Need-shape_of-pool-then-code
 same_length c = search rules
 
-returns : tie.Need-returns
+returns : tie.Need-returns-then-code
 returns c = search rules
 
-look-requires : tie.Need-look-requires
+look-requires : tie.Need-look-answer-requires
 look-requires c κs = search rules
 
-same-length-2 : tie.Need-same-length-2
+same-length-2 : tie.Need-shape_of-pool-then-code-2
 same-length-2 c = search rules
 
-returns-2 : tie.Need-returns-2
-returns-2 c w A = tried_same A c.look.result (c.look.ensures w A)
+returns-2 : tie.Need-returns-then-code-2
+returns-2 c w A = tried_same A c.look-answer.result (c.look-answer.ensures w A)
 
-returns-3 : tie.Need-returns-3
+returns-3 : tie.Need-returns
 returns-3 c w A =
     let code = c.before.before.before.before.before.args.q.code in
-    tried-none A (Value 0) (eqb-false code write_code (or_right (eqb code read_code) (eqb code write_code) c.before.if1.false))
+    tried-none A (Value 0) (eqb-false code write_code (or_right (eqb code read_code) (eqb code write_code) c.before.if-code.false))
 
-pub answer-spec : {M : Type 1} → statement M
-answer-spec =
-    tie.close
-    (tie.spec
-    read-or-write-requires
-    same_length
-    returns
-    look-requires
-    same-length-2
-    returns-2
-    returns-3)
+pub answer_spec : {M : Type 1} → statement M
+answer_spec =
+    tie.close (tie.spec read-or-write-requires same_length returns look-requires same-length-2 returns-2 returns-3)

@@ -33,7 +33,7 @@ use Rattle.in_place.proofs.read_or_write.Tie as tie
 abbrev Here : tie.Start → World → Type 0
 Here s w = Around s.args.image.now s.args.q s.args.b s.args.pool.now s.args.table.now w
 
-abbrev start : tie.After-rec → tie.Start
+abbrev start : tie.After-rec-1 → tie.Start
 start c = c.before.before.before.before
 
 -- ---- what was decided
@@ -41,120 +41,120 @@ start c = c.before.before.before.before
 abbrev view : tie.Start → ℕ → ℕ → View
 view s frames shares = view_from true frames (pages_in (length s.args.image.now)) shares s.args.b.rec
 
-abbrev decided : tie.After-decide → tie.Start
+abbrev decided : tie.After-decide-access → tie.Start
 decided c = start c.before
 
 -- refused
-refused : (c : tie.After-access) → let s = decided c.before.before in
-    (frames shares : ℕ) → refusal_number c.access.given.0.0 ≡ refusal (view s frames shares) s.args.q
+refused : (c : tie.In-Refused-2) → let s = decided c.before.before in
+    (frames shares : ℕ) → refusal_number c.access-1.given.0.0 ≡ refusal (view s frames shares) s.args.q
 refused c frames shares =
     let deciding = c.before.before in
     let s = decided deciding in
-    subst (λ (x : Access). Decides (view s frames shares) s.args.q x) c.access.given.1 (deciding.decide.ensures frames shares)
+    subst (λ (x : Access). Decides (view s frames shares) s.args.q x) c.access-1.given.1 (deciding.decide-access.ensures frames shares)
 
 -- accepted, with what stands at the page
-abbrev paged : tie.After-access2 → tie.Start
+abbrev paged : tie.In-Page-2 → tie.Start
 paged c = decided c.before.before
 
-abbrev slot_at : tie.After-access2 → Slot
-slot_at c = c.access2.given.0.0
+abbrev slot_at : tie.In-Page-2 → Slot
+slot_at c = c.access-in-Page-1.given.0.0
 
-told : (c : tie.After-access2) (frames shares : ℕ) → Decides (view (paged c) frames shares) (paged c).args.q (Page (slot_at c))
+told : (c : tie.In-Page-2) (frames shares : ℕ) → Decides (view (paged c) frames shares) (paged c).args.q (Page (slot_at c))
 told c frames shares =
     let deciding = c.before.before in
     let s = decided deciding in
-    subst (λ (x : Access). Decides (view s frames shares) s.args.q x) c.access2.given.1 (deciding.decide.ensures frames shares)
+    subst (λ (x : Access). Decides (view s frames shares) s.args.q x) c.access-in-Page-1.given.1 (deciding.decide-access.ensures frames shares)
 
-slot_is : (c : tie.After-access2) → slot_at c ≡ slots (paged c).args.b.rec.present (page_of (paged c).args.q)
+slot_is : (c : tie.In-Page-2) → slot_at c ≡ slots (paged c).args.b.rec.present (page_of (paged c).args.q)
 slot_is c = (told c 0 0).1
 
-number : (c : tie.After-access2) (w : World) → Here (paged c) w → number_at (paged c).args.image.now w (paged c).args.q ≡ 0
+number : (c : tie.In-Page-2) (w : World) → Here (paged c) w → number_at (paged c).args.image.now w (paged c).args.q ≡ 0
 number c w A = sym (number-here A 0 (λ frames shares. sym (told c frames shares).0))
 
-fit : (c : tie.After-access2) → Fit (paged c).args.q
+fit : (c : tie.In-Page-2) → Fit (paged c).args.q
 fit c =
     let s = paged c in
-    let A = s.pre.1.1.1 in
-    (asked s.args.image.now s.pre.1.1.0 s.args.q (state A) (number c s.pre.1.1.0 A)).fit
+    let A = s.requires.stands.1 in
+    (asked s.args.image.now s.requires.stands.0 s.args.q (state A) (number c s.requires.stands.0 A)).fit
 
 -- where the byte is read, and where it is stored
-abbrev reading : tie.After-read-arg → tie.After-access2
+abbrev reading : tie.After-read-arg → tie.In-Page-2
 reading c = c.before.before.before.before
 
-abbrev storing : tie.After-store-arg → tie.After-access2
+abbrev storing : tie.After-store-arg-1 → tie.In-Page-2
 storing c = c.before.before.before.before
 
-writes : (c : tie.After-store-arg) → (paged (storing c)).args.q.code ≡ write_code
+writes : (c : tie.After-store-arg-1) → (paged (storing c)).args.q.code ≡ write_code
 writes c =
     let s = paged (storing c) in
     let q = s.args.q in
-    let h : (q is write_code) ≡ true = rw (ne_eqb q.code read_code c.before.if1.false) at s.pre.0 in
+    let h : (q is write_code) ≡ true = rw (ne_eqb q.code read_code c.before.if-q-eq-READ.false) at s.requires.is_value in
     eqb-true q.code write_code h
 
 -- ---- the needs
 
-cast-images : tie.Need-overflow-cast-images
-cast-images c = omega (arith, (state (start c).requires.1.1.1).images)
+cast-images : tie.Need-overflow_cast-images
+cast-images c = omega (arith, (state (start c).requires.stands.1).images)
 
-decide-requires : tie.Need-decide-requires
+decide-requires : tie.Need-decide-access-requires
 decide-requires c κs = let p = (start c).requires in (p.0, (p.1.0, ready-here p.1.1.1 p.1.0))
 
-enum-known-access : tie.Need-enum-known-access
+enum-known-access : tie.Need-enum_known-access
 enum-known-access c = search rules
 
-enum-known-access-2 : tie.Need-enum-known-access-2
+enum-known-access-2 : tie.Need-enum_known-access-in-Page-1
 enum-known-access-2 c = search rules
 
-read-requires : tie.Need-read-requires
+read-requires : tie.Need-read-byte-requires
 read-requires c κs =
     let found = reading c in
-    let A = (paged found).pre.1.1.1 in
-    (placed-here A (paged found).pre.1.0 (slot_at found) (slot_is found) ((fit found).read c.before.if1.true), ranged-here A)
+    let A = (paged found).requires.stands.1 in
+    (placed-here A (paged found).requires.sandbox_bound (slot_at found) (slot_is found) ((fit found).read c.before.if1.true), ranged-here A)
 
-cast-t20 : tie.Need-overflow-cast-t20
+cast-t20 : tie.Need-overflow_cast-result
 cast-t20 c = search rules
 
-same_length : tie.Need-same-length
+same_length : tie.Need-shape_of-pool-then-q-eq-READ
 same_length c = search rules
 
-returns : tie.Need-returns
+returns : tie.Need-returns-then-q-eq-READ
 returns c w A =
     let found = reading c.before in
     let s = paged found in
     let q = s.args.q in
     let e = c.before.before.if1.true in
-    tried_same A (Value c.read.result)
-    (looked A (few-access q s.pre.0) (access-stays q s.pre.0) (number found w A) (rw e) c.read.result
-    (read_here A s.pre.1.0 (slot_at found) (slot_is found) e c.read.result c.read.ensures))
+    tried_same A (Value c.read-byte.result)
+    (looked A (few-access q s.requires.is_value) (access-stays q s.requires.is_value) (number found w A) (rw e) c.read-byte.result
+    (read_here A s.requires.sandbox_bound (slot_at found) (slot_is found) e c.read-byte.result c.read-byte.ensures))
 
-store-requires : tie.Need-store-requires
+store-requires : tie.Need-store-stored-requires
 store-requires c κs =
     let found = storing c in
     let s = paged found in
     let limits = (fit found).written (writes c) in
-    (s.pre.1.0, (limits.0, (limits.1, ranged-here s.pre.1.1.1)))
+    (s.requires.sandbox_bound, (limits.0, (limits.1, ranged-here s.requires.stands.1)))
 
-returns-2 : tie.Need-returns-2
+returns-2 : tie.Need-returns-in-Refused
 returns-2 c w A =
     let arm = c.before in
     let s = decided arm.before.before in
-    let why = arm.access.given.0.0 in
+    let why = arm.access-1.given.0.0 in
     tried_same A (Refused why) (stepped-refused s.args.image.now w s.args.q why (number-here A (refusal_number why) (refused arm)))
 
-same-length-2 : tie.Need-same-length-2
+same-length-2 : tie.Need-shape_of-pool
 same-length-2 c = search rules
 
-returns-3 : tie.Need-returns-3
+returns-3 : tie.Need-returns-else-q-eq-READ
 returns-3 c w A =
     let stored = c.before.before in
     let found = storing stored.before in
     let s = paged found in
     let q = s.args.q in
-    tried-store A (few-access q s.pre.0) (access-stays q s.pre.0) (number found w A) (writes stored.before) stored.store.result _
-    stored.store.ensures
+    tried-store A (few-access q s.requires.is_value) (access-stays q s.requires.is_value) (number found w A) (writes stored.before) stored.store-stored.result _
+    stored.store-stored.ensures
 
-pub read-or-write-spec : {M : Type 1} → statement M
-read-or-write-spec =
+pub read_or_write_spec : {M : Type 1} → statement M
+read_or_write_spec =
     tie.close
     (tie.spec
     cast-images

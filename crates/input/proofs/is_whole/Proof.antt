@@ -6,5 +6,5 @@ use Rattle.input.proofs.is_whole.Tie as tie
 returns : tie.Need-returns
 returns c = search rules
 
-pub is-whole-spec : {M : Type 1} → statement M
-is-whole-spec = tie.close (tie.spec returns)
+pub is_whole_spec : {M : Type 1} → statement M
+is_whole_spec = tie.close (tie.spec returns)

@@ -12,5 +12,5 @@ both-requires c κs = search rules
 returns : tie.Need-returns
 returns c = rw (c.both.ensures, c.before.before.apart.ensures)
 
-pub add-run-spec : {M : Type 1} → statement M
-add-run-spec = tie.close (tie.spec apart-requires both-requires returns)
+pub add_run_spec : {M : Type 1} → statement M
+add_run_spec = tie.close (tie.spec apart-requires both-requires returns)

@@ -12,28 +12,28 @@ use Rattle.kept_soundness.proofs.is_blank.Statement.{statement}
 use Rattle.kept_soundness.proofs.is_blank.Tie as tie
 
 -- the way back from where a fact is needed to where it was learned
-abbrev at-start : tie.After-is-zero → tie.Start
+abbrev at-start : tie.After-is_zero → tie.Start
 at-start c = c.before.before.before.before
 
-cast-start : tie.Need-overflow-cast-start
+cast-start : tie.Need-overflow_cast-start
 cast-start c = search rules
 
-mul-start : tie.Need-overflow-mul-start
+mul-start : tie.Need-overflow_mul-start
 mul-start c = search rules
 
-add-is-zero : tie.Need-overflow-add-is-zero
+add-is-zero : tie.Need-overflow_add-start
 add-is-zero c = search rules
 
-sub-is-zero : tie.Need-overflow-sub-is-zero
+sub-is-zero : tie.Need-slice_bounds-is_zero-count
 sub-is-zero c = search rules
 
-part-is-zero-start : tie.Need-slice-bounds-is-zero-start
+part-is-zero-start : tie.Need-slice_bounds-is_zero-start
 part-is-zero-start c = search rules
 
-part-is-zero-end : tie.Need-slice-bounds-is-zero-end
+part-is-zero-end : tie.Need-slice_bounds-is_zero-end
 part-is-zero-end c = search rules
 
-is-zero-requires : tie.Need-is-zero-requires
+is-zero-requires : tie.Need-is_zero-requires
 is-zero-requires c κs = search rules
 
 returns : tie.Need-returns
@@ -43,15 +43,6 @@ returns c =
     c.is_zero.ensures
     ∙ ap (λ (page : List ℕ). every (λ o. eqb (get_or page o 0) 0) 0 256) (part-is-frame 256 start.args.pool.now start.args.f.0)
 
-pub is-blank-spec : {M : Type 1} → statement M
-is-blank-spec =
-    tie.close
-    (tie.spec
-    cast-start
-    mul-start
-    add-is-zero
-    sub-is-zero
-    part-is-zero-start
-    part-is-zero-end
-    is-zero-requires
-    returns)
+pub is_blank_spec : {M : Type 1} → statement M
+is_blank_spec =
+    tie.close (tie.spec cast-start mul-start add-is-zero sub-is-zero part-is-zero-start part-is-zero-end is-zero-requires returns)

@@ -16,39 +16,39 @@ use Rattle.kept_soundness.proofs.is_zero.Tie as tie
 abbrev of : List ℕ → ℕ → Bool
 of page i = eqb (get_or page i 0) 0
 
-abbrev invariant-loop : tie.invariant-loop
+abbrev invariant-loop : tie.invariant-loop-i
 invariant-loop page zero₀ i₀ zero i = (i ≤ 256) × (zero ≡ every (of page) 0 i)
 
-abbrev decreases-loop : tie.decreases-loop
+abbrev decreases-loop : tie.decreases-loop-i
 decreases-loop page zero₀ i₀ zero i = 256 - i
 
 -- the way back from where a fact is needed to where it was learned
-abbrev at-start : tie.After-shared-slice-known invariant-loop decreases-loop → tie.Start invariant-loop decreases-loop
+abbrev at-start : tie.After-shared_slice_known-1 invariant-loop decreases-loop → tie.Start invariant-loop decreases-loop
 at-start c = c.before.before.before
 
-loop-holds : tie.Need-loop-init invariant-loop decreases-loop
+loop-holds : tie.Need-loop-i-init invariant-loop decreases-loop
 unfolding every
 loop-holds c = (omega arith, refl)
 
-shared-slice-read-zero : tie.Need-shared-slice-read-zero invariant-loop decreases-loop
+shared-slice-read-zero : tie.Need-bounds-page-i invariant-loop decreases-loop
 shared-slice-read-zero c = search rules
 
-add-i : tie.Need-overflow-add-i invariant-loop decreases-loop
+add-i : tie.Need-overflow_step-i invariant-loop decreases-loop
 add-i c = search rules
 
-loop-less : tie.Need-loop-smaller invariant-loop decreases-loop
+loop-less : tie.Need-loop-i-smaller invariant-loop decreases-loop
 loop-less c = search rules
 
-loop-again : tie.Need-loop-preserved invariant-loop decreases-loop
+loop-again : tie.Need-loop-i-preserved invariant-loop decreases-loop
 loop-again c =
     let page = (at-start c).args.page.now in
-    let l = c.before.before.loop in
+    let l = c.before.before.loop-i in
     (search rules, rw l.invariant.1 (sym (every-last (of page) l.i)))
 
 returns : tie.Need-returns invariant-loop decreases-loop
 returns c =
-    let l = c.before.loop in
-    l.invariant.1 ∙ ap (every (of c.before.before.args.page.now) 0) (omega (arith, l.invariant.0, c.loop-test.false))
+    let l = c.before.loop-i in
+    l.invariant.1 ∙ ap (every (of c.before.before.args.page.now) 0) (omega (arith, l.invariant.0, c.loop-i-test.false))
 
-pub is-zero-spec : {M : Type 1} → statement M
-is-zero-spec = tie.close (tie.spec invariant-loop decreases-loop loop-holds shared-slice-read-zero add-i loop-less loop-again returns)
+pub is_zero_spec : {M : Type 1} → statement M
+is_zero_spec = tie.close (tie.spec invariant-loop decreases-loop loop-holds shared-slice-read-zero add-i loop-less loop-again returns)

@@ -4,20 +4,20 @@ use borrow.Author.Rules.{rules}
 use Rattle.limits.proofs.backing_ok.Statement.{statement}
 use Rattle.limits.proofs.backing_ok.Tie as tie
 
-returns : tie.Need-returns
-returns c = rw (eq-eqb _ _ c.before.if1.true)
+returns : tie.Need-returns-then-q-eq-ANONYMOUS
+returns c = rw (eq-eqb _ _ c.before.if-q-eq-ANONYMOUS.true)
 
-cast-end : tie.Need-overflow-cast-end
+cast-end : tie.Need-overflow_cast-end
 cast-end c = search rules
 
-cast-end-2 : tie.Need-overflow-cast-end-2
+cast-end-2 : tie.Need-overflow_cast-end-2
 cast-end-2 c = search rules
 
-add-end : tie.Need-overflow-add-end
+add-end : tie.Need-overflow_add-end
 add-end c = search rules
 
-returns-2 : tie.Need-returns-2
-returns-2 c = rw (ne_eqb _ _ c.before.before.before.if1.false)
+returns-2 : tie.Need-returns
+returns-2 c = rw (ne_eqb _ _ c.before.before.before.if-q-eq-ANONYMOUS.false)
 
-pub backing-ok-spec : {M : Type 1} → statement M
-backing-ok-spec = tie.close (tie.spec returns cast-end cast-end-2 add-end returns-2)
+pub backing_ok_spec : {M : Type 1} → statement M
+backing_ok_spec = tie.close (tie.spec returns cast-end cast-end-2 add-end returns-2)

@@ -3,14 +3,14 @@ use borrow.Author.Rules.{rules}
 use Rattle.limits.proofs.place_ok.Statement.{statement}
 use Rattle.limits.proofs.place_ok.Tie as tie
 
-is-count-requires : tie.Need-is-count-requires
+is-count-requires : tie.Need-is_count-requires
 is-count-requires c κs = search rules
 
-pages-ok-requires : tie.Need-pages-ok-requires
+pages-ok-requires : tie.Need-pages_ok-requires
 pages-ok-requires c κs = search rules
 
 returns : tie.Need-returns
-returns c = rw (c.pages-ok.ensures, c.before.is-count.ensures)
+returns c = rw (c.pages_ok.ensures, c.before.is_count.ensures)
 
-pub place-ok-spec : {M : Type 1} → statement M
-place-ok-spec = tie.close (tie.spec is-count-requires pages-ok-requires returns)
+pub place_ok_spec : {M : Type 1} → statement M
+place_ok_spec = tie.close (tie.spec is-count-requires pages-ok-requires returns)

@@ -8,52 +8,52 @@ use borrow.Author.Rules.{rules}
 use Rattle.line_fields.proofs.field_at.Statement.{statement}
 use Rattle.line_fields.proofs.field_at.Tie as tie
 
-mul_at : tie.Need-overflow-mul-at
+mul_at : tie.Need-overflow_mul-at
 mul_at c = search rules
 
-add-end : tie.Need-overflow-add-end
+add-end : tie.Need-overflow_add-end
 add-end c = search rules
 
-five-blanks-requires : tie.Need-five-blanks-requires
+five-blanks-requires : tie.Need-five_blanks-requires
 five-blanks-requires c κs = search rules
 
-add-with-digit : tie.Need-overflow-add-with-digit
+add-with-digit : tie.Need-overflow_add-at
 add-with-digit c = search rules
 
-shared-slice-read-with-digit : tie.Need-shared-slice-read-with-digit
+shared-slice-read-with-digit : tie.Need-bounds-line-at
 shared-slice-read-with-digit c = search rules
 
-with-digit-requires : tie.Need-with-digit-requires
+with-digit-requires : tie.Need-with_digit-requires
 with-digit-requires c κs = search rules
 
-as-field-requires : tie.Need-as-field-requires
+as-field-requires : tie.Need-as_field-requires
 as-field-requires c κs = search rules
 
-returns : tie.Need-returns
+returns : tie.Need-returns-then-five_blanks
 returns c =
     let tested = c.before.before.before.before in
     let a = tested.before.before.args in
-    let blank = sym tested.five-blanks.ensures ∙ c.before.before.before.if1.true in
-    c.as-field.ensures ∙ c.before.with-digit.ensures ∙ short-at a.line.now a.k blank
+    let blank = sym tested.five_blanks.ensures ∙ c.before.before.before.if-five_blanks.true in
+    c.as_field.ensures ∙ c.before.with_digit.ensures ∙ short-at a.line.now a.k blank
 
-sub-read-field : tie.Need-overflow-sub-read-field
+sub-read-field : tie.Need-slice_bounds-read_field-count
 sub-read-field c = search rules
 
-part-read-field-start : tie.Need-slice-bounds-read-field-start
+part-read-field-start : tie.Need-slice_bounds-read_field-start
 part-read-field-start c = search rules
 
-part-read-field-end : tie.Need-slice-bounds-read-field-end
+part-read-field-end : tie.Need-slice_bounds-read_field-end
 part-read-field-end c = search rules
 
-read-field-requires : tie.Need-read-field-requires
+read-field-requires : tie.Need-read_field-requires
 read-field-requires c κs = search rules
 
-returns-2 : tie.Need-returns-2
+returns-2 : tie.Need-returns
 unfolding field_at
-returns-2 c = rw (c.read-field.ensures, add-sub_cancel_left (c.before.before.before.before.before.args.k * 6) 6)
+returns-2 c = rw (c.read_field.ensures, add-sub_cancel_left (c.before.before.before.before.before.args.k * 6) 6)
 
-pub field-at-spec : {M : Type 1} → statement M
-field-at-spec =
+pub field_at_spec : {M : Type 1} → statement M
+field_at_spec =
     tie.close
     (tie.spec
     mul_at

@@ -8,48 +8,48 @@ use borrow.Author.Rules.{rules}
 use Rattle.line_fields.proofs.number_at.Statement.{statement}
 use Rattle.line_fields.proofs.number_at.Tie as tie
 
-mul_at : tie.Need-overflow-mul-at
+mul_at : tie.Need-overflow_mul-at
 mul_at c = search rules
 
-add-end : tie.Need-overflow-add-end
+add-end : tie.Need-overflow_add-end
 add-end c = search rules
 
-five-blanks-requires : tie.Need-five-blanks-requires
+five-blanks-requires : tie.Need-five_blanks-requires
 five-blanks-requires c κs = search rules
 
-add-with-digit : tie.Need-overflow-add-with-digit
+add-with-digit : tie.Need-overflow_add-at
 add-with-digit c = search rules
 
-shared-slice-read-with-digit : tie.Need-shared-slice-read-with-digit
+shared-slice-read-with-digit : tie.Need-bounds-line-at
 shared-slice-read-with-digit c = search rules
 
-with-digit-requires : tie.Need-with-digit-requires
+with-digit-requires : tie.Need-with_digit-requires
 with-digit-requires c κs = search rules
 
-returns : tie.Need-returns
+returns : tie.Need-returns-then-five_blanks
 returns c =
     let tested = c.before.before.before in
     let a = tested.before.before.args in
-    c.with-digit.ensures ∙ short-at a.line.now a.k (sym tested.five-blanks.ensures ∙ c.before.before.if1.true)
+    c.with_digit.ensures ∙ short-at a.line.now a.k (sym tested.five_blanks.ensures ∙ c.before.before.if-five_blanks.true)
 
-sub-read-number : tie.Need-overflow-sub-read-number
+sub-read-number : tie.Need-slice_bounds-read_number-count
 sub-read-number c = search rules
 
-part-read-number-start : tie.Need-slice-bounds-read-number-start
+part-read-number-start : tie.Need-slice_bounds-read_number-start
 part-read-number-start c = search rules
 
-part-read-number-end : tie.Need-slice-bounds-read-number-end
+part-read-number-end : tie.Need-slice_bounds-read_number-end
 part-read-number-end c = search rules
 
-read-number-requires : tie.Need-read-number-requires
+read-number-requires : tie.Need-read_number-requires
 read-number-requires c κs = search rules
 
-returns-2 : tie.Need-returns-2
+returns-2 : tie.Need-returns
 unfolding field_at
 returns-2 c = rw (c.read_number.ensures, add-sub_cancel_left (c.before.before.before.before.before.args.k * 6) 6)
 
-pub number-at-spec : {M : Type 1} → statement M
-number-at-spec =
+pub number_at_spec : {M : Type 1} → statement M
+number_at_spec =
     tie.close
     (tie.spec
     mul_at

@@ -8,28 +8,28 @@ use borrow.Author.Rules.{rules}
 use Rattle.line_numbers.proofs.put_line.Statement.{statement}
 use Rattle.line_numbers.proofs.put_line.Tie as tie
 
-mul_at : tie.Need-overflow-mul-at
+mul_at : tie.Need-overflow_mul-at
 mul_at c = search rules
 
-add-end : tie.Need-overflow-add-end
+add-end : tie.Need-overflow_add-end
 add-end c = search rules
 
-mul-put : tie.Need-overflow-mul-put
+mul-put : tie.Need-offset_bounds-numbers-at
 mul-put c = search rules
 
-sub-put : tie.Need-overflow-sub-put
+sub-put : tie.Need-slice_bounds-put-count
 sub-put c = search rules
 
-part-put-start : tie.Need-slice-bounds-put-start
+part-put-start : tie.Need-slice_bounds-put-start
 part-put-start c = search rules
 
-part-put-end : tie.Need-slice-bounds-put-end
+part-put-end : tie.Need-slice_bounds-put-end
 part-put-end c = search rules
 
 put-requires : tie.Need-put-requires
 put-requires c κs = search rules
 
-same_length : tie.Need-same-length
+same_length : tie.Need-shape_of-numbers
 same_length c = search rules
 
 returns : tie.Need-returns
@@ -39,16 +39,6 @@ returns c =
     let at = a.k * 8 in
     part-is a.numbers.now shown.new.0 at ∙ ap (λ ys. take at a.numbers.now ++ (ys ++ drop (at + 8) a.numbers.now)) shown.ensures
 
-pub put-line-spec : {M : Type 1} → statement M
-put-line-spec =
-    tie.close
-    (tie.spec
-    mul_at
-    add-end
-    mul-put
-    sub-put
-    part-put-start
-    part-put-end
-    put-requires
-    same_length
-    returns)
+pub put_line_spec : {M : Type 1} → statement M
+put_line_spec =
+    tie.close (tie.spec mul_at add-end mul-put sub-put part-put-start part-put-end put-requires same_length returns)

@@ -38,44 +38,44 @@ four c = search length-mapped
 
 -- ---- what is known behind each test
 
-abbrev behind_code : tie.Else1 → tie.Start
+abbrev behind_code : tie.Else-not-is_call → tie.Start
 behind_code c = c.before.before.before.before.before
 
-no_call : (c : tie.Then1) → is_call c.before.before.before.before.before.args.q ≡ false
-no_call c = sym c.before.is-call.ensures ∙ not-true c.before.is-call.result c.if1.true
+no_call : (c : tie.Then-not-is_call) → is_call c.before.before.before.before.before.args.q ≡ false
+no_call c = sym c.before.is_call.ensures ∙ not-true c.before.is_call.result c.if-not-is_call.true-raw
 
-a_call : (c : tie.Else1) → is_call (behind_code c).args.q ≡ true
-a_call c = sym c.before.is-call.ensures ∙ not-false c.before.is-call.result c.if1.false
+a_call : (c : tie.Else-not-is_call) → is_call (behind_code c).args.q ≡ true
+a_call c = sym c.before.is_call.ensures ∙ not-false c.before.is_call.result c.if-not-is_call.false-raw
 
-abbrev behind_state : tie.Else2 → tie.Start
+abbrev behind_state : tie.Else-not-sound → tie.Start
 behind_state c = behind_code c.before.before.before.before
 
-fails : (c : tie.Then2) → let start = behind_code c.before.before.before.before in soundb (image_in start) (world_in start) ≡ false
-fails c = sym c.before.sound.ensures ∙ not-true c.before.sound.result c.if2.true
+fails : (c : tie.Then-not-sound) → let start = behind_code c.before.before.before.before in soundb (image_in start) (world_in start) ≡ false
+fails c = sym c.before.sound.ensures ∙ not-true c.before.sound.result c.if-not-sound.true-raw
 
-passes : (c : tie.Else2) → soundb (image_in (behind_state c)) (world_in (behind_state c)) ≡ true
-passes c = sym c.before.sound.ensures ∙ not-false c.before.sound.result c.if2.false
+passes : (c : tie.Else-not-sound) → soundb (image_in (behind_state c)) (world_in (behind_state c)) ≡ true
+passes c = sym c.before.sound.ensures ∙ not-false c.before.sound.result c.if-not-sound.false-raw
 
-abbrev behind_row : tie.Else3 → tie.Start
+abbrev behind_row : tie.Else-q-ge-SANDBOXES → tie.Start
 behind_row c = behind_state c.before.before
 
-in-row : (c : tie.Else3) → (behind_row c).args.q.sandbox < 4
-in-row c = omega (arith, c.if3.false)
+in-row : (c : tie.Else-q-ge-SANDBOXES) → (behind_row c).args.q.sandbox < 4
+in-row c = omega (arith, c.if-q-ge-SANDBOXES.false)
 
 -- a sandbox is rewound or tried in place behind the tests; the world around it is the one handed in
-abbrev row_of : tie.Else4 → tie.Else3
+abbrev row_of : tie.Else-q-eq-REWIND → tie.Else-q-ge-SANDBOXES
 row_of c = c.before.before.before.before.before
 
-abbrev rewound-row : tie.Then4 → tie.Else3
+abbrev rewound-row : tie.Then-q-eq-REWIND → tie.Else-q-ge-SANDBOXES
 rewound-row c = c.before.before.before.before.before
 
-abbrev tried : tie.After-answer → tie.Else3
+abbrev tried : tie.After-answer-tried → tie.Else-q-ge-SANDBOXES
 tried c = row_of c.before.before.before
 
 abbrev own : tie.Start → Sandbox
 own s = get_or s.args.machine.sandboxes s.args.q.sandbox zero_sandbox
 
-around : (row : tie.Else3) → let s = behind_row row in
+around : (row : tie.Else-q-ge-SANDBOXES) → let s = behind_row row in
     Around (image_in s) s.args.q (own s) s.args.pool.now s.args.table.now (world_in s)
 around row =
     let s = behind_row row in record {
@@ -86,20 +86,20 @@ around row =
     }
 
 -- where it is not answered there the pool is as it was, and what the sandboxes have together is found
-abbrev left-of : tie.After-put-together → tie.After-answer
+abbrev left-of : tie.After-put_together-all → tie.After-answer-tried
 left-of c = c.before.before.before.before.before
 
-pool-stays : (c : tie.After-put-together) → let s = behind_row (tried (left-of c)) in (left-of c).answer.new.1.0 ≡ s.args.pool.now
+pool-stays : (c : tie.After-put_together-all) → let s = behind_row (tried (left-of c)) in (left-of c).answer-tried.new.1.0 ≡ s.args.pool.now
 pool-stays c =
     let behind = left-of c in
-    (behind.answer.ensures (world_in (behind_row (tried behind))) (around (tried behind))).left c.before.before.if5.false
+    (behind.answer-tried.ensures (world_in (behind_row (tried behind))) (around (tried behind))).left c.before.before.if-tried.false
 
-stands : (c : tie.After-put-together) → let s = behind_row (tried (left-of c)) in let all = c.put-together.result in
-    Stands (image_in s) s.args.q (own s) all (kept all.held (left-of c).answer.new.1.0 s.args.table.now) s.args.machine.sandboxes
+stands : (c : tie.After-put_together-all) → let s = behind_row (tried (left-of c)) in let all = c.put_together-all.result in
+    Stands (image_in s) s.args.q (own s) all (kept all.held (left-of c).answer-tried.new.1.0 s.args.table.now) s.args.machine.sandboxes
 stands c =
     let row = tried (left-of c) in
     let s = behind_row row in
-    let found = c.put-together in
+    let found = c.put_together-all in
     standing (image_in s) s.args.q s.args.machine s.args.pool.now _ s.args.table.now found.result found.ensures.0 (pool-stays c)
     (four s) (in-row row) (passes row.before.before) found.ensures.1.0 found.ensures.1.1
 
@@ -107,29 +107,29 @@ stands c =
 abbrev unasked : tie.Start → Together
 unasked s = record { held = s.args.machine.held; shares = shares_in s.args.machine.sandboxes; kept = none_held }
 
-stands-alone : (c : tie.Then4) → let s = behind_row (rewound-row c) in
+stands-alone : (c : tie.Then-q-eq-REWIND) → let s = behind_row (rewound-row c) in
     Stands (image_in s) s.args.q (own s) (unasked s) (kept s.args.machine.held s.args.pool.now s.args.table.now) s.args.machine.sandboxes
 stands-alone c =
     let row = rewound-row c in
     let s = behind_row row in
     standing (image_in s) s.args.q s.args.machine s.args.pool.now s.args.pool.now s.args.table.now (unasked s) refl refl
-    (four s) (in-row row) (passes row.before.before) refl (λ e. absurd (omega (arith, e, c.if4.true)))
+    (four s) (in-row row) (passes row.before.before) refl (λ e. absurd (omega (arith, e, c.if-q-eq-REWIND.true)))
 
-abbrev rewound-at : tie.After-marks → tie.After-rewind-sandbox
+abbrev rewound-at : tie.After-marks-1 → tie.After-rewind_sandbox-rewound
 rewound-at c = c.before.before.before.before.before.before
 
-abbrev rewinding : tie.After-rewind-sandbox → tie.Then4
+abbrev rewinding : tie.After-rewind_sandbox-rewound → tie.Then-q-eq-REWIND
 rewinding c = c.before.before.before.before
 
 -- ---- the needs
 
-is-call-requires : tie.Need-is-call-requires
+is-call-requires : tie.Need-is_call-requires
 is-call-requires c κs = search rules
 
 refuse-requires : tie.Need-refuse-requires
 refuse-requires c κs = search rules
 
-returns : tie.Need-returns
+returns : tie.Need-returns-then-not-is_call
 returns c =
     let start = c.before.before.before.before.before.before in
     rw c.refuse.ensures
@@ -139,104 +139,104 @@ returns c =
 sound-requires : tie.Need-sound-requires
 sound-requires c κs = search rules
 
-refuse-requires-2 : tie.Need-refuse-requires-2
+refuse-requires-2 : tie.Need-refuse-requires-then-not-sound
 refuse-requires-2 c κs = search rules
 
-same_length : tie.Need-same-length
+same_length : tie.Need-shape_of-pool-then-not-sound
 same_length c = search rules
 
-same-length-2 : tie.Need-same-length-2
+same-length-2 : tie.Need-shape_of-table-then-not-sound
 same-length-2 c = search rules
 
-returns-2 : tie.Need-returns-2
+returns-2 : tie.Need-returns-then-not-sound
 returns-2 c =
     let coded = c.before.before.before.before.before in
     let start = behind_code coded in
-    rw c.refuse2.ensures
+    rw c.refuse-then-not-sound.ensures
     (stepped-refused (image_in start) (world_in start) start.args.q Unsound
     (number-three (image_in start) (world_in start) start.args.q (a_call coded) (fails c.before)))
 
-cast-if3 : tie.Need-overflow-cast-if3
+cast-if3 : tie.Need-overflow_cast-q
 cast-if3 c = search rules
 
-refuse-requires-3 : tie.Need-refuse-requires-3
+refuse-requires-3 : tie.Need-refuse-requires-then-q-ge-SANDBOXES
 refuse-requires-3 c κs = search rules
 
-same-length-3 : tie.Need-same-length-3
+same-length-3 : tie.Need-shape_of-pool-then-q-ge-SANDBOXES
 same-length-3 c = search rules
 
-same-length-4 : tie.Need-same-length-4
+same-length-4 : tie.Need-shape_of-table-then-q-ge-SANDBOXES
 same-length-4 c = search rules
 
-returns-3 : tie.Need-returns-3
+returns-3 : tie.Need-returns-then-q-ge-SANDBOXES
 returns-3 c =
     let sounded = c.before.before.before in
     let start = behind_state sounded in
-    rw c.refuse3.ensures
+    rw c.refuse-then-q-ge-SANDBOXES.ensures
     (stepped-refused (image_in start) (world_in start) start.args.q NotOpen
     (number-four (image_in start) (world_in start) start.args.q (a_call sounded.before.before.before.before) (passes sounded)
-    (omega (arith, c.before.if3.true))))
+    (omega (arith, c.before.if-q-ge-SANDBOXES.true))))
 
-cast-k : tie.Need-overflow-cast-k
+cast-k : tie.Need-overflow_cast-k
 cast-k c = search rules
 
-mul-b : tie.Need-overflow-mul-b
+mul-b : tie.Need-offset_bounds-sandboxes-k
 mul-b c = let low = in-row c.before.before in search rules
 
-array-copy-out-b : tie.Need-array-copy-out-b
+array-copy-out-b : tie.Need-bounds-sandboxes-k
 array-copy-out-b c = let low = in-row c.before.before in search rules
 
-rewind-sandbox-requires : tie.Need-rewind-sandbox-requires
+rewind-sandbox-requires : tie.Need-rewind_sandbox-rewound-requires
 rewind-sandbox-requires c κs =
     let rewinds = c.before.before.before in
     let row = rewound-row rewinds in
     let s = behind_row row in
-    (rewinds.if4.true, (in-row row, (s.args.machine.sandboxes, (unasked s, stands-alone rewinds))))
+    (rewinds.if-q-eq-REWIND.true, (in-row row, (s.args.machine.sandboxes, (unasked s, stands-alone rewinds))))
 
-mul-back : tie.Need-overflow-mul-back
+mul-back : tie.Need-offset_bounds-m-k
 mul-back c = let low = in-row (rewound-row (rewinding (rewound-at c))) in search rules
 
-element-set-from-back : tie.Need-element-set-from-back
+element-set-from-back : tie.Need-bounds-m-k
 element-set-from-back c =
     let row = rewound-row (rewinding (rewound-at c)) in
     let low = in-row row in
     let all = four (behind_row row) in
     search rules
 
-same-length-5 : tie.Need-same-length-5
+same-length-5 : tie.Need-shape_of-pool-then-q-eq-REWIND
 same-length-5 c = search rules
 
-same-length-6 : tie.Need-same-length-6
+same-length-6 : tie.Need-shape_of-table-then-q-eq-REWIND
 same-length-6 c = search rules
 
-returns-4 : tie.Need-returns-4
+returns-4 : tie.Need-returns-then-q-eq-REWIND
 returns-4 c =
     let did = rewound-at c in
     let rewinds = rewinding did in
     let s = behind_row (rewound-row rewinds) in
-    did.rewind-sandbox.ensures s.args.machine.sandboxes (unasked s) (stands-alone rewinds)
+    did.rewind_sandbox-rewound.ensures s.args.machine.sandboxes (unasked s) (stands-alone rewinds)
 
-answer-requires : tie.Need-answer-requires
+answer-requires : tie.Need-answer-tried-requires
 answer-requires c κs =
     let row = row_of c.before.before in
     (in-row row, (world_in (behind_row row), around row))
 
-same-length-7 : tie.Need-same-length-7
+same-length-7 : tie.Need-shape_of-pool-then-tried
 same-length-7 c = search rules
 
-same-length-8 : tie.Need-same-length-8
+same-length-8 : tie.Need-shape_of-table-then-tried
 same-length-8 c = search rules
 
-returns-5 : tie.Need-returns-5
+returns-5 : tie.Need-returns-then-tried
 returns-5 c =
     let behind = c.before.before.before in
     let row = tried behind in
-    (behind.answer.ensures (world_in (behind_row row)) (around row)).done c.if5.true
+    (behind.answer-tried.ensures (world_in (behind_row row)) (around row)).done c.if-tried.true
 
-put-together-requires : tie.Need-put-together-requires
+put-together-requires : tie.Need-put_together-all-requires
 put-together-requires c κs = search rules
 
-act-requires : tie.Need-act-requires
+act-requires : tie.Need-act-acted-requires
 act-requires c κs =
     let told = c.before.before in
     let row = tried (left-of told) in
@@ -245,32 +245,32 @@ act-requires c κs =
       ((left-of told).before.before.before.if4.false, (in-row row, (s.args.machine.sandboxes, stands told))),
     )
 
-mul-after : tie.Need-overflow-mul-after
+mul-after : tie.Need-offset_bounds-m-k-2
 mul-after c = let low = in-row (tried (left-of c.before.before.before.before.before.before.before.before.before)) in search rules
 
-element-set-from-after : tie.Need-element-set-from-after
+element-set-from-after : tie.Need-bounds-m-k-2
 element-set-from-after c =
     let row = tried (left-of c.before.before.before.before.before.before.before.before.before) in
     let low = in-row row in
     let all = four (behind_row row) in
     search rules
 
-same-length-9 : tie.Need-same-length-9
+same-length-9 : tie.Need-shape_of-pool
 same-length-9 c = search rules
 
-same-length-10 : tie.Need-same-length-10
+same-length-10 : tie.Need-shape_of-table
 same-length-10 c = search rules
 
-returns-6 : tie.Need-returns-6
+returns-6 : tie.Need-returns
 returns-6 c =
     let acted = c.before.before.before.before.before.before in
     let told = acted.before.before.before in
     let s = behind_row (tried (left-of told)) in
-    stepped-back (image_in s) s.args.q s.args.machine s.args.pool.now _ s.args.table.now told.put-together.result
-    told.put-together.ensures.0 (pool-stays told) _ (acted.act.ensures s.args.machine.sandboxes (stands told))
+    stepped-back (image_in s) s.args.q s.args.machine s.args.pool.now _ s.args.table.now told.put_together-all.result
+    told.put_together-all.ensures.held_value (pool-stays told) _ (acted.act-acted.ensures s.args.machine.sandboxes (stands told))
 
-pub call-spec : {M : Type 1} → statement M
-call-spec =
+pub call_spec : {M : Type 1} → statement M
+call_spec =
     tie.close
     (tie.spec
     is-call-requires

@@ -4,11 +4,11 @@ use Rattle.marks.proofs.UsedLaws.{used-one}
 use Rattle.marks.proofs.is_used.Statement.{statement}
 use Rattle.marks.proofs.is_used.Tie as tie
 
-returns : tie.Need-returns
+returns : tie.Need-returns-then-entry-eq0
 returns c = search rules
 
-returns-2 : tie.Need-returns-2
-returns-2 c = used-one c.before.args.entry c.if1.false
+returns-2 : tie.Need-returns
+returns-2 c = used-one c.before.args.entry c.if-entry-eq0.false
 
-pub is-used-spec : {M : Type 1} → statement M
-is-used-spec = tie.close (tie.spec returns returns-2)
+pub is_used_spec : {M : Type 1} → statement M
+is_used_spec = tie.close (tie.spec returns returns-2)

@@ -6,32 +6,32 @@ use Rattle.rewind_cases.proofs.CaseLaws.{one-case}
 use Rattle.page_case.proofs.case_of.Statement.{statement}
 use Rattle.page_case.proofs.case_of.Tie as tie
 
-returns : tie.Need-returns
+returns : tie.Need-returns-then-front-eq0
 returns c = search rules
 
-returns-2 : tie.Need-returns-2
+returns-2 : tie.Need-returns-then-back-ne0
 returns-2 c =
     let a = c.before.before.args in
-    (one-case a.front a.back a.backing).alone Copied (omega (arith, c.before.if1.false), omega (arith, c.if2.true))
+    (one-case a.front a.back a.backing).alone Copied (omega (arith, c.before.if-front-eq0.false), omega (arith, c.if-back-ne0.true))
 
-enum_told : tie.Need-enum-told
+enum_told : tie.Need-enum_told-1
 enum_told c = search rules
 
-enum-known-backing : tie.Need-enum-known-backing
+enum-known-backing : tie.Need-enum_known-backing
 enum-known-backing c = search rules
 
-returns-3 : tie.Need-returns-3
+returns-3 : tie.Need-returns-in-Anonymous
 returns-3 c =
     let a = c.before.before.before.before.args in
     (one-case a.front a.back a.backing).alone Zeroed
-    (omega (arith, c.before.before.before.if1.false), omega (arith, c.before.before.if2.false), c.enum_told.given.1)
+    (omega (arith, c.before.before.before.if-front-eq0.false), omega (arith, c.before.before.if-back-ne0.false), c.enum_told-1.given.1)
 
-returns-4 : tie.Need-returns-4
+returns-4 : tie.Need-returns-in-Image
 returns-4 c =
     let a = c.before.before.before.before.before.args in
-    (one-case a.front a.back a.backing).alone (ImagePage c.before.backing.given.0.0)
-    (omega (arith, c.before.before.before.before.if1.false), omega (arith, c.before.before.before.if2.false), c.before.backing.given.1)
+    (one-case a.front a.back a.backing).alone (ImagePage c.before.backing-1.given.0.0)
+    (omega (arith, c.before.before.before.before.if-front-eq0.false), omega (arith, c.before.before.before.if-back-ne0.false), c.before.backing-1.given.1)
 
-pub case-of-spec : {M : Type 1} → statement M
-case-of-spec =
+pub case_of_spec : {M : Type 1} → statement M
+case_of_spec =
     tie.close (tie.spec returns returns-2 enum_told enum-known-backing returns-3 returns-4)

@@ -10,101 +10,101 @@ use Rattle.page_comparison.proofs.has_page.Tie as tie
 
 -- behind the test of the entry
 
-abbrev named : tie.Then1 → tie.Start
+abbrev named : tie.Then-entry-ne0 → tie.Start
 named c = c.before.before.before.before
 
-abbrev unnamed : tie.Else1 → tie.Start
+abbrev unnamed : tie.Else-entry-ne0 → tie.Start
 unnamed c = c.before.before.before.before
 
 -- ---- the needs
 
-frame-of-requires : tie.Need-frame-of-requires
+frame-of-requires : tie.Need-frame_of-requires
 frame-of-requires c κs = search rules
 
-cast-start : tie.Need-overflow-cast-start
+cast-start : tie.Need-overflow_cast-start
 cast-start c = search rules
 
-mul-start : tie.Need-overflow-mul-start
+mul-start : tie.Need-overflow_mul-start
 mul-start c = search rules
 
-add-end : tie.Need-overflow-add-end
+add-end : tie.Need-overflow_add-end
 add-end c = search rules
 
-sub-is-same : tie.Need-overflow-sub-is-same
+sub-is-same : tie.Need-slice_bounds-is_same-count
 sub-is-same c = search rules
 
-part-is-same-start : tie.Need-slice-bounds-is-same-start
+part-is-same-start : tie.Need-slice_bounds-is_same-start
 part-is-same-start c = search rules
 
-part-is-same-end : tie.Need-slice-bounds-is-same-end
+part-is-same-end : tie.Need-slice_bounds-is_same-end
 part-is-same-end c = search rules
 
-is-same-requires : tie.Need-is-same-requires
+is-same-requires : tie.Need-is_same-requires
 is-same-requires c κs = search rules
 
-returns : tie.Need-returns
+returns : tie.Need-returns-then-entry-ne0
 returns c =
     let frame = c.before.before.before in
     let s = named frame.before in
     let a = s.args in
-    let f = frame.frame-of in
-    let here = at-frame a.pool.now a.image.now a.entry a.backing f.result.0 f.ensures frame.before.if1.true in
-    has-page s.args.part.now _ _ c.is_same.result s.pre.0 here c.is_same.ensures
+    let f = frame.frame_of in
+    let here = at-frame a.pool.now a.image.now a.entry a.backing f.result.0 f.ensures frame.before.if-entry-ne0.true in
+    has-page s.args.part.now _ _ c.is_same.result s.requires.part_len here c.is_same.ensures
 
-enum_told : tie.Need-enum-told
+enum_told : tie.Need-enum_told-1
 enum_told c = search rules
 
-slice-aggregate-is-same : tie.Need-slice-aggregate-is-same
+slice-aggregate-is-same : tie.Need-slice_bounds-is_same-end-in-Anonymous
 slice-aggregate-is-same c = search rules
 
-is-same-requires-2 : tie.Need-is-same-requires-2
+is-same-requires-2 : tie.Need-is_same-requires-in-Anonymous
 is-same-requires-2 c κs = search rules
 
-enum-known-backing : tie.Need-enum-known-backing
+enum-known-backing : tie.Need-enum_known-backing
 enum-known-backing c = search rules
 
-cast-start-2 : tie.Need-overflow-cast-start-2
+cast-start-2 : tie.Need-overflow_cast-start-in-Image
 cast-start-2 c = search rules
 
-mul-start-2 : tie.Need-overflow-mul-start-2
+mul-start-2 : tie.Need-overflow_mul-start-in-Image
 mul-start-2 c = search rules
 
-add-end-2 : tie.Need-overflow-add-end-2
+add-end-2 : tie.Need-overflow_add-end-in-Image
 add-end-2 c = search rules
 
-sub-is-same-2 : tie.Need-overflow-sub-is-same-2
+sub-is-same-2 : tie.Need-slice_bounds-is_same-count-in-Image
 sub-is-same-2 c = search rules
 
-part-is-same-start-2 : tie.Need-slice-bounds-is-same-start-2
+part-is-same-start-2 : tie.Need-slice_bounds-is_same-start-in-Image
 part-is-same-start-2 c = search rules
 
-part-is-same-end-2 : tie.Need-slice-bounds-is-same-end-2
-part-is-same-end-2 c = omega (arith, ap backing_end c.before.before.backing.given.1)
+part-is-same-end-2 : tie.Need-slice_bounds-is_same-end-in-Image
+part-is-same-end-2 c = omega (arith, ap backing_end c.before.before.backing-1.given.1)
 
-is-same-requires-3 : tie.Need-is-same-requires-3
+is-same-requires-3 : tie.Need-is_same-requires-in-Image
 is-same-requires-3 c κs = search rules
 
-returns-2 : tie.Need-returns-2
+returns-2 : tie.Need-returns-in-Anonymous
 unfolding zeros
 returns-2 c =
     let told = c.before.before in
     let s = unnamed told.before.before in
     let a = (unnamed told.before.before).args in
-    let none = told.before.before.if1.false in
-    let here = at_zero a.pool.now a.image.now a.entry a.backing none told.enum_told.given.1 in
-    has-page s.args.part.now _ _ c.is-same2.result s.pre.0 here c.is-same2.ensures
+    let none = told.before.before.if-entry-ne0.false in
+    let here = at_zero a.pool.now a.image.now a.entry a.backing none told.enum_told-1.given.1 in
+    has-page s.args.part.now _ _ c.is_same-in-Anonymous.result s.requires.part_len here c.is_same-in-Anonymous.ensures
 
-returns-3 : tie.Need-returns-3
+returns-3 : tie.Need-returns-in-Image
 returns-3 c =
     let page = c.before.before.before.before in
     let s = unnamed page.before.before in
     let a = s.args in
-    let known = page.backing.given in
-    let here = at-image a.pool.now a.image.now a.entry a.backing known.0.0 page.before.before.if1.false known.1 in
-    has-page s.args.part.now _ _ c.is-same3.result s.pre.0 here c.is-same3.ensures
+    let known = page.backing-1.given in
+    let here = at-image a.pool.now a.image.now a.entry a.backing known.0.0 page.before.before.if-entry-ne0.false known.1 in
+    has-page s.args.part.now _ _ c.is_same-in-Image.result s.requires.part_len here c.is_same-in-Image.ensures
 
-pub has-page-spec : {M : Type 1} → statement M
-has-page-spec =
+pub has_page_spec : {M : Type 1} → statement M
+has_page_spec =
     tie.close
     (tie.spec
     frame-of-requires

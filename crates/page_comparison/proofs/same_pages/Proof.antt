@@ -12,10 +12,10 @@ use Rattle.page_comparison.proofs.same_pages.Tie as tie
 
 -- behind the test of the entry
 
-abbrev named : tie.Then1 → tie.Start
+abbrev named : tie.Then-entry-ne0 → tie.Start
 named c = c.before.before.before
 
-abbrev unnamed : tie.Else1 → tie.Start
+abbrev unnamed : tie.Else-entry-ne0 → tie.Start
 unnamed c = c.before.before.before
 
 -- the page that it is compared with
@@ -24,92 +24,92 @@ twin s = page_of s.args.pool.now s.args.image.now s.args.other s.args.twin
 
 -- ---- the needs
 
-frame-of-requires : tie.Need-frame-of-requires
+frame-of-requires : tie.Need-frame_of-requires
 frame-of-requires c κs = search rules
 
-cast-start : tie.Need-overflow-cast-start
+cast-start : tie.Need-overflow_cast-start
 cast-start c = search rules
 
-mul-start : tie.Need-overflow-mul-start
+mul-start : tie.Need-overflow_mul-start
 mul-start c = search rules
 
-add-end : tie.Need-overflow-add-end
+add-end : tie.Need-overflow_add-end
 add-end c = search rules
 
-sub-has-page : tie.Need-overflow-sub-has-page
+sub-has-page : tie.Need-slice_bounds-has_page-count
 sub-has-page c = search rules
 
-part-has-page-start : tie.Need-slice-bounds-has-page-start
+part-has-page-start : tie.Need-slice_bounds-has_page-start
 part-has-page-start c = search rules
 
-part-has-page-end : tie.Need-slice-bounds-has-page-end
+part-has-page-end : tie.Need-slice_bounds-has_page-end
 part-has-page-end c = search rules
 
-has-page-requires : tie.Need-has-page-requires
+has-page-requires : tie.Need-has_page-requires
 has-page-requires c κs = search rules
 
-returns : tie.Need-returns
+returns : tie.Need-returns-then-entry-ne0
 returns c =
     let frame = c.before.before.before in
     let s = named frame.before in
     let a = s.args in
-    let f = frame.frame-of in
-    let here = at-frame a.pool.now a.image.now a.entry a.backing f.result.0 f.ensures frame.before.if1.true in
-    same-as (lent a.pool.now f.result.0) _ (twin s) c.has-page.result here c.has-page.ensures
+    let f = frame.frame_of in
+    let here = at-frame a.pool.now a.image.now a.entry a.backing f.result.0 f.ensures frame.before.if-entry-ne0.true in
+    same-as (lent a.pool.now f.result.0) _ (twin s) c.has_page.result here c.has_page.ensures
 
-enum_told : tie.Need-enum-told
+enum_told : tie.Need-enum_told-1
 enum_told c = search rules
 
-slice-aggregate-has-page : tie.Need-slice-aggregate-has-page
+slice-aggregate-has-page : tie.Need-slice_bounds-has_page-end-in-Anonymous
 slice-aggregate-has-page c = search rules
 
-has-page-requires-2 : tie.Need-has-page-requires-2
+has-page-requires-2 : tie.Need-has_page-requires-in-Anonymous
 has-page-requires-2 c κs = search rules
 
-enum-known-backing : tie.Need-enum-known-backing
+enum-known-backing : tie.Need-enum_known-backing
 enum-known-backing c = search rules
 
-cast-start-2 : tie.Need-overflow-cast-start-2
+cast-start-2 : tie.Need-overflow_cast-start-in-Image
 cast-start-2 c = search rules
 
-mul-start-2 : tie.Need-overflow-mul-start-2
+mul-start-2 : tie.Need-overflow_mul-start-in-Image
 mul-start-2 c = search rules
 
-add-end-2 : tie.Need-overflow-add-end-2
+add-end-2 : tie.Need-overflow_add-end-in-Image
 add-end-2 c = search rules
 
-sub-has-page-2 : tie.Need-overflow-sub-has-page-2
+sub-has-page-2 : tie.Need-slice_bounds-has_page-count-in-Image
 sub-has-page-2 c = search rules
 
-part-has-page-start-2 : tie.Need-slice-bounds-has-page-start-2
+part-has-page-start-2 : tie.Need-slice_bounds-has_page-start-in-Image
 part-has-page-start-2 c = search rules
 
-part-has-page-end-2 : tie.Need-slice-bounds-has-page-end-2
-part-has-page-end-2 c = omega (arith, ap backing_end c.before.before.backing.given.1)
+part-has-page-end-2 : tie.Need-slice_bounds-has_page-end-in-Image
+part-has-page-end-2 c = omega (arith, ap backing_end c.before.before.backing-1.given.1)
 
-has-page-requires-3 : tie.Need-has-page-requires-3
+has-page-requires-3 : tie.Need-has_page-requires-in-Image
 has-page-requires-3 c κs = search rules
 
-returns-2 : tie.Need-returns-2
+returns-2 : tie.Need-returns-in-Anonymous
 unfolding zeros
 returns-2 c =
     let told = c.before.before in
     let a = (unnamed told.before.before).args in
-    let none = told.before.before.if1.false in
-    let here = at_zero a.pool.now a.image.now a.entry a.backing none told.enum_told.given.1 in
-    same-as (zeros 256) _ (twin (unnamed told.before.before)) c.has-page2.result here c.has-page2.ensures
+    let none = told.before.before.if-entry-ne0.false in
+    let here = at_zero a.pool.now a.image.now a.entry a.backing none told.enum_told-1.given.1 in
+    same-as (zeros 256) _ (twin (unnamed told.before.before)) c.has_page-in-Anonymous.result here c.has_page-in-Anonymous.ensures
 
-returns-3 : tie.Need-returns-3
+returns-3 : tie.Need-returns-in-Image
 returns-3 c =
     let page = c.before.before.before.before in
     let s = unnamed page.before.before in
     let a = s.args in
-    let known = page.backing.given in
-    let here = at-image a.pool.now a.image.now a.entry a.backing known.0.0 page.before.before.if1.false known.1 in
-    same-as (lent a.image.now known.0.0.0) _ (twin s) c.has-page3.result here c.has-page3.ensures
+    let known = page.backing-1.given in
+    let here = at-image a.pool.now a.image.now a.entry a.backing known.0.0 page.before.before.if-entry-ne0.false known.1 in
+    same-as (lent a.image.now known.0.0.0) _ (twin s) c.has_page-in-Image.result here c.has_page-in-Image.ensures
 
-pub same-pages-spec : {M : Type 1} → statement M
-same-pages-spec =
+pub same_pages_spec : {M : Type 1} → statement M
+same_pages_spec =
     tie.close
     (tie.spec
     frame-of-requires

@@ -20,174 +20,174 @@ use Rattle.page_restore.proofs.restore_page.Tie as tie
 
 -- ---- what is known of the case that was found
 
-abbrev behind : tie.After-case-of → tie.Start
+abbrev behind : tie.After-case_of → tie.Start
 behind c = c.before.before.before.before.before.before
 
 -- the entries
-abbrev front : tie.After-case-of → ℕ
+abbrev front : tie.After-case_of → ℕ
 front c = let a = (behind c).args in get_or a.table.now a.at 0
 
-abbrev back : tie.After-case-of → ℕ
+abbrev back : tie.After-case_of → ℕ
 back c = let a = (behind c).args in get_or a.table.now (a.at + 64) 0
 
 -- the store, with any marks
-abbrev st : tie.After-case-of → Held → Store
+abbrev st : tie.After-case_of → Held → Store
 st c h = let a = (behind c).args in kept h a.pool.now a.table.now
 
-is : (c : tie.After-case-of) (k : RewindCase) → c.case-of.result ≡ k → k ≡ case_of (front c) (back c) (behind c).args.backing
-is c k e = sym e ∙ c.case-of.ensures
+is : (c : tie.After-case_of) (k : RewindCase) → c.case_of.result ≡ k → k ≡ case_of (front c) (back c) (behind c).args.backing
+is c k e = sym e ∙ c.case_of.ensures
 
-meets : (c : tie.After-case-of) (k : RewindCase) → c.case-of.result ≡ k → Meets (front c) (back c) (behind c).args.backing k
+meets : (c : tie.After-case_of) (k : RewindCase) → c.case_of.result ≡ k → Meets (front c) (back c) (behind c).args.backing k
 meets c k e = met (front c) (back c) (behind c).args.backing k (is c k e)
 
 -- what is left of the pool and what is told, whatever marks there are
-abbrev Left : tie.After-case-of → List ℕ → Bool → Type 0
+abbrev Left : tie.After-case_of → List ℕ → Bool → Type 0
 Left c pool d = (h : Held) → let a = (behind c).args in Restored a.image.now a.at (a.at + 64) a.backing (st c h) pool d
 
 -- ---- the needs
 
-mul-front : tie.Need-overflow-mul-front
+mul-front : tie.Need-offset_bounds-table-at
 mul-front c = search rules
 
-shared-slice-read-front : tie.Need-shared-slice-read-front
+shared-slice-read-front : tie.Need-bounds-table-at
 shared-slice-read-front c = search rules
 
-add_back : tie.Need-overflow-add-back
+add_back : tie.Need-overflow_add-back
 add_back c = search rules
 
-mul-back : tie.Need-overflow-mul-back
+mul-back : tie.Need-offset_bounds-table-at-2
 mul-back c = search rules
 
-shared-slice-read-back : tie.Need-shared-slice-read-back
+shared-slice-read-back : tie.Need-bounds-table-at-2
 shared-slice-read-back c = search rules
 
-case-of-requires : tie.Need-case-of-requires
+case-of-requires : tie.Need-case_of-requires
 case-of-requires c κs = search rules
 
-enum_told : tie.Need-enum-told
+enum_told : tie.Need-enum_told-1
 enum_told c = search rules
 
-enum-told-2 : tie.Need-enum-told-2
+enum-told-2 : tie.Need-enum_told-in-Copied
 enum-told-2 c = search rules
 
-frame-of-requires : tie.Need-frame-of-requires
+frame-of-requires : tie.Need-frame_of-requires
 frame-of-requires c κs =
     let told = c.before in
     let found = told.before.before in
-    let m = meets found Copied told.enum-told2.given.1 in
-    (omega (arith, m.0, m.1), (behind found).requires.1.0.few _)
+    let m = meets found Copied told.enum_told-in-Copied-1.given.1 in
+    (omega (arith, m.0, m.1), (behind found).requires.ranged.few _)
 
-frame-of-requires-2 : tie.Need-frame-of-requires-2
+frame-of-requires-2 : tie.Need-frame_of-requires-in-Copied
 frame-of-requires-2 c κs =
     let told = c.before.before in
     let found = told.before.before in
-    let m = meets found Copied told.enum-told2.given.1 in
-    (omega (arith, m.0, m.1), (behind found).requires.1.0.few _)
+    let m = meets found Copied told.enum_told-in-Copied-1.given.1 in
+    (omega (arith, m.0, m.1), (behind found).requires.ranged.few _)
 
-restore-from-requires : tie.Need-restore-from-requires
+restore-from-requires : tie.Need-restore_from-requires
 restore-from-requires c κs =
     let told = c.before.before.before in
     let found = told.before.before in
     let s = behind found in
-    let m = meets found Copied told.enum-told2.given.1 in
-    let front-room = s.pre.1.0.room s.args.at in
-    let back-room = s.pre.1.0.room (s.args.at + 64) in (
-      omega (arith, c.before.frame-of.ensures, m.0, m.1, front-room, back-room),
-      omega (arith, c.frame-of2.ensures, m.0, m.1, front-room, back-room),
+    let m = meets found Copied told.enum_told-in-Copied-1.given.1 in
+    let front-room = s.requires.ranged.room s.args.at in
+    let back-room = s.requires.ranged.room (s.args.at + 64) in (
+      omega (arith, c.before.frame_of.ensures, m.0, m.1, front-room, back-room),
+      omega (arith, c.frame_of-in-Copied.ensures, m.0, m.1, front-room, back-room),
     )
 
-enum-told-3 : tie.Need-enum-told-3
+enum-told-3 : tie.Need-enum_told-in-Zeroed
 enum-told-3 c = search rules
 
-frame-of-requires-3 : tie.Need-frame-of-requires-3
+frame-of-requires-3 : tie.Need-frame_of-requires-in-Zeroed
 frame-of-requires-3 c κs =
     let told = c.before in
     let found = told.before.before in
     let s = behind found in
-    ((meets found Zeroed told.enum-told3.given.1).0, s.pre.1.0.few s.args.at)
+    ((meets found Zeroed told.enum_told-in-Zeroed-1.given.1).0, s.requires.ranged.few s.args.at)
 
-restore-zeros-requires : tie.Need-restore-zeros-requires
+restore-zeros-requires : tie.Need-restore_zeros-requires
 restore-zeros-requires c κs =
     let told = c.before.before in
     let found = told.before.before in
     let s = behind found in
-    omega (arith, c.frame-of3.ensures, (meets found Zeroed told.enum-told3.given.1).0, s.pre.1.0.room s.args.at)
+    omega (arith, c.frame_of-in-Zeroed.ensures, (meets found Zeroed told.enum_told-in-Zeroed-1.given.1).0, s.requires.ranged.room s.args.at)
 
-enum-known-page : tie.Need-enum-known-page
+enum-known-page : tie.Need-enum_known-page
 enum-known-page c = search rules
 
-frame-of-requires-4 : tie.Need-frame-of-requires-4
+frame-of-requires-4 : tie.Need-frame_of-requires-in-ImagePage
 frame-of-requires-4 c κs =
     let told = c.before.before in
     let found = told.before.before in
     let s = behind found in
-    ((meets found (ImagePage told.page.given.0.0) told.page.given.1).0, s.pre.1.0.few s.args.at)
+    ((meets found (ImagePage told.page-1.given.0.0) told.page-1.given.1).0, s.requires.ranged.few s.args.at)
 
-restore-image-requires : tie.Need-restore-image-requires
+restore-image-requires : tie.Need-restore_image-requires
 restore-image-requires c κs =
     let told = c.before.before.before in
     let found = told.before.before in
     let s = behind found in
-    let m = meets found (ImagePage told.page.given.0.0) told.page.given.1 in (
-      omega (arith, c.frame-of4.ensures, m.0, s.pre.1.0.room s.args.at),
-      omega (arith, ap backing_end m.2, s.pre.1.1),
+    let m = meets found (ImagePage told.page-1.given.0.0) told.page-1.given.1 in (
+      omega (arith, c.frame_of-in-ImagePage.ensures, m.0, s.requires.ranged.room s.args.at),
+      omega (arith, ap backing_end m.2, s.requires.backing_in_bounds),
     )
 
-returns : tie.Need-returns
+returns : tie.Need-returns-in-Shared
 returns c =
     let found = c.before.before in
     let a = (behind found).args in
     let left : Left found a.pool.now false =
-    λ h. shared-left a.image.now a.at (a.at + 64) a.backing (st found h) (is found Shared c.enum_told.given.1) in
+    λ h. shared-left a.image.now a.at (a.at + 64) a.backing (st found h) (is found Shared c.enum_told-1.given.1) in
     (λ h. (left h).0, λ h. (left h).1)
 
-same_length : tie.Need-same-length
+same_length : tie.Need-shape_of-pool-in-Copied
 same_length c = search rules
 
-returns-2 : tie.Need-returns-2
+returns-2 : tie.Need-returns-in-Copied
 returns-2 c =
     let copied = c.before.before in
     let told = copied.before.before.before.before in
     let found = told.before.before in
     let a = (behind found).args in
-    let from = copied.before.before.frame-of.ensures in
-    let to = copied.before.frame-of2.ensures in
-    let left : Left found copied.restore-from.new.0 copied.restore-from.result =
-    λ h. copied-left a.image.now a.at (a.at + 64) a.backing (st found h) _ _ (is found Copied told.enum-told2.given.1)
-    (rw (from, to) at copied.restore-from.ensures) in
+    let from = copied.before.before.frame_of.ensures in
+    let to = copied.before.frame_of-in-Copied.ensures in
+    let left : Left found copied.restore_from.new.0 copied.restore_from.result =
+    λ h. copied-left a.image.now a.at (a.at + 64) a.backing (st found h) _ _ (is found Copied told.enum_told-in-Copied-1.given.1)
+    (rw (from, to) at copied.restore_from.ensures) in
     (λ h. (left h).0, λ h. (left h).1)
 
-same-length-2 : tie.Need-same-length-2
+same-length-2 : tie.Need-shape_of-pool-in-Zeroed
 same-length-2 c = search rules
 
-returns-3 : tie.Need-returns-3
+returns-3 : tie.Need-returns-in-Zeroed
 returns-3 c =
     let cleared = c.before.before in
     let told = cleared.before.before.before in
     let found = told.before.before in
     let a = (behind found).args in
-    let left : Left found cleared.restore-zeros.new.0 cleared.restore-zeros.result =
-    λ h. zeroed-left a.image.now a.at (a.at + 64) a.backing (st found h) _ _ (is found Zeroed told.enum-told3.given.1)
-    (rw cleared.before.frame-of3.ensures at cleared.restore-zeros.ensures) in
+    let left : Left found cleared.restore_zeros.new.0 cleared.restore_zeros.result =
+    λ h. zeroed-left a.image.now a.at (a.at + 64) a.backing (st found h) _ _ (is found Zeroed told.enum_told-in-Zeroed-1.given.1)
+    (rw cleared.before.frame_of-in-Zeroed.ensures at cleared.restore_zeros.ensures) in
     (λ h. (left h).0, λ h. (left h).1)
 
-same-length-3 : tie.Need-same-length-3
+same-length-3 : tie.Need-shape_of-pool-in-ImagePage
 same-length-3 c = search rules
 
-returns-4 : tie.Need-returns-4
+returns-4 : tie.Need-returns-in-ImagePage
 returns-4 c =
     let filled = c.before.before in
     let told = filled.before.before.before.before in
     let found = told.before.before in
     let a = (behind found).args in
-    let page = told.page.given in
-    let left : Left found filled.restore-image.new.0 filled.restore-image.result =
+    let page = told.page-1.given in
+    let left : Left found filled.restore_image.new.0 filled.restore_image.result =
     λ h. image-left a.image.now a.at (a.at + 64) a.backing (st found h) _ _ page.0.0
-    (is found (ImagePage page.0.0) page.1) (rw filled.before.frame-of4.ensures at filled.restore-image.ensures) in
+    (is found (ImagePage page.0.0) page.1) (rw filled.before.frame_of-in-ImagePage.ensures at filled.restore_image.ensures) in
     (λ h. (left h).0, λ h. (left h).1)
 
-pub restore-page-spec : {M : Type 1} → statement M
-restore-page-spec =
+pub restore_page_spec : {M : Type 1} → statement M
+restore_page_spec =
     tie.close
     (tie.spec
     mul-front

@@ -13,33 +13,33 @@ use Rattle.page_rows.proofs.already_mapped.Statement.{statement}
 use Rattle.page_rows.proofs.already_mapped.Tie as tie
 
 -- the code is a map's, and a page is named
-a-map : (c : tie.Else1) → eqb c.before.before.before.args.q.code map_code ≡ true
-a-map c = not-false _ (or_left (not (eqb c.before.before.before.args.q.code map_code)) _ c.if1.false)
+a-map : (c : tie.Else-q) → eqb c.before.before.before.args.q.code map_code ≡ true
+a-map c = not-false _ (or_left (not (eqb c.before.before.before.args.q.code map_code)) _ c.if-q.false)
 
-named : (c : tie.Else1) → eqb c.before.before.before.args.q.p1 64 ≡ false
-named c = or_right (not (eqb c.before.before.before.args.q.code map_code)) _ c.if1.false
+named : (c : tie.Else-q) → eqb c.before.before.before.args.q.p1 64 ≡ false
+named c = or_right (not (eqb c.before.before.before.args.q.code map_code)) _ c.if-q.false
 
-pages : (c : tie.Else1) → c.before.before.before.args.q.p1 + c.before.before.before.args.q.p2 ≤ 64
-pages c = c.before.before.before.requires.1.named (eqb-true _ map_code (a-map c)) (eqb-false _ 64 (named c))
+pages : (c : tie.Else-q) → c.before.before.before.args.q.p1 + c.before.before.before.args.q.p2 ≤ 64
+pages c = c.before.before.before.requires.fit.named (eqb-true _ map_code (a-map c)) (eqb-false _ 64 (named c))
 
-returns : tie.Need-returns
+returns : tie.Need-returns-then-q
 unfolding applies
 returns c v e =
     let q = c.before.before.before.args.q in
-    by_cases (eqb q.code map_code) (λ m. rw (m, rw m at c.if1.true)) (λ m. rw m)
+    by_cases (eqb q.code map_code) (λ m. rw (m, rw m at c.if-q.true)) (λ m. rw m)
 
-cast-t6 : tie.Need-overflow-cast-t6
+cast-t6 : tie.Need-overflow_cast-q
 cast-t6 c = omega (arith, pages c.before)
 
-cast-all-are : tie.Need-overflow-cast-all-are
+cast-all-are : tie.Need-overflow_cast-q-2
 cast-all-are c = omega (arith, pages c.before.before)
 
-all-are-requires : tie.Need-all-are-requires
-all-are-requires c κs = (c.before.before.before.before.before.requires.0, pages c.before.before)
+all-are-requires : tie.Need-all_are-requires
+all-are-requires c κs = (c.before.before.before.before.before.requires.formed, pages c.before.before)
 
-returns-2 : tie.Need-returns-2
+returns-2 : tie.Need-returns
 unfolding applies
 returns-2 c v e = let test = c.before.before.before in rw (e, a-map test, named test, c.all_are.ensures)
 
-pub already-mapped-spec : {M : Type 1} → statement M
-already-mapped-spec = tie.close (tie.spec returns cast-t6 cast-all-are all-are-requires returns-2)
+pub already_mapped_spec : {M : Type 1} → statement M
+already_mapped_spec = tie.close (tie.spec returns cast-t6 cast-all-are all-are-requires returns-2)

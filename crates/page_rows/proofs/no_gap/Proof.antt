@@ -12,31 +12,31 @@ use Rattle.page_rows.proofs.no_gap.Statement.{statement}
 use Rattle.page_rows.proofs.no_gap.Tie as tie
 
 -- the code is a map's, and no page is named
-a-map : (c : tie.Else1) → eqb c.before.before.before.args.q.code map_code ≡ true
-a-map c = not-false _ (or_left (not (eqb c.before.before.before.args.q.code map_code)) _ c.if1.false)
+a-map : (c : tie.Else-q) → eqb c.before.before.before.args.q.code map_code ≡ true
+a-map c = not-false _ (or_left (not (eqb c.before.before.before.args.q.code map_code)) _ c.if-q.false)
 
-unnamed : (c : tie.Else1) → eqb c.before.before.before.args.q.p1 64 ≡ true
-unnamed c = not-false _ (or_right (not (eqb c.before.before.before.args.q.code map_code)) _ c.if1.false)
+unnamed : (c : tie.Else-q) → eqb c.before.before.before.args.q.p1 64 ≡ true
+unnamed c = not-false _ (or_right (not (eqb c.before.before.before.args.q.code map_code)) _ c.if-q.false)
 
-returns : tie.Need-returns
+returns : tie.Need-returns-then-q
 unfolding applies
 returns c v e =
     let q = c.before.before.before.args.q in
     by_cases (eqb q.code map_code)
-    (λ m. by_cases (eqb q.p1 64) (λ t. absurd (false≢true (rw (m, t) at c.if1.true))) (λ t. rw (m, t)))
+    (λ m. by_cases (eqb q.p1 64) (λ t. absurd (false≢true (rw (m, t) at c.if-q.true))) (λ t. rw (m, t)))
     (λ m. rw m)
 
-cast-lowest-gap : tie.Need-overflow-cast-lowest-gap
+cast-lowest-gap : tie.Need-overflow_cast-q
 cast-lowest-gap c =
     let start = c.before.before.before.before in
-    omega (arith, (start.requires.1.place (eqb-true _ map_code (a-map c.before))).1)
+    omega (arith, (start.requires.fit.place (eqb-true _ map_code (a-map c.before))).1)
 
-lowest-gap-requires : tie.Need-lowest-gap-requires
+lowest-gap-requires : tie.Need-lowest_gap-requires
 lowest-gap-requires c κs = search rules
 
-returns-2 : tie.Need-returns-2
+returns-2 : tie.Need-returns
 unfolding applies
-returns-2 c v e = let test = c.before.before in rw (e, a-map test, unnamed test, c.lowest-gap.ensures)
+returns-2 c v e = let test = c.before.before in rw (e, a-map test, unnamed test, c.lowest_gap.ensures)
 
-pub no-gap-spec : {M : Type 1} → statement M
-no-gap-spec = tie.close (tie.spec returns cast-lowest-gap lowest-gap-requires returns-2)
+pub no_gap_spec : {M : Type 1} → statement M
+no_gap_spec = tie.close (tie.spec returns cast-lowest-gap lowest-gap-requires returns-2)

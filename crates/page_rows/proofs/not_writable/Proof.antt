@@ -7,33 +7,27 @@ use borrow.Author.Rules.{rules}
 use Rattle.page_rows.proofs.not_writable.Statement.{statement}
 use Rattle.page_rows.proofs.not_writable.Tie as tie
 
-returns : tie.Need-returns
+returns : tie.Need-returns-then-q-ne-WRITE
 unfolding applies
-returns c v e = rw (ne_eqb _ write_code c.if1.true)
+returns c v e = rw (ne_eqb _ write_code c.if-q-ne-WRITE.true)
 
-page-of-requires : tie.Need-page-of-requires
-page-of-requires c κs = (c.before.before.requires.1.written c.if1.false).0
+page-of-requires : tie.Need-page_of-requires
+page-of-requires c κs = (c.before.before.requires.fit.written c.if-q-ne-WRITE.false).0
 
 slot-requires : tie.Need-slot-requires
 slot-requires c κs =
     let start = c.before.before.before in
-    (start.requires.0, rw c.page-of.ensures (page-small start.args.q.p1 (start.requires.1.written c.before.if1.false).0))
+    (start.requires.near, rw c.page_of.ensures (page-small start.args.q.p1 (start.requires.fit.written c.before.if-q-ne-WRITE.false).0))
 
-rights-at-requires : tie.Need-rights-at-requires
+rights-at-requires : tie.Need-rights_at-requires
 rights-at-requires c κs = search rules
 
-returns-2 : tie.Need-returns-2
+returns-2 : tie.Need-returns
 unfolding applies
 returns-2 c v e =
     let looking = c.before.before in
-    rw (e, eq-eqb _ write_code looking.before.if1.false, c.rights-at.ensures, c.before.slot.ensures, looking.page-of.ensures)
+    rw (e, eq-eqb _ write_code looking.before.if-q-ne-WRITE.false, c.rights_at.ensures, c.before.slot.ensures, looking.page_of.ensures)
 
-pub not-writable-spec : {M : Type 1} → statement M
-not-writable-spec =
-    tie.close
-    (tie.spec
-    returns
-    page-of-requires
-    slot-requires
-    rights-at-requires
-    returns-2)
+pub not_writable_spec : {M : Type 1} → statement M
+not_writable_spec =
+    tie.close (tie.spec returns page-of-requires slot-requires rights-at-requires returns-2)

@@ -18,37 +18,37 @@ use Rattle.page_soundness.proofs.name_none.Tie as tie
 abbrev of : List ℕ → ℕ → ℕ → Bool
 of table first i = eqb (get_or table (first + i) 0) 0
 
-abbrev invariant-loop : tie.invariant-loop
+abbrev invariant-loop : tie.invariant-loop-i
 invariant-loop table first page end none₀ i₀ none i =
     (page ≤ i) × (i ≤ end) × (every (of table first) page (end - page) ≡ (none && every (of table first) i (end - i)))
 
-abbrev decreases-loop : tie.decreases-loop
+abbrev decreases-loop : tie.decreases-loop-i
 decreases-loop table first page end none₀ i₀ none i = end - i
 
-loop-holds : tie.Need-loop-init invariant-loop decreases-loop
-loop-holds c = (omega arith, c.requires.0, refl)
+loop-holds : tie.Need-loop-i-init invariant-loop decreases-loop
+loop-holds c = (omega arith, c.requires.page_le_end, refl)
 
-add_none : tie.Need-overflow-add-none invariant-loop decreases-loop
+add_none : tie.Need-overflow_add-none invariant-loop decreases-loop
 add_none c = search rules
 
-mul-none : tie.Need-overflow-mul-none invariant-loop decreases-loop
+mul-none : tie.Need-offset_bounds-table-first invariant-loop decreases-loop
 mul-none c = search rules
 
-shared-slice-read-none : tie.Need-shared-slice-read-none invariant-loop decreases-loop
+shared-slice-read-none : tie.Need-bounds-table-first invariant-loop decreases-loop
 shared-slice-read-none c = search rules
 
-add-i : tie.Need-overflow-add-i invariant-loop decreases-loop
+add-i : tie.Need-overflow_step-i invariant-loop decreases-loop
 add-i c = search rules
 
-loop-less : tie.Need-loop-smaller invariant-loop decreases-loop
+loop-less : tie.Need-loop-i-smaller invariant-loop decreases-loop
 loop-less c = search rules
 
-loop-again : tie.Need-loop-preserved invariant-loop decreases-loop
+loop-again : tie.Need-loop-i-preserved invariant-loop decreases-loop
 loop-again c =
     let a = c.before.before.before.args in
-    let l = c.before.before.loop in
+    let l = c.before.before.loop-i in
     let P : ℕ → Bool = of a.table.now a.first in
-    let low = c.before.loop-test.true in (
+    let low = c.before.loop-i-test.true in (
       omega (arith, l.invariant.0),
       omega (arith, low),
       l.invariant.2 ∙ ap (λ (x : Bool). l.none && x) (every_first P a.end l.i low)
@@ -58,20 +58,9 @@ loop-again c =
 returns : tie.Need-returns invariant-loop decreases-loop
 returns c =
     let a = c.before.before.args in
-    let l = c.before.loop in
-    sym (l.invariant.2 ∙ ap (λ (x : Bool). l.none && x) (every-end (of a.table.now a.first) a.end l.i c.loop-test.false) ∙ and-true l.none)
+    let l = c.before.loop-i in
+    sym (l.invariant.2 ∙ ap (λ (x : Bool). l.none && x) (every-end (of a.table.now a.first) a.end l.i c.loop-i-test.false) ∙ and-true l.none)
 
-pub name-none-spec : {M : Type 1} → statement M
-name-none-spec =
-    tie.close
-    (tie.spec
-    invariant-loop
-    decreases-loop
-    loop-holds
-    add_none
-    mul-none
-    shared-slice-read-none
-    add-i
-    loop-less
-    loop-again
-    returns)
+pub name_none_spec : {M : Type 1} → statement M
+name_none_spec =
+    tie.close (tie.spec invariant-loop decreases-loop loop-holds add_none mul-none shared-slice-read-none add-i loop-less loop-again returns)

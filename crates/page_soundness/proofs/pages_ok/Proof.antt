@@ -11,69 +11,69 @@ use Rattle.page_soundness.proofs.pages_ok.Statement.{statement}
 use Rattle.page_soundness.proofs.pages_ok.Tie as tie
 
 -- the way back from where a fact is needed to where it was learned
-abbrev start-of-first : tie.After-all-committed → tie.Start
+abbrev start-of-first : tie.After-all_committed → tie.Start
 start-of-first c = c.before.before
 
-abbrev start1 : tie.Else1 → tie.Start
+abbrev start1 : tie.Else-not-all_committed → tie.Start
 start1 c = start-of-first c.before
 
 -- what the tests that were passed say
-marks-hold : (c : tie.Else1) → let a = (start1 c).args in every (λ i. mark_ok (slots a.snapshot i)) 0 64 ≡ true
-marks-hold c = sym c.before.all-committed.ensures ∙ not-false _ c.if1.false
+marks-hold : (c : tie.Else-not-all_committed) → let a = (start1 c).args in every (λ i. mark_ok (slots a.snapshot i)) 0 64 ≡ true
+marks-hold c = sym c.before.all_committed.ensures ∙ not-false _ c.if-not-all_committed.false-raw
 
-backing-holds : (c : tie.Else2) →
+backing-holds : (c : tie.Else-not-all_backed) →
     let a = (start1 c.before.before).args in
     every (λ i. backing_ok (slots a.present i) (slots a.snapshot i)) 0 64 ≡ true
-backing-holds c = sym c.before.all-backed.ensures ∙ not-false _ c.if2.false
+backing-holds c = sym c.before.all_backed.ensures ∙ not-false _ c.if-not-all_backed.false-raw
 
-all-committed-requires : tie.Need-all-committed-requires
+all-committed-requires : tie.Need-all_committed-requires
 all-committed-requires c κs = search rules
 
-returns : tie.Need-returns
+returns : tie.Need-returns-then-not-all_committed
 returns c = λ h pool.
     let a = (start-of-first c.before).args in
-    marks-fail a.present a.snapshot a.table.now a.s h pool (sym c.before.all-committed.ensures ∙ not-true _ c.if1.true)
+    marks-fail a.present a.snapshot a.table.now a.s h pool (sym c.before.all_committed.ensures ∙ not-true _ c.if-not-all_committed.true-raw)
 
-all-backed-requires : tie.Need-all-backed-requires
+all-backed-requires : tie.Need-all_backed-requires
 all-backed-requires c κs = search rules
 
-returns-2 : tie.Need-returns-2
+returns-2 : tie.Need-returns-then-not-all_backed
 returns-2 c = λ h pool.
     let p = c.before.before in
     let a = (start-of-first p.before).args in
-    backing-fails a.present a.snapshot a.table.now a.s h pool (marks-hold p) (sym c.before.all-backed.ensures ∙ not-true _ c.if2.true)
+    backing-fails a.present a.snapshot a.table.now a.s h pool (marks-hold p) (sym c.before.all_backed.ensures ∙ not-true _ c.if-not-all_backed.true-raw)
 
-mul-first : tie.Need-overflow-mul-first
+mul-first : tie.Need-overflow_mul-first
 mul-first c = search rules
 
-only-mapped-requires : tie.Need-only-mapped-requires
+only-mapped-requires : tie.Need-only_mapped-requires
 only-mapped-requires c κs = search rules
 
-returns-3 : tie.Need-returns-3
+returns-3 : tie.Need-returns-then-not-only_mapped
 returns-3 c = λ h pool.
     let q = c.before.before in
     let p = q.before.before in
     let a = (start-of-first p.before).args in
     fronts-fail a.present a.snapshot a.table.now a.s h pool (marks-hold p) (backing-holds q)
-    (sym c.before.only-mapped.ensures ∙ not-true _ c.if3.true)
+    (sym c.before.only_mapped.ensures ∙ not-true _ c.if-not-only_mapped.true-raw)
 
-add-only-mapped : tie.Need-overflow-add-only-mapped
+add-only-mapped : tie.Need-overflow_add-first
 add-only-mapped c = search rules
 
-only-mapped-requires-2 : tie.Need-only-mapped-requires-2
+only-mapped-requires-2 : tie.Need-only_mapped-requires-2
 only-mapped-requires-2 c κs = search rules
 
-returns-4 : tie.Need-returns-4
+returns-4 : tie.Need-returns
 returns-4 c = λ h pool.
     let r = c.before in
     let q = r.before.before in
     let p = q.before.before in
     let a = (start-of-first p.before).args in
-    c.only-mapped2.ensures ∙ backs-decide a.present a.snapshot a.table.now a.s h pool (marks-hold p) (backing-holds q)
-    (sym r.before.only-mapped.ensures ∙ not-false _ r.if3.false)
+    c.only_mapped-2.ensures ∙ backs-decide a.present a.snapshot a.table.now a.s h pool (marks-hold p) (backing-holds q)
+    (sym r.before.only_mapped.ensures ∙ not-false _ r.if-not-only_mapped.false-raw)
 
-pub pages-ok-spec : {M : Type 1} → statement M
-pages-ok-spec =
+pub pages_ok_spec : {M : Type 1} → statement M
+pages_ok_spec =
     tie.close
     (tie.spec
     all-committed-requires

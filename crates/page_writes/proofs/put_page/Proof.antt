@@ -24,84 +24,75 @@ lines c =
 
 -- where the page's back has been looked up, and behind the two tests
 
-abbrev start_of : tie.After-back → tie.Start
+abbrev start_of : tie.After-back-back → tie.Start
 start_of c = c.before.before.before.before.before.before
 
-abbrev behind : tie.Else2 → tie.Start
+abbrev behind : tie.Else-not-is_mapped → tie.Start
 behind c = start_of c.before.before.before
 
-mapped : (c : tie.Else2) → is_mapped (behind c).args.page.slot ≡ true
-mapped c = let tested = c.before.is_mapped in sym tested.ensures ∙ not-false tested.result c.if2.false
+mapped : (c : tie.Else-not-is_mapped) → is_mapped (behind c).args.page.slot ≡ true
+mapped c = let tested = c.before.is_mapped in sym tested.ensures ∙ not-false tested.result c.if-not-is_mapped.false-raw
 
-same_lines : (c : tie.Else2) (f : ℕ) → f ≡ c.before.before.before.back.result - 1
+same_lines : (c : tie.Else-not-is_mapped) (f : ℕ) → f ≡ c.before.before.before.back-back.result - 1
     → let a = (behind c).args in
     bytes_of a.image.now a.page.sandbox a.page.number.0 a.page.slot (frame 256 a.pool.now f) ≡ lines (behind c)
 same_lines c f e =
     let a = (behind c).args in
-    let back = c.before.before.before.back in
+    let back = c.before.before.before.back-back in
     backed-lines a.image.now a.pool.now a.table.now a.page.sandbox a.page.number.0 a.page.slot back.result f
-    (mapped c) back.ensures (omega (arith, c.before.before.if1.false)) e
+    (mapped c) back.ensures (omega (arith, c.before.before.if-back-eq0.false)) e
 
-back-requires : tie.Need-back-requires
+back-requires : tie.Need-back-back-requires
 back-requires c κs = search rules
 
-returns : tie.Need-returns
+returns : tie.Need-returns-then-back-eq0
 returns c =
     let start = start_of c.before in
     let a = start.args in
     put-nothing a.to a.out.now (lines start)
     (unbacked-none a.image.now a.pool.now a.table.now a.page.sandbox a.page.number.0 a.page.slot
-    (sym c.before.back.ensures ∙ c.if1.true))
+    (sym c.before.back-back.ensures ∙ c.if-back-eq0.true))
 
-is-mapped-requires : tie.Need-is-mapped-requires
+is-mapped-requires : tie.Need-is_mapped-requires
 is-mapped-requires c κs = search rules
 
-returns-2 : tie.Need-returns-2
+returns-2 : tie.Need-returns-then-not-is_mapped
 returns-2 c =
     let start = start_of c.before.before.before in
     let a = start.args in
     let tested = c.before.is_mapped in
     put-nothing a.to a.out.now (lines start)
     (unmapped-none a.image.now a.pool.now a.table.now a.page.sandbox a.page.number.0 a.page.slot
-    (sym tested.ensures ∙ not-true tested.result c.if2.true))
+    (sym tested.ensures ∙ not-true tested.result c.if-not-is_mapped.true-raw))
 
-frame-of-requires : tie.Need-frame-of-requires
+frame-of-requires : tie.Need-frame_of-requires
 frame-of-requires c κs =
     let start = behind c in
-    let few = start.pre.1.1.0.few (back_of start.args.page.sandbox start.args.page.number.0) in
-    let back = c.before.before.before.back in
-    (omega (arith, c.before.before.if1.false), omega (arith, few, back.ensures))
+    let few = start.requires.ranged.few (back_of start.args.page.sandbox start.args.page.number.0) in
+    let back = c.before.before.before.back-back in
+    (omega (arith, c.before.before.if-back-eq0.false), omega (arith, few, back.ensures))
 
-put-bytes-requires : tie.Need-put-bytes-requires
+put-bytes-requires : tie.Need-put_bytes-requires
 put-bytes-requires c κs =
     let tested = c.before.before in
     let start = behind tested in
-    let room = start.pre.1.1.0.room (back_of start.args.page.sandbox start.args.page.number.0) in
-    let back = tested.before.before.before.back in
-    let frame = c.before.frame-of in (
-      omega (arith, room, back.ensures, frame.ensures, tested.before.before.if1.false),
-      (start.pre.1.1.1.0, rw (same_lines tested frame.result.0 frame.ensures) start.pre.1.1.1.1),
+    let room = start.requires.ranged.room (back_of start.args.page.sandbox start.args.page.number.0) in
+    let back = tested.before.before.before.back-back in
+    let frame = c.before.frame_of in (
+      omega (arith, room, back.ensures, frame.ensures, tested.before.before.if-back-eq0.false),
+      (start.requires.slot_in_bounds, rw (same_lines tested frame.result.0 frame.ensures) start.requires.room),
     )
 
-same_length : tie.Need-same-length
+same_length : tie.Need-shape_of-out
 same_length c = search rules
 
-returns-3 : tie.Need-returns-3
+returns-3 : tie.Need-returns
 returns-3 c =
     let tested = c.before.before.before.before.before in
     let a = (behind tested).args in
-    let frame = c.before.before.before.before.frame-of in
-    c.before.before.put-bytes.ensures ∙ ap (put a.to a.out.now) (same_lines tested frame.result.0 frame.ensures)
+    let frame = c.before.before.before.before.frame_of in
+    c.before.before.put_bytes.ensures ∙ ap (put a.to a.out.now) (same_lines tested frame.result.0 frame.ensures)
 
-pub put-page-spec : {M : Type 1} → statement M
-put-page-spec =
-    tie.close
-    (tie.spec
-    back-requires
-    returns
-    is-mapped-requires
-    returns-2
-    frame-of-requires
-    put-bytes-requires
-    same_length
-    returns-3)
+pub put_page_spec : {M : Type 1} → statement M
+put_page_spec =
+    tie.close (tie.spec back-requires returns is-mapped-requires returns-2 frame-of-requires put-bytes-requires same_length returns-3)

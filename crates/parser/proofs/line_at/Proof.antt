@@ -9,40 +9,31 @@ use Rattle.lines.specs.Lines.{line_at}
 use Rattle.parser.proofs.line_at.Statement.{statement}
 use Rattle.parser.proofs.line_at.Tie as tie
 
-returns : tie.Need-returns
+returns : tie.Need-returns-then-roll-line
 returns c = sym (past-line c.before.before.args.roll.now c.before.before.args.line (omega arith))
 
-mul_at : tie.Need-overflow-mul-at
+mul_at : tie.Need-overflow_mul-at
 mul_at c = search rules
 
-add-end : tie.Need-overflow-add-end
+add-end : tie.Need-overflow_add-end
 add-end c = search rules
 
-sub-parse : tie.Need-overflow-sub-parse
+sub-parse : tie.Need-slice_bounds-parse-count
 sub-parse c = search rules
 
-part-parse-start : tie.Need-slice-bounds-parse-start
+part-parse-start : tie.Need-slice_bounds-parse-start
 part-parse-start c = search rules
 
-part-parse-end : tie.Need-slice-bounds-parse-end
+part-parse-end : tie.Need-slice_bounds-parse-end
 part-parse-end c = search rules
 
 parse-requires : tie.Need-parse-requires
 parse-requires c κs = search rules
 
-returns-2 : tie.Need-returns-2
+returns-2 : tie.Need-returns
 unfolding line_at
 returns-2 c = rw (c.parse.ensures, add-sub_cancel_left (c.before.before.before.before.args.line * 43) 43)
 
-pub line-at-spec : {M : Type 1} → statement M
-line-at-spec =
-    tie.close
-    (tie.spec
-    returns
-    mul_at
-    add-end
-    sub-parse
-    part-parse-start
-    part-parse-end
-    parse-requires
-    returns-2)
+pub line_at_spec : {M : Type 1} → statement M
+line_at_spec =
+    tie.close (tie.spec returns mul_at add-end sub-parse part-parse-start part-parse-end parse-requires returns-2)

@@ -10,98 +10,98 @@ use Rattle.part_restore.proofs.restore.Statement.{statement}
 use Rattle.part_restore.proofs.restore.Tie as tie
 
 -- the way back from where a fact is needed to where it was learned
-abbrev at-start : tie.After-restore-half-arg2 → tie.Start
+abbrev at-start : tie.After-restore_half-arg-2-1 → tie.Start
 at-start c = c.before.before.before.before
 
-slice-relend-prefix-restore-half : tie.Need-slice-relend-prefix-restore-half
+slice-relend-prefix-restore-half : tie.Need-slice_bounds-restore_half-end
 slice-relend-prefix-restore-half c = search rules
 
-slice-aggregate-restore-half : tie.Need-slice-aggregate-restore-half
+slice-aggregate-restore-half : tie.Need-slice_bounds-restore_half-end-2
 slice-aggregate-restore-half c =
     let a = c.before.before.before.args in sym (length-take-le (length a.src.now / 2) a.part.now (omega arith))
 
-slice-aggregate-restore-half-2 : tie.Need-slice-aggregate-restore-half-2
+slice-aggregate-restore-half-2 : tie.Need-slice_bounds-restore_half-end-3
 slice-aggregate-restore-half-2 c =
     let a = (at-start c).args in sym (length-take-le (length a.src.now / 2) a.src.now (omega arith))
 
-restore-half-requires : tie.Need-restore-half-requires
+restore-half-requires : tie.Need-restore_half-requires
 restore-half-requires c κs =
     let start = at-start c in
-    cut-lengths start.args.part.now start.args.src.now (length start.args.src.now / 2) start.pre (omega arith)
+    cut-lengths start.args.part.now start.args.src.now (length start.args.src.now / 2) start.requires (omega arith)
 
-sub-fill : tie.Need-overflow-sub-fill
+sub-fill : tie.Need-slice_bounds-fill-count
 sub-fill c = search rules
 
-part-fill-start : tie.Need-slice-bounds-fill-start
+part-fill-start : tie.Need-slice_bounds-fill-start
 part-fill-start c = search rules
 
-part-fill-end : tie.Need-slice-bounds-fill-end
+part-fill-end : tie.Need-slice_bounds-fill-end
 part-fill-end c = search rules
 
-sub-fill-2 : tie.Need-overflow-sub-fill-2
+sub-fill-2 : tie.Need-slice_bounds-fill-count-then-restore_half
 sub-fill-2 c = search rules
 
-part-fill-start-2 : tie.Need-slice-bounds-fill-start-2
+part-fill-start-2 : tie.Need-slice_bounds-fill-start-then-restore_half
 part-fill-start-2 c = search rules
 
-part-fill-end-2 : tie.Need-slice-bounds-fill-end-2
+part-fill-end-2 : tie.Need-slice_bounds-fill-end-then-restore_half
 part-fill-end-2 c = search rules
 
 fill-requires : tie.Need-fill-requires
 fill-requires c κs = search rules
 
-same_length : tie.Need-same-length
+same_length : tie.Need-shape_of-part-then-restore_half
 same_length c = search rules
 
-returns : tie.Need-returns
+returns : tie.Need-returns-then-restore_half
 returns c =
     let rest = c.before.before in
     let branch = rest.before.before.before in
     let first = branch.before.before.before in
     let start = at-start first.before in
     let src = start.args.src.now in
-    first-differed start.args.part.now src (length src / 2) start.pre (omega arith)
-    first.restore-half.new.0 first.restore-half.ensures.0 rest.fill.new.0 rest.fill.ensures
-    first.restore-half.result first.restore-half.ensures.1 branch.if1.true
+    first-differed start.args.part.now src (length src / 2) start.requires (omega arith)
+    first.restore_half.new.0 first.restore_half.ensures.part_after rest.fill.new.0 rest.fill.ensures
+    first.restore_half.result first.restore_half.ensures.differed branch.if-restore_half.true
 
-sub-restore-half : tie.Need-overflow-sub-restore-half
+sub-restore-half : tie.Need-slice_bounds-restore_half-count
 sub-restore-half c = search rules
 
-part-restore-half-start : tie.Need-slice-bounds-restore-half-start
+part-restore-half-start : tie.Need-slice_bounds-restore_half-start
 part-restore-half-start c = search rules
 
-part-restore-half-end : tie.Need-slice-bounds-restore-half-end
+part-restore-half-end : tie.Need-slice_bounds-restore_half-end-4
 part-restore-half-end c = search rules
 
-sub-restore-half-2 : tie.Need-overflow-sub-restore-half-2
+sub-restore-half-2 : tie.Need-slice_bounds-restore_half-count-2
 sub-restore-half-2 c = search rules
 
-part-restore-half-start-2 : tie.Need-slice-bounds-restore-half-start-2
+part-restore-half-start-2 : tie.Need-slice_bounds-restore_half-start-2
 part-restore-half-start-2 c = search rules
 
-part-restore-half-end-2 : tie.Need-slice-bounds-restore-half-end-2
+part-restore-half-end-2 : tie.Need-slice_bounds-restore_half-end-5
 part-restore-half-end-2 c = search rules
 
-restore-half-requires-2 : tie.Need-restore-half-requires-2
+restore-half-requires-2 : tie.Need-restore_half-requires-2
 restore-half-requires-2 c κs = search rules
 
-same-length-2 : tie.Need-same-length-2
+same-length-2 : tie.Need-shape_of-part
 same-length-2 c = search rules
 
-returns-2 : tie.Need-returns-2
+returns-2 : tie.Need-returns
 returns-2 c =
     let rest = c.before.before in
     let branch = rest.before.before.before in
     let first = branch.before.before.before in
     let start = at-start first.before in
     let src = start.args.src.now in
-    rest-tells start.args.part.now src (length src / 2) start.pre (omega arith)
-    first.restore-half.new.0 first.restore-half.ensures.0 rest.restore-half2.new.0 rest.restore-half2.ensures.0
-    first.restore-half.result rest.restore-half2.result first.restore-half.ensures.1 branch.if1.false
-    rest.restore-half2.ensures.1
+    rest-tells start.args.part.now src (length src / 2) start.requires (omega arith)
+    first.restore_half.new.0 first.restore_half.ensures.part_after rest.restore_half-2.new.0 rest.restore_half-2.ensures.part_after
+    first.restore_half.result rest.restore_half-2.result first.restore_half.ensures.differed branch.if-restore_half.false
+    rest.restore_half-2.ensures.differed
 
-pub restore-spec : {M : Type 1} → statement M
-restore-spec =
+pub restore_spec : {M : Type 1} → statement M
+restore_spec =
     tie.close
     (tie.spec
     slice-relend-prefix-restore-half

@@ -30,37 +30,37 @@ abbrev Row : tie.Start → List Sandbox → Type 0
 Row s row = Stands s.args.image.now s.args.q s.args.b s.args.all (store_in s) row
 
 abbrev there : tie.Start → List Sandbox
-there s = s.requires.1.1.1.0
+there s = s.requires.stands.0
 
 abbrev its : (s : tie.Start) → Row s (there s)
-its s = s.requires.1.1.1.1
+its s = s.requires.stands.1
 
 abbrev world_in : tie.Start → World
 world_in s = world_from (there s) (store_in s)
 
 -- ---- what is known behind the decision
 
-abbrev start_of : tie.After-decide → tie.Start
+abbrev start_of : tie.After-decide-decision → tie.Start
 start_of c = c.before.before.before.before.before
 
-number-here : (c : tie.After-decide) (row : List Sandbox) → Row (start_of c) row
-    → let s = start_of c in verdict_number c.decide.result.verdict ≡ number_at s.args.image.now (world_from row (store_in s)) s.args.q
+number-here : (c : tie.After-decide-decision) (row : List Sandbox) → Row (start_of c) row
+    → let s = start_of c in verdict_number c.decide-decision.result.verdict ≡ number_at s.args.image.now (world_from row (store_in s)) s.args.q
 number-here c row a =
     let s = start_of c in
-    c.decide.ensures.number ∙ own-number s.args.image.now s.args.q s.args.b s.args.all (store_in s) row a
+    c.decide-decision.ensures.number ∙ own-number s.args.image.now s.args.q s.args.b s.args.all (store_in s) row a
 
-accepted-here : (c : tie.After-decide) → c.decide.result.verdict ≡ Accepted → (row : List Sandbox) → Row (start_of c) row
+accepted-here : (c : tie.After-decide-decision) → c.decide-decision.result.verdict ≡ Accepted → (row : List Sandbox) → Row (start_of c) row
     → let s = start_of c in number_at s.args.image.now (world_from row (store_in s)) s.args.q ≡ 0
 accepted-here c e row a = sym (number-here c row a) ∙ ap verdict_number e
 
-areas-here : (c : tie.After-decide) → c.decide.result.verdict ≡ Accepted
-    → let s = start_of c in c.decide.result.areas ≡ present_after s.args.q s.args.b.rec
+areas-here : (c : tie.After-decide-decision) → c.decide-decision.result.verdict ≡ Accepted
+    → let s = start_of c in c.decide-decision.result.areas ≡ present_after s.args.q s.args.b.rec
 areas-here c e =
-    let told = c.decide.ensures in
+    let told = c.decide-decision.ensures in
     told.areas ∙ rw (sym told.number ∙ ap verdict_number e)
 
 -- what an accepted call's parts ask
-asked_here : (c : tie.After-decide) → c.decide.result.verdict ≡ Accepted → (row : List Sandbox) → Row (start_of c) row
+asked_here : (c : tie.After-decide-decision) → c.decide-decision.result.verdict ≡ Accepted → (row : List Sandbox) → Row (start_of c) row
     → let s = start_of c in AskedOf s.args.image.now s.args.q s.args.b s.args.all (store_in s) row
 asked_here c e row a =
     let s = start_of c in
@@ -68,95 +68,95 @@ asked_here c e row a =
 
 -- ---- the parts in turn
 
-abbrev deciding : tie.After-held → tie.After-decide
+abbrev deciding : tie.After-held-1 → tie.After-decide-decision
 deciding c = c.before.before
 
-abbrev told_as : tie.After-enum-told → tie.After-decide
+abbrev told_as : tie.In-Accepted → tie.After-decide-decision
 told_as c = deciding c.before.before
 
-abbrev valued_of : tie.After-value-of → tie.After-enum-told
+abbrev valued_of : tie.After-value_of-value → tie.In-Accepted
 valued_of c = c.before.before.before
 
-abbrev stored_of : tie.After-store-after → tie.After-value-of
+abbrev stored_of : tie.After-store_after-left → tie.After-value_of-value
 stored_of c = c.before.before.before
 
 -- ---- the needs
 
-cast-frames : tie.Need-overflow-cast-frames
+cast-frames : tie.Need-overflow_cast-frames
 cast-frames c =
     let s = c.before.before.before.before in
     let sound = sound-here s.args.image.now s.args.q s.args.b s.args.all (store_in s) (there s) (its s) in
     omega (arith, sound.filed.few)
 
-cast-images : tie.Need-overflow-cast-images
+cast-images : tie.Need-overflow_cast-images
 cast-images c =
     let s = c.before.before.before.before in
     let sound = sound-here s.args.image.now s.args.q s.args.b s.args.all (store_in s) (there s) (its s) in
     omega (arith, sound.images)
 
-decide-requires : tie.Need-decide-requires
+decide-requires : tie.Need-decide-decision-requires
 decide-requires c κs =
     let s = c.before.before.before.before in
-    (s.requires.0, (s.requires.1.1.0, own-ready s.args.image.now s.args.q s.args.b s.args.all (store_in s) (there s) (its s) s.requires.1.1.0))
+    (s.requires.q_value, (s.requires.sandbox_bound, own-ready s.args.image.now s.args.q s.args.b s.args.all (store_in s) (there s) (its s) s.requires.sandbox_bound))
 
-enum-known-verdict : tie.Need-enum-known-verdict
+enum-known-verdict : tie.Need-enum_known-verdict
 enum-known-verdict c = search rules
 
-enum_told : tie.Need-enum-told
+enum_told : tie.Need-enum_told-1
 enum_told c = search rules
 
-value-of-requires : tie.Need-value-of-requires
+value-of-requires : tie.Need-value_of-value-requires
 value-of-requires c κs =
     let told = c.before.before in
     let decided = told_as told in
     let s = start_of decided in
     let a = (asked_here decided told.enum_told.given.1 (there s) (its s)).1 in
     let own = own-ready s.args.image.now s.args.q s.args.b s.args.all (store_in s) (there s) (its s) a.row in
-    (a.row, (a.fit, (own, (filed-ranged 256 (frames_of (world_in s)) (store_in s) a.filed, (a.filed.few, s.pre.1.0)))))
+    (a.row, (a.fit, (own, (filed-ranged 256 (frames_of (world_in s)) (store_in s) a.filed, (a.filed.few, s.requires.fact)))))
 
-store-after-requires : tie.Need-store-after-requires
+store-after-requires : tie.Need-store_after-left-requires
 store-after-requires c κs =
     let told = valued_of c.before.before in
     let decided = told_as told in
     let s = start_of decided in
-    (s.pre.1.0, (there s, asked_here decided told.enum_told.given.1 (there s) (its s)))
+    (s.requires.fact, (there s, asked_here decided told.enum_told-1.given.1 (there s) (its s)))
 
-record-after-requires : tie.Need-record-after-requires
+record-after-requires : tie.Need-record_after-after-requires
 record-after-requires c κs =
     let told = valued_of (stored_of c.before.before.before.before.before.before) in
     let decided = told_as told in
     let s = start_of decided in
     (asked_here decided told.enum_told.given.1 (there s) (its s)).1.fit
 
-returns : tie.Need-returns
+returns : tie.Need-returns-in-Refused
 returns c row a =
     let arm = c.before in
     let decided = deciding arm.before.before in
     let s = start_of decided in
-    acted-refused s.args.image.now s.args.q s.args.b s.args.all (store_in s) row a arm.verdict.given.0.0
-    (ap verdict_number (sym arm.verdict.given.1) ∙ number-here decided row a)
+    acted-refused s.args.image.now s.args.q s.args.b s.args.all (store_in s) row a arm.verdict-1.given.0.0
+    (ap verdict_number (sym arm.verdict-1.given.1) ∙ number-here decided row a)
 
-same_length : tie.Need-same-length
+same_length : tie.Need-shape_of-pool
 same_length c = search rules
 
-same-length-2 : tie.Need-same-length-2
+same-length-2 : tie.Need-shape_of-table
 same-length-2 c = search rules
 
-returns-2 : tie.Need-returns-2
+returns-2 : tie.Need-returns-in-Accepted
 returns-2 c row a =
     let stored = c.before.before.before.before.before.before.before in
     let valued = stored_of stored in
     let told = valued_of valued in
     let decided = told_as told in
     let s = start_of decided in
-    let e = told.enum_told.given.1 in
+    let e = told.enum_told-1.given.1 in
     acted-accepted s.args.image.now s.args.q s.args.b s.args.all (store_in s) row a valued.value_of_lem.result _ _
-    stored.store-after.result.runs (accepted-here decided e row a) (valued.value_of_lem.ensures s.args.all.held)
-    (c.record-after.ensures ∙ ap (λ (present : Areas). record_with s.args.q present s.args.b.rec) (areas-here decided e))
-    (stored.store-after.ensures row (asked_here decided e row a))
+    stored.store_after-left.result.runs (accepted-here decided e row a) (valued.value_of_lem.ensures s.args.all.held)
+    (c.record_after-after.ensures ∙ ap (λ (present : Areas). record_with s.args.q present s.args.b.rec) (areas-here decided e))
+    (stored.store_after-left.ensures row (asked_here decided e row a))
 
-pub act-spec : {M : Type 1} → statement M
-act-spec =
+pub act_spec : {M : Type 1} → statement M
+act_spec =
     tie.close
     (tie.spec
     cast-frames

@@ -7,35 +7,29 @@ use Rattle.pool.proofs.copy_frame.Statement.{statement}
 use Rattle.pool.proofs.copy_frame.Tie as tie
 
 -- the way back from where a fact is needed to where it was learned
-abbrev at-load-frame : tie.After-slice-known2 → tie.After-load-frame
+abbrev at-load-frame : tie.After-slice_known-2-1 → tie.After-load_frame-page
 at-load-frame c = c.before.before.before.before.before
 
-abbrev at-start : tie.After-load-frame → tie.Start
+abbrev at-start : tie.After-load_frame-page → tie.Start
 at-start c = c.before.before.before
 
-load-frame-requires : tie.Need-load-frame-requires
+load-frame-requires : tie.Need-load_frame-page-requires
 load-frame-requires c κs = search rules
 
-slice-aggregate-fill-frame : tie.Need-slice-aggregate-fill-frame
+slice-aggregate-fill-frame : tie.Need-slice_bounds-fill_frame-end
 slice-aggregate-fill-frame c = search rules
 
-fill-frame-requires : tie.Need-fill-frame-requires
+fill-frame-requires : tie.Need-fill_frame-requires
 fill-frame-requires c κs = search rules
 
-same_length : tie.Need-same-length
+same_length : tie.Need-shape_of-pool
 same_length c = search rules
 
 returns : tie.Need-returns
 returns c =
     let s = (at-start (at-load-frame c)).args in
-    c.before.before.fill_frame.ensures ∙ ap (set_frame page_bytes s.pool.now s.to.0) (at-load-frame c).load-frame.ensures
+    c.before.before.fill_frame.ensures ∙ ap (set_frame page_bytes s.pool.now s.to.0) (at-load-frame c).load_frame-page.ensures
 
-pub copy-frame-spec : {M : Type 1} → statement M
-copy-frame-spec =
-    tie.close
-    (tie.spec
-    load-frame-requires
-    slice-aggregate-fill-frame
-    fill-frame-requires
-    same_length
-    returns)
+pub copy_frame_spec : {M : Type 1} → statement M
+copy_frame_spec =
+    tie.close (tie.spec load-frame-requires slice-aggregate-fill-frame fill-frame-requires same_length returns)

@@ -8,46 +8,36 @@ use Rattle.pool.proofs.fill_frame.Tie as tie
 abbrev at-start : tie.After-fill → tie.Start
 at-start c = c.before.before.before.before.before
 
-cast-start : tie.Need-overflow-cast-start
+cast-start : tie.Need-overflow_cast-start
 cast-start c = search rules
 
-mul-start : tie.Need-overflow-mul-start
+mul-start : tie.Need-overflow_mul-start
 mul-start c = search rules
 
-add-fill : tie.Need-overflow-add-fill
+add-fill : tie.Need-overflow_add-start
 add-fill c = search rules
 
-sub-fill : tie.Need-overflow-sub-fill
+sub-fill : tie.Need-slice_bounds-fill-count
 sub-fill c = search rules
 
-part-fill-start : tie.Need-slice-bounds-fill-start
+part-fill-start : tie.Need-slice_bounds-fill-start
 part-fill-start c = search rules
 
-part-fill-end : tie.Need-slice-bounds-fill-end
+part-fill-end : tie.Need-slice_bounds-fill-end
 part-fill-end c = search rules
 
 fill-requires : tie.Need-fill-requires
 fill-requires c κs = search rules
 
-same_length : tie.Need-same-length
+same_length : tie.Need-shape_of-pool
 same_length c = search rules
 
 returns : tie.Need-returns
 returns c =
     let m = c.before.before in
     let start = at-start m in
-    frame-back-as 256 start.args.pool.now m.fill.new.0 start.args.src.now start.args.f.0 m.fill.ensures start.pre.1
+    frame-back-as 256 start.args.pool.now m.fill.new.0 start.args.src.now start.args.f.0 m.fill.ensures start.requires.src_len
 
-pub fill-frame-spec : {M : Type 1} → statement M
-fill-frame-spec =
-    tie.close
-    (tie.spec
-    cast-start
-    mul-start
-    add-fill
-    sub-fill
-    part-fill-start
-    part-fill-end
-    fill-requires
-    same_length
-    returns)
+pub fill_frame_spec : {M : Type 1} → statement M
+fill_frame_spec =
+    tie.close (tie.spec cast-start mul-start add-fill sub-fill part-fill-start part-fill-end fill-requires same_length returns)

@@ -9,22 +9,22 @@ use Rattle.pool.proofs.load_frame.Tie as tie
 abbrev at-start : tie.After-load → tie.Start
 at-start c = c.before.before.before.before
 
-cast-start : tie.Need-overflow-cast-start
+cast-start : tie.Need-overflow_cast-start
 cast-start c = search rules
 
-mul-start : tie.Need-overflow-mul-start
+mul-start : tie.Need-overflow_mul-start
 mul-start c = search rules
 
-add-load : tie.Need-overflow-add-load
+add-load : tie.Need-overflow_add-start
 add-load c = search rules
 
-sub-load : tie.Need-overflow-sub-load
+sub-load : tie.Need-slice_bounds-load-count
 sub-load c = search rules
 
-part-load-start : tie.Need-slice-bounds-load-start
+part-load-start : tie.Need-slice_bounds-load-start
 part-load-start c = search rules
 
-part-load-end : tie.Need-slice-bounds-load-end
+part-load-end : tie.Need-slice_bounds-load-end
 part-load-end c = search rules
 
 load-requires : tie.Need-load-requires
@@ -35,15 +35,6 @@ returns c =
     let start = at-start c in
     c.load.ensures ∙ part-is-frame 256 start.args.pool.now start.args.f.0
 
-pub load-frame-spec : {M : Type 1} → statement M
-load-frame-spec =
-    tie.close
-    (tie.spec
-    cast-start
-    mul-start
-    add-load
-    sub-load
-    part-load-start
-    part-load-end
-    load-requires
-    returns)
+pub load_frame_spec : {M : Type 1} → statement M
+load_frame_spec =
+    tie.close (tie.spec cast-start mul-start add-load sub-load part-load-start part-load-end load-requires returns)

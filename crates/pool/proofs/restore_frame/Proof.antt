@@ -12,28 +12,28 @@ use Rattle.pool.proofs.restore_frame.Tie as tie
 abbrev at-start : tie.After-restore → tie.Start
 at-start c = c.before.before.before.before.before
 
-cast-start : tie.Need-overflow-cast-start
+cast-start : tie.Need-overflow_cast-start
 cast-start c = search rules
 
-mul-start : tie.Need-overflow-mul-start
+mul-start : tie.Need-overflow_mul-start
 mul-start c = search rules
 
-add-restore : tie.Need-overflow-add-restore
+add-restore : tie.Need-overflow_add-start
 add-restore c = search rules
 
-sub-restore : tie.Need-overflow-sub-restore
+sub-restore : tie.Need-slice_bounds-restore-count
 sub-restore c = search rules
 
-part-restore-start : tie.Need-slice-bounds-restore-start
+part-restore-start : tie.Need-slice_bounds-restore-start
 part-restore-start c = search rules
 
-part-restore-end : tie.Need-slice-bounds-restore-end
+part-restore-end : tie.Need-slice_bounds-restore-end
 part-restore-end c = search rules
 
 restore-requires : tie.Need-restore-requires
 restore-requires c κs = search rules
 
-same_length : tie.Need-same-length
+same_length : tie.Need-shape_of-pool
 same_length c = search rules
 
 returns : tie.Need-returns
@@ -43,21 +43,11 @@ returns c =
     let pool = start.args.pool.now in
     let src = start.args.src.now in
     let f = start.args.f.0 in (
-      frame-back-as 256 pool m.restore.new.0 src f m.restore.ensures.0 start.pre.1,
-      m.restore.ensures.1
-          ∙ ap₂ (λ (n : ℕ) (xs : List ℕ). differs n xs src) (length-lent 256 pool f start.pre.0) (part-is-frame 256 pool f),
+      frame-back-as 256 pool m.restore.new.0 src f m.restore.ensures.part_after start.requires.src_len,
+      m.restore.ensures.differed
+          ∙ ap₂ (λ (n : ℕ) (xs : List ℕ). differs n xs src) (length-lent 256 pool f start.requires.f_in_bounds) (part-is-frame 256 pool f),
     )
 
-pub restore-frame-spec : {M : Type 1} → statement M
-restore-frame-spec =
-    tie.close
-    (tie.spec
-    cast-start
-    mul-start
-    add-restore
-    sub-restore
-    part-restore-start
-    part-restore-end
-    restore-requires
-    same_length
-    returns)
+pub restore_frame_spec : {M : Type 1} → statement M
+restore_frame_spec =
+    tie.close (tie.spec cast-start mul-start add-restore sub-restore part-restore-start part-restore-end restore-requires same_length returns)

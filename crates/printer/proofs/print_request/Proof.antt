@@ -11,89 +11,89 @@ use Rattle.printer.proofs.print_request.Statement.{statement}
 use Rattle.printer.proofs.print_request.Tie as tie
 
 -- where each field has been put, and before all of them
-abbrev p5-put : tie.After-slice-known8 → tie.After-print-at7
+abbrev p5-put : tie.After-slice_known-8-1 → tie.After-print_at-7
 p5-put c = c.before.before
 
-abbrev p4-put : tie.After-print-at7 → tie.After-print-at6
+abbrev p4-put : tie.After-print_at-7 → tie.After-print_at-6
 p4-put c = c.before.before.before.before.before
 
-abbrev p3-put : tie.After-print-at6 → tie.After-print-at5
+abbrev p3-put : tie.After-print_at-6 → tie.After-print_at-5
 p3-put c = c.before.before.before.before.before
 
-abbrev p2-put : tie.After-print-at5 → tie.After-print-at4
+abbrev p2-put : tie.After-print_at-5 → tie.After-print_at-4
 p2-put c = c.before.before.before.before.before
 
-abbrev p1-put : tie.After-print-at4 → tie.After-print-at3
+abbrev p1-put : tie.After-print_at-4 → tie.After-print_at-3
 p1-put c = c.before.before.before.before.before
 
-abbrev sandbox-put : tie.After-print-at3 → tie.After-print-at2
+abbrev sandbox-put : tie.After-print_at-3 → tie.After-print_at-2
 sandbox-put c = c.before.before.before.before.before
 
-abbrev code_put : tie.After-print-at2 → tie.After-print-at
+abbrev code_put : tie.After-print_at-2 → tie.After-print_at
 code_put c = c.before.before.before.before.before
 
-abbrev begun : tie.After-print-at → tie.Start
+abbrev begun : tie.After-print_at → tie.Start
 begun c = c.before.before.before.before
 
 -- each field leaves the line as long as it was
-length-sandbox : (c : tie.After-print-at2) → length c.print-at2.new.0 ≡ 43
-length-sandbox c = let code = code_put c in c.print-at2.auto.0 ∙ code.print-at.kept.0 ∙ (begun code).pre
+length-sandbox : (c : tie.After-print_at-2) → length c.print_at-2.new.0 ≡ 43
+length-sandbox c = let code = code_put c in c.print_at-2.auto.0 ∙ code.print_at.kept.0 ∙ (begun code).requires
 
-length-p3 : (c : tie.After-print-at5) → length c.print-at5.new.0 ≡ 43
+length-p3 : (c : tie.After-print_at-5) → length c.print_at-5.new.0 ≡ 43
 length-p3 c =
     let p2 = p2-put c in
     let p1 = p1-put p2 in
-    c.print-at5.auto.0 ∙ p2.print-at4.kept.0 ∙ p1.print-at3.kept.0 ∙ length-sandbox (sandbox-put p1)
+    c.print_at-5.auto.0 ∙ p2.print_at-4.kept.0 ∙ p1.print_at-3.kept.0 ∙ length-sandbox (sandbox-put p1)
 
-length-p5 : (c : tie.After-print-at7) → length c.print-at7.new.0 ≡ 43
-length-p5 c = let p4 = p4-put c in c.print-at7.auto.0 ∙ p4.print-at6.kept.0 ∙ length-p3 (p3-put p4)
+length-p5 : (c : tie.After-print_at-7) → length c.print_at-7.new.0 ≡ 43
+length-p5 c = let p4 = p4-put c in c.print_at-7.auto.0 ∙ p4.print_at-6.kept.0 ∙ length-p3 (p3-put p4)
 
-cast-print-at : tie.Need-overflow-cast-print-at
+cast-print-at : tie.Need-overflow_cast-q
 cast-print-at c = search rules
 
-print-at-requires : tie.Need-print-at-requires
+print-at-requires : tie.Need-print_at-requires
 print-at-requires c κs = search rules
 
-cast-print-at-2 : tie.Need-overflow-cast-print-at-2
+cast-print-at-2 : tie.Need-overflow_cast-q-2
 cast-print-at-2 c = search rules
 
-print-at-requires-2 : tie.Need-print-at-requires-2
+print-at-requires-2 : tie.Need-print_at-requires-2
 print-at-requires-2 c κs = search rules
 
-cast-print-at-3 : tie.Need-overflow-cast-print-at-3
+cast-print-at-3 : tie.Need-overflow_cast-q-3
 cast-print-at-3 c = search rules
 
-print-at-requires-3 : tie.Need-print-at-requires-3
+print-at-requires-3 : tie.Need-print_at-requires-3
 print-at-requires-3 c κs = search rules
 
-cast-print-at-4 : tie.Need-overflow-cast-print-at-4
+cast-print-at-4 : tie.Need-overflow_cast-q-4
 cast-print-at-4 c = search rules
 
-print-at-requires-4 : tie.Need-print-at-requires-4
+print-at-requires-4 : tie.Need-print_at-requires-4
 print-at-requires-4 c κs = search rules
 
-cast-print-at-5 : tie.Need-overflow-cast-print-at-5
+cast-print-at-5 : tie.Need-overflow_cast-q-5
 cast-print-at-5 c = search rules
 
-print-at-requires-5 : tie.Need-print-at-requires-5
+print-at-requires-5 : tie.Need-print_at-requires-5
 print-at-requires-5 c κs = search rules
 
-cast-print-at-6 : tie.Need-overflow-cast-print-at-6
+cast-print-at-6 : tie.Need-overflow_cast-q-6
 cast-print-at-6 c = search rules
 
-print-at-requires-6 : tie.Need-print-at-requires-6
+print-at-requires-6 : tie.Need-print_at-requires-6
 print-at-requires-6 c κs = let long = length-p3 c.before.before.before.before in (omega (arith, long), search rules)
 
-cast-print-at-7 : tie.Need-overflow-cast-print-at-7
+cast-print-at-7 : tie.Need-overflow_cast-q-7
 cast-print-at-7 c = search rules
 
-print-at-requires-7 : tie.Need-print-at-requires-7
+print-at-requires-7 : tie.Need-print_at-requires-7
 print-at-requires-7 c κs =
     let p4 = c.before.before.before.before in
-    let long = p4.print-at6.auto.0 ∙ length-p3 (p3-put p4) in
+    let long = p4.print_at-6.auto.0 ∙ length-p3 (p3-put p4) in
     (omega (arith, long), search rules)
 
-slice-write-out : tie.Need-slice-write-out
+slice-write-out : tie.Need-bounds-out-42
 slice-write-out c = let long = length-p5 (p5-put c) in omega (arith, long)
 
 returns : tie.Need-returns
@@ -107,7 +107,7 @@ returns c =
     let sandbox = sandbox-put p1 in
     let code = code_put sandbox in
     let out = (begun code).args.out.now in
-    let left = p5.print-at7.last.0 in
+    let left = p5.print_at-7.last.0 in
     let q = (begun code).args.q in
     let from-p5 = q.p5 ∷ [] in
     let from-p4 = q.p4 ∷ from-p5 in
@@ -115,22 +115,22 @@ returns c =
     let from-p2 = q.p2 ∷ from-p3 in
     let from-p1 = q.p1 ∷ from-p2 in
     let from-sandbox = q.sandbox ∷ from-p1 in
-    line-printed out left (numbers_of q) (begun code).pre
-    (field-then out code.print-at.last.0 left 0 q.code from-sandbox code.print-at.ensures
-    (field-then code.print-at.last.0 sandbox.print-at2.last.0 left 1 q.sandbox from-p1 sandbox.print-at2.ensures
-    (field-then sandbox.print-at2.last.0 p1.print-at3.last.0 left 2 q.p1 from-p2 p1.print-at3.ensures
-    (field-then p1.print-at3.last.0 p2.print-at4.last.0 left 3 q.p2 from-p3 p2.print-at4.ensures
-    (field-then p2.print-at4.last.0 p3.print-at5.last.0 left 4 q.p3 from-p4 p3.print-at5.ensures
-    (field-then p3.print-at5.last.0 p4.print-at6.last.0 left 5 q.p4 from-p5 p4.print-at6.ensures
-    p5.print-at7.ensures))))))
+    line-printed out left (numbers_of q) (begun code).requires
+    (field-then out code.print_at.last.0 left 0 q.code from-sandbox code.print_at.ensures
+    (field-then code.print_at.last.0 sandbox.print_at-2.last.0 left 1 q.sandbox from-p1 sandbox.print_at-2.ensures
+    (field-then sandbox.print_at-2.last.0 p1.print_at-3.last.0 left 2 q.p1 from-p2 p1.print_at-3.ensures
+    (field-then p1.print_at-3.last.0 p2.print_at-4.last.0 left 3 q.p2 from-p3 p2.print_at-4.ensures
+    (field-then p2.print_at-4.last.0 p3.print_at-5.last.0 left 4 q.p3 from-p4 p3.print_at-5.ensures
+    (field-then p3.print_at-5.last.0 p4.print_at-6.last.0 left 5 q.p4 from-p5 p4.print_at-6.ensures
+    p5.print_at-7.ensures))))))
 
-same_length : tie.Need-same-length
+same_length : tie.Need-shape_of-out
 same_length c =
     let start = begun (code_put (sandbox-put (p1-put (p2-put (p3-put (p4-put (p5-put c))))))) in
-    ap length (returns c) ∙ length-request start.args.q ∙ sym start.pre
+    ap length (returns c) ∙ length-request start.args.q ∙ sym start.requires
 
-pub print-request-spec : {M : Type 1} → statement M
-print-request-spec =
+pub print_request_spec : {M : Type 1} → statement M
+print_request_spec =
     tie.close
     (tie.spec
     cast-print-at

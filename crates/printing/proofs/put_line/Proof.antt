@@ -9,49 +9,49 @@ use Rattle.printing.proofs.put_line.Tie as tie
 next-requires : tie.Need-next-requires
 next-requires c κs = search rules
 
-returns : tie.Need-returns
+returns : tie.Need-returns-then-not-to
 returns c =
     let a = c.before.before.before.before.args in
-    rw c.next.ensures (put-counted a.to a.out.now a.q (not-true a.to.writes c.before.if1.true))
+    rw c.next.ensures (put-counted a.to a.out.now a.q (not-true a.to.writes c.before.if-not-to.true))
 
-cast-start : tie.Need-overflow-cast-start
+cast-start : tie.Need-overflow_cast-start
 cast-start c = search rules
 
-mul-start : tie.Need-overflow-mul-start
+mul-start : tie.Need-overflow_mul-start
 mul-start c = search rules
 
-add-end : tie.Need-overflow-add-end
+add-end : tie.Need-overflow_add-end
 add-end c = search rules
 
-sub-print-request : tie.Need-overflow-sub-print-request
+sub-print-request : tie.Need-slice_bounds-print_request-count
 sub-print-request c = search rules
 
-part-print-request-start : tie.Need-slice-bounds-print-request-start
+part-print-request-start : tie.Need-slice_bounds-print_request-start
 part-print-request-start c = search rules
 
-part-print-request-end : tie.Need-slice-bounds-print-request-end
+part-print-request-end : tie.Need-slice_bounds-print_request-end
 part-print-request-end c =
     let start = c.before.before.before.before in
-    omega (arith, start.requires.fits (not-false start.args.to.writes c.before.if1.false))
+    omega (arith, start.requires.fits (not-false start.args.to.writes c.before.if-not-to.false))
 
-print-request-requires : tie.Need-print-request-requires
+print-request-requires : tie.Need-print_request-requires
 print-request-requires c κs = search rules
 
 next-requires-2 : tie.Need-next-requires-2
 next-requires-2 c κs = search rules
 
-same_length : tie.Need-same-length
+same_length : tie.Need-shape_of-out
 same_length c = search rules
 
-returns-2 : tie.Need-returns-2
+returns-2 : tie.Need-returns
 returns-2 c =
     let tested = c.before.before.before.before.before.before in
     let a = tested.before.before.before.args in
-    let printed = c.before.before.before.print-request in
-    rw c.next2.ensures (put-printed a.to a.out.now printed.new.0 a.q (not-false a.to.writes tested.if1.false) printed.ensures)
+    let printed = c.before.before.before.print_request in
+    rw c.next-2.ensures (put-printed a.to a.out.now printed.new.0 a.q (not-false a.to.writes tested.if-not-to.false) printed.ensures)
 
-pub put-line-spec : {M : Type 1} → statement M
-put-line-spec =
+pub put_line_spec : {M : Type 1} → statement M
+put_line_spec =
     tie.close
     (tie.spec
     next-requires

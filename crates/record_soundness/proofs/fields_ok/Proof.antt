@@ -8,5 +8,5 @@ returns : tie.Need-returns
 unfolding fields_ok
 returns c = refl
 
-pub fields-ok-spec : {M : Type 1} → statement M
-fields-ok-spec = tie.close (tie.spec returns)
+pub fields_ok_spec : {M : Type 1} → statement M
+fields_ok_spec = tie.close (tie.spec returns)

@@ -9,82 +9,73 @@ use Rattle.record_soundness.proofs.record_ok.Statement.{statement}
 use Rattle.record_soundness.proofs.record_ok.Tie as tie
 
 -- the start, from behind each test that was passed
-abbrev start1 : tie.Else1 → tie.Start
+abbrev start1 : tie.Else-not-well_formed → tie.Start
 start1 c = c.before.before.before
 
-abbrev start2 : tie.Else2 → tie.Start
+abbrev start2 : tie.Else-not-well_formed-2 → tie.Start
 start2 c = start1 c.before.before.before
 
 -- what each says
-present-hold : (c : tie.Else1) → well_formed (start1 c).args.images (start1 c).args.rec.present ≡ true
-present-hold c = sym c.before.well-formed.ensures.0 ∙ not-false c.before.well-formed.result c.if1.left
+present-hold : (c : tie.Else-not-well_formed) → well_formed (start1 c).args.images (start1 c).args.rec.present ≡ true
+present-hold c = sym c.before.well-formed.ensures.0 ∙ not-false c.before.well-formed.result c.if-not-well_formed.left
 
-snapshot-hold : (c : tie.Else2) → well_formed (start2 c).args.images (start2 c).args.rec.snapshot ≡ true
-snapshot-hold c = sym c.before.well-formed2.ensures.0 ∙ not-false c.before.well-formed2.result c.if2.left
+snapshot-hold : (c : tie.Else-not-well_formed-2) → well_formed (start2 c).args.images (start2 c).args.rec.snapshot ≡ true
+snapshot-hold c = sym c.before.well-formed2.ensures.0 ∙ not-false c.before.well-formed2.result c.if-not-well_formed-2.left
 
-well-formed-requires : tie.Need-well-formed-requires
+well-formed-requires : tie.Need-well_formed-requires
 well-formed-requires c κs = search rules
 
 -- the way back from where a fact is needed to where it was learned
 abbrev start-of-well-formed : tie.After-well-formed → tie.Start
 start-of-well-formed c = c.before.before
 
-returns : tie.Need-returns
+returns : tie.Need-returns-then-not-well_formed
 returns c =
     let a = (start-of-well-formed c.before).args in
-    present-fails a.images a.rec (sym c.before.well-formed.ensures.0 ∙ not-true c.before.well-formed.result c.if1.taken)
+    present-fails a.images a.rec (sym c.before.well-formed.ensures.0 ∙ not-true c.before.well-formed.result c.if-not-well_formed.taken)
 
-well-formed-requires-2 : tie.Need-well-formed-requires-2
+well-formed-requires-2 : tie.Need-well_formed-requires-2
 well-formed-requires-2 c κs = search rules
 
-abbrev else1-of-well-formed2 : tie.After-well-formed2 → tie.Else1
+abbrev else1-of-well-formed2 : tie.After-well_formed-2 → tie.Else-not-well_formed
 else1-of-well-formed2 c = c.before.before
 
-returns-2 : tie.Need-returns-2
+returns-2 : tie.Need-returns-then-not-well_formed-2
 returns-2 c =
     let p = else1-of-well-formed2 c.before in
     let a = (start1 p).args in
     snapshot-fails a.images a.rec (present-hold p)
-    (sym c.before.well-formed2.ensures.0 ∙ not-true c.before.well-formed2.result c.if2.taken)
+    (sym c.before.well-formed2.ensures.0 ∙ not-true c.before.well-formed2.result c.if-not-well_formed-2.taken)
 
-abbrev else1-of-else2 : tie.Else2 → tie.Else1
+abbrev else1-of-else2 : tie.Else-not-well_formed-2 → tie.Else-not-well_formed
 else1-of-else2 c = else1-of-well-formed2 c.before
 
 charge-requires : tie.Need-charge-requires
 charge-requires c κs =
-    let few = (start2 c).pre in
+    let few = (start2 c).requires in
     (tested-formed _ _ (present-hold (else1-of-else2 c)) few, tested-formed _ _ (snapshot-hold c) few)
 
-returns-3 : tie.Need-returns-3
+returns-3 : tie.Need-returns-then-rec-charge
 returns-3 c =
     let charged = c.before.before in
     let p = charged.before in
     let a = (start2 p).args in
-    charge-fails a.images a.rec (present-hold (else1-of-else2 p)) (snapshot-hold p) charged.charge.result charged.charge.ensures c.if3.taken
+    charge-fails a.images a.rec (present-hold (else1-of-else2 p)) (snapshot-hold p) charged.charge.result charged.charge.ensures c.if-rec-charge.taken
 
-fields-ok-requires : tie.Need-fields-ok-requires
+fields-ok-requires : tie.Need-fields_ok-requires
 fields-ok-requires c κs = search rules
 
-abbrev at-charge : tie.After-fields-ok → tie.After-charge
+abbrev at-charge : tie.After-fields_ok → tie.After-charge
 at-charge c = c.before.before.before
 
-returns-4 : tie.Need-returns-4
+returns-4 : tie.Need-returns
 returns-4 c =
     let charged = at-charge c in
     let p = charged.before in
     let a = (start2 p).args in
     fields-decide a.images a.rec (present-hold (else1-of-else2 p)) (snapshot-hold p) charged.charge.result charged.charge.ensures
-    c.before.if3.left c.fields-ok.result c.fields-ok.ensures
+    c.before.if-rec-charge.left c.fields_ok.result c.fields_ok.ensures
 
-pub record-ok-spec : {M : Type 1} → statement M
-record-ok-spec =
-    tie.close
-    (tie.spec
-    well-formed-requires
-    returns
-    well-formed-requires-2
-    returns-2
-    charge-requires
-    returns-3
-    fields-ok-requires
-    returns-4)
+pub record_ok_spec : {M : Type 1} → statement M
+record_ok_spec =
+    tie.close (tie.spec well-formed-requires returns well-formed-requires-2 returns-2 charge-requires returns-3 fields-ok-requires returns-4)

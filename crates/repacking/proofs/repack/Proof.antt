@@ -8,60 +8,60 @@ use Rattle.repacking.proofs.repack.Statement.{statement}
 use Rattle.repacking.proofs.repack.Tie as tie
 
 -- the way back from where a fact is needed to where it was learned
-abbrev at-start : tie.After-within2 → tie.Start
+abbrev at-start : tie.After-within-to → tie.Start
 at-start c = c.before.before.before.before
 
 -- what is packed before the changed pages ends before them
-ready-before : (c : tie.After-up-to) → Ready c.up_to.result c.before.before.before.within.result
-ready-before c = ready-up-to _ _ c.before.before.before.within.result c.up_to.ensures
+ready-before : (c : tie.After-up_to-before) → Ready c.up_to-before.result c.before.before.before.within-from.result
+ready-before c = ready-up-to _ _ c.before.before.before.within-from.result c.up_to-before.ensures
 
-cast-within : tie.Need-overflow-cast-within
+cast-within : tie.Need-overflow_cast-first
 cast-within c = search rules
 
-within-requires : tie.Need-within-requires
+within-requires : tie.Need-within-from-requires
 within-requires c κs = search rules
 
-cast-within-2 : tie.Need-overflow-cast-within-2
+cast-within-2 : tie.Need-overflow_cast-first-2
 cast-within-2 c = search rules
 
-add-within : tie.Need-overflow-add-within
+add-within : tie.Need-overflow_add-first
 add-within c = search rules
 
-within-requires-2 : tie.Need-within-requires-2
+within-requires-2 : tie.Need-within-to-requires
 within-requires-2 c κs = search rules
 
-up-to-requires : tie.Need-up-to-requires
+up-to-requires : tie.Need-up_to-before-requires
 up-to-requires c κs = search rules
 
-with-change-requires : tie.Need-with-change-requires
+with-change-requires : tie.Need-with_change-changed-requires
 with-change-requires c κs =
-    let from = c.before.before.before.within in
-    let to = c.before.within2 in (
-      (at-start c.before).requires.0,
+    let from = c.before.before.before.within-from in
+    let to = c.before.within-to in (
+      (at-start c.before).requires.formed,
       (ready-before c, (omega (arith, from.ensures, to.ensures), omega (arith, to.ensures))),
     )
 
-with-parts-requires : tie.Need-with-parts-requires
+with-parts-requires : tie.Need-with_parts-requires
 with-parts-requires c κs =
-    let from = c.before.before.before.before.within in
-    let to = c.before.before.within2 in (
-      (at-start c.before.before).requires.0,
+    let from = c.before.before.before.before.within-from in
+    let to = c.before.before.within-to in (
+      (at-start c.before.before).requires.formed,
       (
-        ready-reached _ _ _ from.result to.result (omega (arith, from.ensures, to.ensures)) (ready-before c.before) c.with-change.ensures,
+        ready-reached _ _ _ from.result to.result (omega (arith, from.ensures, to.ensures)) (ready-before c.before) c.with_change-changed.ensures,
         (omega (arith, to.ensures), omega arith),
       ),
     )
 
 returns : tie.Need-returns
 returns c =
-    let from = c.before.before.before.before.before.within in
-    let to = c.before.before.before.within2 in
+    let from = c.before.before.before.before.before.within-from in
+    let to = c.before.before.before.within-to in
     let s = (at-start c.before.before.before).args in
     repack-all (slots s.areas) s.first.0 s.n s.change from.result to.result from.ensures to.ensures _ _ _
-    c.before.before.up_to.ensures c.before.with-change.ensures c.with-parts.ensures
+    c.before.before.up_to-before.ensures c.before.with_change-changed.ensures c.with_parts.ensures
 
-pub repack-spec : {M : Type 1} → statement M
-repack-spec =
+pub repack_spec : {M : Type 1} → statement M
+repack_spec =
     tie.close
     (tie.spec
     cast-within

@@ -7,85 +7,85 @@ use Rattle.repacking.proofs.BeforeLaws.{Kept, kept-start, kept-eight, kept_next,
 use Rattle.repacking.proofs.up_to.Statement.{statement}
 use Rattle.repacking.proofs.up_to.Tie as tie
 
-abbrev invariant-loop : tie.invariant-loop
+abbrev invariant-loop : tie.invariant-loop-k
 invariant-loop to areas kept₀ k₀ k-end kept k = (k ≤ areas.count) × Kept areas to k kept
 
-abbrev decreases-loop : tie.decreases-loop
+abbrev decreases-loop : tie.decreases-loop-k
 decreases-loop to areas kept₀ k₀ k-end kept k = areas.count - k
 
 -- the way back from where a fact is needed to where it was learned
-abbrev start-of-turn : tie.In-loop invariant-loop decreases-loop → tie.Start invariant-loop decreases-loop
+abbrev start-of-turn : tie.In-loop-k invariant-loop decreases-loop → tie.Start invariant-loop decreases-loop
 start-of-turn c = c.before.before.before
 
-abbrev turn-of-part : tie.After-part invariant-loop decreases-loop → tie.In-loop invariant-loop decreases-loop
+abbrev turn-of-part : tie.After-part invariant-loop decreases-loop → tie.In-loop-k invariant-loop decreases-loop
 turn-of-part c = c.before.before.before.before
 
-empty-requires : tie.Need-empty-requires invariant-loop decreases-loop
+empty-requires : tie.Need-empty-kept-requires invariant-loop decreases-loop
 empty-requires c κs = tt
 
-loop-holds : tie.Need-loop-init invariant-loop decreases-loop
-loop-holds c = (omega arith, rw c.empty.ensures (kept-start c.before.args.t1 c.before.requires.0 c.before.args.to))
+loop-holds : tie.Need-loop-k-init invariant-loop decreases-loop
+loop-holds c = (omega arith, rw c.empty-kept.ensures (kept-start c.before.args.areas c.before.requires.formed c.before.args.to))
 
-cast-area : tie.Need-overflow-cast-area invariant-loop decreases-loop
+cast-area : tie.Need-overflow_cast-area invariant-loop decreases-loop
 cast-area c = search rules
 
-mul-area : tie.Need-overflow-mul-area invariant-loop decreases-loop
-mul-area c = omega (arith, c.before.before.before.requires.0.formed.few)
+mul-area : tie.Need-offset_bounds-areas-k invariant-loop decreases-loop
+mul-area c = omega (arith, c.before.before.before.requires.formed.formed.few)
 
-element-copy-out-area : tie.Need-element-copy-out-area invariant-loop decreases-loop
-element-copy-out-area c = omega (arith, c.before.before.before.requires.0.formed.few, c.before.before.before.requires.0.formed.eight)
+element-copy-out-area : tie.Need-bounds-areas-k invariant-loop decreases-loop
+element-copy-out-area c = omega (arith, c.before.before.before.requires.formed.formed.few, c.before.before.before.requires.formed.formed.eight)
 
-returns : tie.Need-returns invariant-loop decreases-loop
+returns : tie.Need-returns-then-to-area invariant-loop decreases-loop
 returns c =
     let s = start-of-turn c.before.before.before in
-    let l = c.before.before.before.before.loop in
-    kept-stop s.args.t1 s.pre.0 s.args.to l.k l.auto l.invariant.1 c.before.before.before.loop-test.true c.if1.true
+    let l = c.before.before.before.before.loop-k in
+    kept-stop s.args.areas s.requires.formed s.args.to l.k l.auto l.invariant.1 c.before.before.before.loop-k-test.true c.if-to-area.true
 
 part-requires : tie.Need-part-requires invariant-loop decreases-loop
 part-requires c κs =
     let s = start-of-turn c.before.before.before in
-    let k = c.before.before.before.before.loop.k in
-    ((near-formed s.args.t1 s.pre.0).at k (omega (arith, s.pre.0.formed.few)), (end-small s.args.t1 s.pre.0 k, omega arith))
+    let k = c.before.before.before.before.loop-k.k in
+    ((near-formed s.args.areas s.requires.formed).at k (omega (arith, s.requires.formed.formed.few)), (end-small s.args.areas s.requires.formed k, omega arith))
 
-cast-t10 : tie.Need-overflow-cast-t10 invariant-loop decreases-loop
+cast-t10 : tie.Need-overflow_cast-k invariant-loop decreases-loop
 cast-t10 c = search rules
 
-mul-t11 : tie.Need-overflow-mul-t11 invariant-loop decreases-loop
+mul-t11 : tie.Need-offset_bounds-kept-k invariant-loop decreases-loop
 mul-t11 c = omega (arith, (start-of-turn (turn-of-part c)).pre.0.formed.few)
 
-element-set-from-kept : tie.Need-element-set-from-kept invariant-loop decreases-loop
+element-set-from-kept : tie.Need-bounds-kept-k invariant-loop decreases-loop
 element-set-from-kept c =
     let s = start-of-turn (turn-of-part c) in
-    let l = (turn-of-part c).before.loop in
-    omega (arith, s.pre.0.formed.few, kept-eight s.args.t1 s.pre.0 s.args.to l.k l.kept l.inv.1)
+    let l = (turn-of-part c).before.loop-k in
+    omega (arith, s.requires.formed.formed.few, kept-eight s.args.areas s.requires.formed s.args.to l.k l.kept l.invariant.1)
 
-add_kept : tie.Need-overflow-add-kept invariant-loop decreases-loop
+add_kept : tie.Need-overflow_add-kept invariant-loop decreases-loop
 add_kept c = omega (arith, (start-of-turn (turn-of-part c)).pre.0.formed.few)
 
-add-k : tie.Need-overflow-add-k invariant-loop decreases-loop
+add-k : tie.Need-overflow_step-k invariant-loop decreases-loop
 add-k c = omega (arith, (start-of-turn (turn-of-part c)).pre.0.formed.few)
 
-loop-less : tie.Need-loop-smaller invariant-loop decreases-loop
+loop-less : tie.Need-loop-k-smaller invariant-loop decreases-loop
 loop-less c = omega arith
 
-loop-again : tie.Need-loop-preserved invariant-loop decreases-loop
+loop-again : tie.Need-loop-k-preserved invariant-loop decreases-loop
 loop-again c =
     let s = start-of-turn (turn-of-part c) in
-    let l = (turn-of-part c).before.loop in (
+    let l = (turn-of-part c).before.loop-k in (
       omega arith,
       rw c.part.ensures
-          (kept_next s.args.t1 s.pre.0 s.args.to l.k l.kept l.inv.1 (turn-of-part c).loop-test.true
-          (omega (arith, c.before.if1.false))),
+          (kept_next s.args.areas s.requires.formed s.args.to l.k l.kept l.invariant.1 (turn-of-part c).loop-k-test.true
+          (omega (arith, c.before.if-to-area.false))),
     )
 
-returns-2 : tie.Need-returns-2 invariant-loop decreases-loop
+returns-2 : tie.Need-returns invariant-loop decreases-loop
 returns-2 c =
     let s = c.before.before.before in
-    let l = c.before.loop in
-    kept-all s.args.t1 s.requires.0 s.args.to l.k l.auto l.invariant.1 (omega arith)
+    let l = c.before.loop-k in
+    kept-all s.args.areas s.requires.formed s.args.to l.k l.auto l.invariant.1 (omega arith)
 
-pub up-to-spec : {M : Type 1} → statement M
-up-to-spec =
+pub up_to_spec : {M : Type 1} → statement M
+up_to_spec =
     tie.close
     (tie.spec
     invariant-loop

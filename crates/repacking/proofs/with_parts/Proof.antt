@@ -12,83 +12,83 @@ use Rattle.repacking.proofs.PartLaws.{Parts, parts-start, parts-few, parts_next,
 use Rattle.repacking.proofs.with_parts.Statement.{statement}
 use Rattle.repacking.proofs.with_parts.Tie as tie
 
-abbrev invariant-loop : tie.invariant-loop
+abbrev invariant-loop : tie.invariant-loop-k
 invariant-loop from to update areas packed₀ k₀ k-end packed k =
     (k ≤ areas.count) × Parts areas (λ i. updated update (slots areas i)) packed₀ from to k packed
 
-abbrev decreases-loop : tie.decreases-loop
+abbrev decreases-loop : tie.decreases-loop-k
 decreases-loop from to update areas packed₀ k₀ k-end packed k = areas.count - k
 
-loop-holds : tie.Need-loop-init invariant-loop decreases-loop
+loop-holds : tie.Need-loop-k-init invariant-loop decreases-loop
 loop-holds c = (
   omega arith,
-  parts-start c.args.t2 c.requires.0 c.args.update c.args.before c.args.from c.args.to c.requires.1.1.0 c.requires.1.0,
+  parts-start c.args.areas c.requires.formed c.args.update c.args.before c.args.from c.args.to c.requires.from_le_to c.requires.ready,
 )
 
-cast-area : tie.Need-overflow-cast-area invariant-loop decreases-loop
+cast-area : tie.Need-overflow_cast-area invariant-loop decreases-loop
 cast-area c = search rules
 
-mul-area : tie.Need-overflow-mul-area invariant-loop decreases-loop
-mul-area c = omega (arith, c.before.before.requires.0.formed.few)
+mul-area : tie.Need-offset_bounds-areas-k invariant-loop decreases-loop
+mul-area c = omega (arith, c.before.before.requires.formed.formed.few)
 
-element-copy-out-area : tie.Need-element-copy-out-area invariant-loop decreases-loop
-element-copy-out-area c = omega (arith, c.before.before.requires.0.formed.few, c.before.before.requires.0.formed.eight)
+element-copy-out-area : tie.Need-bounds-areas-k invariant-loop decreases-loop
+element-copy-out-area c = omega (arith, c.before.before.requires.formed.formed.few, c.before.before.requires.formed.formed.eight)
 
 -- the way back from where a fact is needed to where it was learned
-abbrev start-of-area : tie.After-area invariant-loop decreases-loop → tie.Start invariant-loop decreases-loop
+abbrev start-of-area : tie.After-area-1 invariant-loop decreases-loop → tie.Start invariant-loop decreases-loop
 start-of-area c = c.before.before.before
 
-abbrev loop-of-area : tie.After-area invariant-loop decreases-loop → tie.At-loop invariant-loop decreases-loop
+abbrev loop-of-area : tie.After-area-1 invariant-loop decreases-loop → tie.At-loop-k invariant-loop decreases-loop
 loop-of-area c = c.before.before
 
 reaches-requires : tie.Need-reaches-requires invariant-loop decreases-loop
-reaches-requires c κs = end-small (start-of-area c).args.t2 (start-of-area c).requires.0 (loop-of-area c).loop.k
+reaches-requires c κs = end-small (start-of-area c).args.areas (start-of-area c).requires.formed (loop-of-area c).loop-k.k
 
 part-requires : tie.Need-part-requires invariant-loop decreases-loop
 part-requires c κs =
     let s = start-of-area c.before.before in
-    let k = (loop-of-area c.before.before).loop.k in
-    ((near-formed s.args.t2 s.pre.0).at k (omega (arith, s.pre.0.formed.few)), (end-small s.args.t2 s.pre.0 k, omega arith))
+    let k = (loop-of-area c.before.before).loop-k.k in
+    ((near-formed s.args.areas s.requires.formed).at k (omega (arith, s.requires.formed.formed.few)), (end-small s.args.areas s.requires.formed k, omega arith))
 
 area-requires : tie.Need-area-requires invariant-loop decreases-loop
 area-requires c κs = tt
 
-with-area-requires : tie.Need-with-area-requires invariant-loop decreases-loop
+with-area-requires : tie.Need-with_area-packed-requires invariant-loop decreases-loop
 with-area-requires c κs =
     let s = start-of-area c.before.before.before.before in
-    let l = (loop-of-area c.before.before.before.before).loop in (
-      parts-few s.args.t2 s.pre.0 s.args.update s.args.before s.args.from s.args.to s.pre.1.1.0 s.pre.1.0 l.k l.packed
-          l.inv.1,
-      rw (c.area2.ensures, c.before.part.ensures) (omega (arith, end-small s.args.t2 s.pre.0 l.k)),
+    let l = (loop-of-area c.before.before.before.before).loop-k in (
+      parts-few s.args.areas s.requires.formed s.args.update s.args.before s.args.from s.args.to s.requires.from_le_to s.requires.ready l.k l.packed
+          l.invariant.1,
+      rw (c.area.ensures, c.before.part.ensures) (omega (arith, end-small s.args.areas s.requires.formed l.k)),
     )
 
-add-k : tie.Need-overflow-add-k invariant-loop decreases-loop
-add-k c = omega (arith, (start-of-area c.before.before).pre.0.formed.few)
+add-k : tie.Need-overflow_step-k invariant-loop decreases-loop
+add-k c = omega (arith, (start-of-area c.before.before).requires.formed.formed.few)
 
-loop-less : tie.Need-loop-smaller invariant-loop decreases-loop
+loop-less : tie.Need-loop-k-smaller invariant-loop decreases-loop
 loop-less c = omega arith
 
-loop-again : tie.Need-loop-preserved invariant-loop decreases-loop
+loop-again : tie.Need-loop-k-preserved invariant-loop decreases-loop
 loop-again c =
     let s = start-of-area c.before.before in
-    let l = (loop-of-area c.before.before).loop in (
+    let l = (loop-of-area c.before.before).loop-k in (
       omega arith,
-      parts_next s.args.t2 s.pre.0 s.args.update s.args.before s.args.from s.args.to s.pre.1.1.0 s.pre.1.0 l.k l.packed
-          l.inv.1 c.before.before.before.loop-test.true c.before.reaches.result c.if1.packed c.before.reaches.ensures
+      parts_next s.args.areas s.requires.formed s.args.update s.args.before s.args.from s.args.to s.requires.from_le_to s.requires.ready l.k l.packed
+          l.invariant.1 c.before.before.before.loop-k-test.true c.before.reaches.result c.if-reaches.packed c.before.reaches.ensures
           (⊎_elim
           (λ w. inl (w.0.taken, w.4 ∙ w.3.ensures ∙ ap (push_area l.packed) (w.2.ensures ∙ ap (updated_area s.args.update) w.1.ensures)))
-          (λ w. inr (w.0.left, w.1)) c.if1.branch),
+          (λ w. inr (w.0.left, w.1)) c.if-reaches.branch),
     )
 
 returns : tie.Need-returns invariant-loop decreases-loop
 returns c =
     let s = c.before.before in
-    let l = c.before.loop in
-    parts_all s.args.t2 s.requires.0 s.args.update s.args.before s.args.from s.args.to s.requires.1.1.0 s.requires.1.0 l.k l.packed
+    let l = c.before.loop-k in
+    parts_all s.args.areas s.requires.formed s.args.update s.args.before s.args.from s.args.to s.requires.from_le_to s.requires.ready l.k l.packed
     l.invariant.1 (omega arith)
 
-pub with-parts-spec : {M : Type 1} → statement M
-with-parts-spec =
+pub with_parts_spec : {M : Type 1} → statement M
+with_parts_spec =
     tie.close
     (tie.spec
     invariant-loop

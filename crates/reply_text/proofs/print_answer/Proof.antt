@@ -14,25 +14,25 @@ part-is xs ys at =
     let n : at + 19 - at ≡ 19 = omega arith in
     rw (n, drop-drop) refl
 
-mul_at : tie.Need-overflow-mul-at
+mul_at : tie.Need-overflow_mul-at
 mul_at c = search rules
 
-add-end : tie.Need-overflow-add-end
+add-end : tie.Need-overflow_add-end
 add-end c = search rules
 
-sub-print : tie.Need-overflow-sub-print
+sub-print : tie.Need-slice_bounds-print-count
 sub-print c = search rules
 
-part-print-start : tie.Need-slice-bounds-print-start
+part-print-start : tie.Need-slice_bounds-print-start
 part-print-start c = search rules
 
-part-print-end : tie.Need-slice-bounds-print-end
+part-print-end : tie.Need-slice_bounds-print-end
 part-print-end c = search rules
 
 print-requires : tie.Need-print-requires
 print-requires c κs = search rules
 
-same_length : tie.Need-same-length
+same_length : tie.Need-shape_of-out
 same_length c = search rules
 
 returns : tie.Need-returns
@@ -42,15 +42,6 @@ returns c =
     let at = a.place * 19 in
     part-is a.out.now shown.new.0 at ∙ ap (λ ys. take at a.out.now ++ (ys ++ drop (at + 19) a.out.now)) shown.ensures
 
-pub print-answer-spec : {M : Type 1} → statement M
-print-answer-spec =
-    tie.close
-    (tie.spec
-    mul_at
-    add-end
-    sub-print
-    part-print-start
-    part-print-end
-    print-requires
-    same_length
-    returns)
+pub print_answer_spec : {M : Type 1} → statement M
+print_answer_spec =
+    tie.close (tie.spec mul_at add-end sub-print part-print-start part-print-end print-requires same_length returns)

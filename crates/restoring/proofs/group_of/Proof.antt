@@ -3,11 +3,11 @@ use borrow.Author.Tests.{lt-ltb, le-ltb}
 use Rattle.restoring.proofs.group_of.Statement.{statement}
 use Rattle.restoring.proofs.group_of.Tie as tie
 
-returns : tie.Need-returns
-returns c = rw (lt-ltb _ _ c.if1.true)
+returns : tie.Need-returns-then-left-lt-GROUP
+returns c = rw (lt-ltb _ _ c.if-left-lt-GROUP.true)
 
-returns-2 : tie.Need-returns-2
-returns-2 c = rw (le-ltb _ _ c.if1.false)
+returns-2 : tie.Need-returns
+returns-2 c = rw (le-ltb _ _ c.if-left-lt-GROUP.false)
 
-pub group-of-spec : {M : Type 1} → statement M
-group-of-spec = tie.close (tie.spec returns returns-2)
+pub group_of_spec : {M : Type 1} → statement M
+group_of_spec = tie.close (tie.spec returns returns-2)

@@ -11,41 +11,41 @@ use Rattle.table.proofs.FreeLaws.{empty-at}
 use Rattle.restoring.proofs.next_front.Statement.{statement}
 use Rattle.restoring.proofs.next_front.Tie as tie
 
-abbrev invariant-loop : tie.invariant-loop
+abbrev invariant-loop : tie.invariant-loop-i
 invariant-loop table at from pages i₀ i = (from ≤ i) × (i < pages + 8) × ((k : ℕ) → from ≤ k → k < i → get_or table (at + k) 0 ≡ 0)
 
-abbrev decreases-loop : tie.decreases-loop
+abbrev decreases-loop : tie.decreases-loop-i
 decreases-loop table at from pages i₀ i = pages + 8 - i
 
-loop-holds : tie.Need-loop-init invariant-loop decreases-loop
-loop-holds c = (omega arith, omega (arith, c.before.requires.1.1.1), λ k a b. absurd (omega arith))
+loop-holds : tie.Need-loop-i-init invariant-loop decreases-loop
+loop-holds c = (omega arith, omega (arith, c.before.requires.from_le_pages), λ k a b. absurd (omega arith))
 
-cast-are-empty : tie.Need-overflow-cast-are-empty invariant-loop decreases-loop
+cast-are-empty : tie.Need-overflow_cast-i invariant-loop decreases-loop
 cast-are-empty c = search rules
 
-add-are-empty : tie.Need-overflow-add-are-empty invariant-loop decreases-loop
-add-are-empty c = let s = c.before.before.before in omega (arith, s.requires.1.0, c.loop-test.true)
+add-are-empty : tie.Need-overflow_add-at invariant-loop decreases-loop
+add-are-empty c = let s = c.before.before.before in omega (arith, s.requires.pages_bound, c.loop-i-test.true)
 
-are-empty-requires : tie.Need-are-empty-requires invariant-loop decreases-loop
-are-empty-requires c κs = let s = c.before.before.before in omega (arith, s.requires.0, s.requires.1.0, c.loop-test.true)
+are-empty-requires : tie.Need-are_empty-requires invariant-loop decreases-loop
+are-empty-requires c κs = let s = c.before.before.before in omega (arith, s.requires.table_len, s.requires.pages_bound, c.loop-i-test.true)
 
-returns : tie.Need-returns invariant-loop decreases-loop
-returns c = let turn = c.before.before in let l = turn.before.loop in ((l.invariant.0, omega (arith, turn.loop-test.true)), l.invariant.2)
+returns : tie.Need-returns-then-not-are_empty invariant-loop decreases-loop
+returns c = let turn = c.before.before in let l = turn.before.loop-i in ((l.invariant.0, omega (arith, turn.loop-i-test.true)), l.invariant.2)
 
-add-i : tie.Need-overflow-add-i invariant-loop decreases-loop
-add-i c = let turn = c.before.before in omega (arith, turn.before.before.before.requires.1.1.0, turn.loop-test.true)
+add-i : tie.Need-overflow_add-i invariant-loop decreases-loop
+add-i c = let turn = c.before.before in omega (arith, turn.before.before.before.requires.pages_bound_2, turn.loop-i-test.true)
 
-loop-less : tie.Need-loop-smaller invariant-loop decreases-loop
-loop-less c = omega (arith, c.before.before.loop-test.true)
+loop-less : tie.Need-loop-i-smaller invariant-loop decreases-loop
+loop-less c = omega (arith, c.before.before.loop-i-test.true)
 
-loop-again : tie.Need-loop-preserved invariant-loop decreases-loop
+loop-again : tie.Need-loop-i-preserved invariant-loop decreases-loop
 loop-again c =
     let turn = c.before.before in
-    let l = turn.before.loop in
+    let l = turn.before.loop-i in
     let a = turn.before.before.before.args in
-    let group = empty-at a.table.now (a.at + l.i) 8 _ c.before.are-empty.ensures (not-false _ c.if1.false) in (
+    let group = empty-at a.table.now (a.at + l.i) 8 _ c.before.are_empty.ensures (not-false _ c.if-not-are_empty.false-raw) in (
       omega (arith, l.invariant.0),
-      omega (arith, turn.loop-test.true),
+      omega (arith, turn.loop-i-test.true),
       λ k d u. go a.table.now l.i a.at a.from k l.invariant.2 group d u (dec_lt k l.i),
     )
   where
@@ -54,11 +54,11 @@ loop-again c =
     go table i at from k before group d u (yes b) = before k d b
     go table i at from k before group d u (no b) = let place : at + i + (k - i) ≡ at + k = omega arith in rw place at (group (k - i) (omega arith))
 
-returns-2 : tie.Need-returns-2 invariant-loop decreases-loop
-returns-2 c = let s = c.before.before.before in ((s.requires.1.1.1, omega arith), λ k d u. c.before.loop.invariant.2 k d (omega (arith, c.loop-test.false, u)))
+returns-2 : tie.Need-returns invariant-loop decreases-loop
+returns-2 c = let s = c.before.before.before in ((s.requires.from_le_pages, omega arith), λ k d u. c.before.loop-i.invariant.2 k d (omega (arith, c.loop-i-test.false, u)))
 
-pub next-front-spec : {M : Type 1} → statement M
-next-front-spec =
+pub next_front_spec : {M : Type 1} → statement M
+next_front_spec =
     tie.close
     (tie.spec
     invariant-loop

@@ -20,46 +20,46 @@ use Rattle.restoring.proofs.ChangedLaws.{one-small, changed-few, changed-more}
 use Rattle.restoring.proofs.restore_each.Statement.{statement}
 use Rattle.restoring.proofs.restore_each.Tie as tie
 
-abbrev invariant-loop : tie.invariant-loop
+abbrev invariant-loop : tie.invariant-loop-i
 invariant-loop pool₀ table image at pages backing changed₀ i₀ pool changed i = (i ≤ pages) × (length pool ≡ length pool₀) × Ranged 256 pool table
     × ((h : Held) → RestoredTo image backing at (kept h pool₀ table) (kept h pool table) changed i)
 
-abbrev decreases-loop : tie.decreases-loop
+abbrev decreases-loop : tie.decreases-loop-i
 decreases-loop pool₀ table image at pages backing changed₀ i₀ pool changed i = pages - i
 
-abbrev behind : tie.At-loop invariant-loop decreases-loop → tie.Start invariant-loop decreases-loop
+abbrev behind : tie.At-loop-i invariant-loop decreases-loop → tie.Start invariant-loop decreases-loop
 behind c = c.before.before.before.before
 
-loop-holds : tie.Need-loop-init invariant-loop decreases-loop
+loop-holds : tie.Need-loop-i-init invariant-loop decreases-loop
 loop-holds c =
     let s = c.before.before.before in
-    (search rules, refl, s.requires.1.0, λ h. none-restored s.args.image.now s.args.backing s.args.at _)
+    (search rules, refl, s.requires.ranged, λ h. none-restored s.args.image.now s.args.backing s.args.at _)
 
-cast-restore-page : tie.Need-overflow-cast-restore-page invariant-loop decreases-loop
+cast-restore-page : tie.Need-overflow_cast-i invariant-loop decreases-loop
 cast-restore-page c = search rules
 
-add-restore-page : tie.Need-overflow-add-restore-page invariant-loop decreases-loop
+add-restore-page : tie.Need-overflow_add-at invariant-loop decreases-loop
 add-restore-page c = search rules
 
 advanced-requires : tie.Need-advanced-requires invariant-loop decreases-loop
 advanced-requires c κs =
     let turn = c.before in
-    omega (arith, (behind turn.before).pre.1.1.0.near, turn.loop-test.true)
+    omega (arith, (behind turn.before).requires.backed.near, turn.loop-i-test.true)
 
-restore-page-requires : tie.Need-restore-page-requires invariant-loop decreases-loop
+restore-page-requires : tie.Need-restore_page-differed-requires invariant-loop decreases-loop
 restore-page-requires c κs =
     let turn = c.before.before in
-    let l = turn.before.loop in
+    let l = turn.before.loop-i in
     let s = behind turn.before in
-    (omega (arith, s.pre.0, turn.loop-test.true), (l.invariant.2, rw c.advanced.ensures (s.pre.1.1.0.there l.i turn.loop-test.true)))
+    (omega (arith, s.requires.pages_bound, turn.loop-i-test.true), (l.invariant.2, rw c.advanced.ensures (s.requires.backed.there l.i turn.loop-i-test.true)))
 
-counted-requires : tie.Need-counted-requires invariant-loop decreases-loop
+counted-requires : tie.Need-counted-changed-requires invariant-loop decreases-loop
 counted-requires c κs = search rules
 
-add-changed : tie.Need-overflow-add-changed invariant-loop decreases-loop
+add-changed : tie.Need-overflow_add-changed invariant-loop decreases-loop
 add-changed c =
     let turn = c.before.before.before.before.before.before in
-    let l = turn.before.loop in
+    let l = turn.before.loop-i in
     let s = behind turn.before in
     let a = s.args in
     let few = changed-few a.image.now a.at (λ k. true) (advance a.backing) (kept none_held a.pool.now a.table.now) l.i in
@@ -67,58 +67,58 @@ add-changed c =
       arith,
       (l.invariant.3 none_held).told,
       few,
-      one-small c.before.before.before.restore-page.result,
-      c.counted.ensures,
-      turn.loop-test.true,
-      s.pre.1.1.1,
+      one-small c.before.before.before.restore_page-differed.result,
+      c.counted-changed.ensures,
+      turn.loop-i-test.true,
+      s.requires.pages_bound_2,
     )
 
-add-i : tie.Need-overflow-add-i invariant-loop decreases-loop
+add-i : tie.Need-overflow_step-i invariant-loop decreases-loop
 add-i c = search rules
 
-loop-less : tie.Need-loop-smaller invariant-loop decreases-loop
+loop-less : tie.Need-loop-i-smaller invariant-loop decreases-loop
 loop-less c = search rules
 
-loop-again : tie.Need-loop-preserved invariant-loop decreases-loop
+loop-again : tie.Need-loop-i-preserved invariant-loop decreases-loop
 loop-again c =
     let page = c.before.before.before in
     let turn = page.before.before.before in
-    let l = turn.before.loop in
+    let l = turn.before.loop-i in
     let s = behind turn.before in
     let a = s.args in
     let image = a.image.now in
     let backing : Backing = advance a.backing l.i in
     let r : Held → Store = λ h. kept h l.pool a.table.now in
-    let q : Held → Store = λ h. kept h page.restore-page.new.0 a.table.now in
+    let q : Held → Store = λ h. kept h page.restore_page-differed.new.0 a.table.now in
     let e : (h : Held) → q h ≡ rewind_page image (a.at + l.i) (a.at + l.i + 64) true backing (r h) =
-    λ h. rw page.before.advanced.ensures at (page.restore-page.ensures.0 h) in
-    let d : (h : Held) → page.restore-page.result ≡ page_differs 256 (a.at + l.i) (a.at + l.i + 64) (backing_page image backing) (r h) =
-    λ h. rw page.before.advanced.ensures at (page.restore-page.ensures.1 h) in
+    λ h. rw page.before.advanced.ensures at (page.restore_page-differed.ensures.table_after h) in
+    let d : (h : Held) → page.restore_page-differed.result ≡ page_differs 256 (a.at + l.i) (a.at + l.i + 64) (backing_page image backing) (r h) =
+    λ h. rw page.before.advanced.ensures at (page.restore_page-differed.ensures.differed h) in
     let k =
     rewind-kept-as image (a.at + l.i) (a.at + l.i + 64) backing (r none_held) true (q none_held) (e none_held) l.invariant.2
-    (s.pre.1.1.0.there l.i turn.loop-test.true) in (
+    (s.requires.backed.there l.i turn.loop-i-test.true) in (
       search rules,
       k.pool ∙ l.invariant.1,
       k.ranged,
       λ h. let U = l.invariant.3 h in record {
         left = rewind-more image a.at (λ k. true) (advance a.backing) _ l.i (r h) (q h) U.left (e h);
-        told = rw c.counted.ensures
-            (changed-more image a.at (λ k. true) (advance a.backing) _ l.i (r h) l.changed page.restore-page.result
+        told = rw c.counted-changed.ensures
+            (changed-more image a.at (λ k. true) (advance a.backing) _ l.i (r h) l.changed page.restore_page-differed.result
             refl U.left U.told (d h));
       },
     )
 
-same_length : tie.Need-same-length invariant-loop decreases-loop
+same_length : tie.Need-shape_of-pool invariant-loop decreases-loop
 same_length c = search rules
 
 returns : tie.Need-returns invariant-loop decreases-loop
 returns c = λ h.
-    let l = c.before.loop in
-    let end : l.i ≡ (behind c.before).args.pages = omega (arith, l.invariant.0, c.loop-test.false) in
+    let l = c.before.loop-i in
+    let end : l.i ≡ (behind c.before).args.pages = omega (arith, l.invariant.0, c.loop-i-test.false) in
     rw end at (l.invariant.3 h)
 
-pub restore-each-spec : {M : Type 1} → statement M
-restore-each-spec =
+pub restore_each_spec : {M : Type 1} → statement M
+restore_each_spec =
     tie.close
     (tie.spec
     invariant-loop

@@ -40,19 +40,19 @@ abbrev Row : tie.Start → Together → List Sandbox → Type 0
 Row s all row = Stands s.args.image.now s.args.q s.args.b all (store_in s) row
 
 abbrev there : tie.Start → List Sandbox
-there s = s.requires.1.1.0
+there s = s.requires.stands.0
 
 abbrev all : tie.Start → Together
-all s = s.requires.1.1.1.0
+all s = s.requires.stands.1.0
 
 abbrev its : (s : tie.Start) → Row s (all s) (there s)
-its s = s.requires.1.1.1.1
+its s = s.requires.stands.1.1
 
 unpaged : (q : Request) → q.code ≡ rewind_code → names_no_page q ≡ true
 unpaged q e = rw e
 
 own : (s : tie.Start) → Ready (pages_in (length s.args.image.now)) s.args.b.rec
-own s = own-ready s.args.image.now s.args.q s.args.b (all s) (store_in s) (there s) (its s) s.requires.1.0
+own s = own-ready s.args.image.now s.args.q s.args.b (all s) (store_in s) (there s) (its s) s.requires.sandbox_bound
 
 -- what a rewind makes of the record of an open sandbox: the snapshot's areas are its present ones
 record-rewound : (q : Request) (r : Record) → q.code ≡ rewind_code → r.opened ≡ true → with_present r.snapshot r ≡ record_after q r
@@ -62,20 +62,20 @@ record-rewound q r e o =
 
 -- ---- what was decided
 
-abbrev start : tie.After-rec → tie.Start
+abbrev start : tie.After-rec-1 → tie.Start
 start c = c.before.before.before.before
 
-abbrev decided : tie.After-decide → tie.Start
+abbrev decided : tie.After-decide-verdict → tie.Start
 decided c = start c.before
 
-number-here : (c : tie.After-decide) (all : Together) (row : List Sandbox) → Row (decided c) all row
-    → let s = decided c in verdict_number c.decide.result ≡ number_at s.args.image.now (world_from row (store_in s)) s.args.q
+number-here : (c : tie.After-decide-verdict) (all : Together) (row : List Sandbox) → Row (decided c) all row
+    → let s = decided c in verdict_number c.decide-verdict.result ≡ number_at s.args.image.now (world_from row (store_in s)) s.args.q
 number-here c all row a =
     let s = decided c in
-    c.decide.ensures (frames_of (world_from row (store_in s))) all.shares
+    c.decide-verdict.ensures (frames_of (world_from row (store_in s))) all.shares
     ∙ own-number s.args.image.now s.args.q s.args.b all (store_in s) row a
 
-accepted-here : (c : tie.After-decide) → c.decide.result ≡ Accepted → (all : Together) (row : List Sandbox) → Row (decided c) all row
+accepted-here : (c : tie.After-decide-verdict) → c.decide-verdict.result ≡ Accepted → (all : Together) (row : List Sandbox) → Row (decided c) all row
     → let s = decided c in number_at s.args.image.now (world_from row (store_in s)) s.args.q ≡ 0
 accepted-here c e all row a = sym (number-here c all row a) ∙ ap verdict_number e
 
@@ -86,7 +86,7 @@ unfolding number_at
 opened-here s all row a n =
     let q : Request = s.args.q in
     let w : World = world_from row (store_in s) in
-    let e : q.code ≡ rewind_code = s.requires.0 in
+    let e : q.code ≡ rewind_code = s.requires.code_value in
     ap (λ (x : Sandbox). x.rec.opened) a.handed.own ∙ (accepted (view_at s.args.image.now w q.sandbox) q n).opened (rw e)
 
 filed : (s : tie.Start) → Filed 256 (pages_in (length s.args.pool.now)) (store_in s)
@@ -97,63 +97,63 @@ ranged s = filed-ranged 256 (pages_in (length s.args.pool.now)) (store_in s) (fi
 
 -- ---- where the runs are gathered
 
-abbrev told_at : tie.After-gathered-arg → tie.After-enum-told
+abbrev told_at : tie.After-gathered-arg-1 → tie.In-Accepted
 told_at c = c.before.before.before.before
 
-abbrev gathering : tie.After-gathered-arg → tie.Start
+abbrev gathering : tie.After-gathered-arg-1 → tie.Start
 gathering c = decided (told_at c).before.before
 
 -- ---- the needs
 
-cast-images : tie.Need-overflow-cast-images
+cast-images : tie.Need-overflow_cast-images
 cast-images c =
     let s = start c in
     omega (arith, (sound-here s.args.image.now s.args.q s.args.b (all s) (store_in s) (there s) (its s)).images)
 
-decide-requires : tie.Need-decide-requires
-decide-requires c κs = let s = start c in (unpaged s.args.q s.pre.0, (s.pre.1.0, own s))
+decide-requires : tie.Need-decide-verdict-requires
+decide-requires c κs = let s = start c in (unpaged s.args.q s.requires.code_value, (s.requires.sandbox_bound, own s))
 
-enum-known-verdict : tie.Need-enum-known-verdict
+enum-known-verdict : tie.Need-enum_known-verdict
 enum-known-verdict c = search rules
 
-enum_told : tie.Need-enum-told
+enum_told : tie.Need-enum_told-1
 enum_told c = search rules
 
-cast-s : tie.Need-overflow-cast-s
+cast-s : tie.Need-overflow_cast-s
 cast-s c = search rules
 
-gathered-requires : tie.Need-gathered-requires
+gathered-requires : tie.Need-gathered-left-requires
 gathered-requires c κs =
     let s = gathering c in
     let r = ranged s in
-    (s.pre.1.0, (settled (pages_in (length s.args.image.now)) s.args.b.rec.present (own s).sound.present (own s).few, (r.entries, r.few)))
+    (s.requires.sandbox_bound, (settled (pages_in (length s.args.image.now)) s.args.b.rec.present (own s).sound.present (own s).few, (r.entries, r.few)))
 
-rewind-requires : tie.Need-rewind-requires
+rewind-requires : tie.Need-rewind-restored-requires
 rewind-requires c κs =
     let s = gathering c.before.before.before in
-    (s.pre.1.0, (own s, filed s))
+    (s.requires.sandbox_bound, (own s, filed s))
 
-with-present-requires : tie.Need-with-present-requires
+with-present-requires : tie.Need-with_present-after-requires
 with-present-requires c κs = search rules
 
 cast-t30 : tie.Need-overflow-cast-t30
 cast-t30 c = search rules
 
-returns : tie.Need-returns
+returns : tie.Need-returns-in-Refused
 returns c row all a =
     let arm = c.before in
     let deciding = arm.before.before in
     let s = decided deciding in
-    acted-refused s.args.image.now s.args.q s.args.b all (store_in s) row a arm.verdict.given.0.0
-    (ap verdict_number (sym arm.verdict.given.1) ∙ number-here deciding all row a)
+    acted-refused s.args.image.now s.args.q s.args.b all (store_in s) row a arm.verdict-1.given.0.0
+    (ap verdict_number (sym arm.verdict-1.given.1) ∙ number-here deciding all row a)
 
-same_length : tie.Need-same-length
+same_length : tie.Need-shape_of-pool
 same_length c = search rules
 
-same-length-2 : tie.Need-same-length-2
+same-length-2 : tie.Need-shape_of-table
 same-length-2 c = search rules
 
-returns-2 : tie.Need-returns-2
+returns-2 : tie.Need-returns-in-Accepted
 returns-2 c row all a =
     let restored = c.before.before.before.before.before.before in
     let found = restored.before.before.before in
@@ -161,20 +161,23 @@ returns-2 c row all a =
     let s = gathering found.before in
     let image = s.args.image.now in
     let q = s.args.q in
-    let e = s.pre.0 in
+    let e = s.requires.code_value in
     let w : World = world_from row (store_in s) in
-    let n = accepted-here told.before.before told.enum_told.given.1 all row a in
-    let after : Store = kept restored.rewind.result.held restored.rewind.new.1.0 restored.rewind.new.1.1.0 in
-    acted-accepted image q s.args.b all (store_in s) row a restored.rewind.result.changed _ after found.gathered.result n
-    (rewind-value image q s.args.b (store_in s) _ e restored.rewind.ensures.1)
-    (c.with-present.ensures ∙ record-rewound q s.args.b.rec e (opened-here s all row a n))
-    (stepped-none image q w after found.gathered.result (rw e)
-    (subst (λ (x : Sandbox). LeftBy image q x (store_in s) after found.gathered.result) a.handed.own
-    (rewound image q s.args.b (store_in s) after found.gathered.result e restored.rewind.ensures.0
-    (found.gathered.ensures s.args.held s.args.pool.now))))
+    let n = accepted-here told.before.before told.enum_told-1.given.1 all row a in
+    let after : Store = kept restored.rewind-restored.result.held restored.rewind-restored.new.1.0 restored.rewind-restored.new.1.1.0 in
+    acted-accepted image q s.args.b all (store_in s) row a restored.rewind-restored.result.changed _ after found.gathered-left.result n
+    (rewind-value image q s.args.b (store_in s) _ e restored.rewind-restored.ensures.changed)
+    (c.with_present-after.ensures ∙ record-rewound q s.args.b.rec e (opened-here s all row a n))
+    (stepped-none image q w after found.gathered-left.result (rw e)
+    (subst (λ (x : Sandbox). LeftBy image q x (store_in s) after found.gathered-left.result) a.handed.own
+    (rewound image q s.args.b (store_in s) after found.gathered-left.result e restored.rewind-restored.ensures.table_after
+    (found.gathered-left.ensures s.args.held s.args.pool.now))))
 
-pub rewind-sandbox-spec : {M : Type 1} → statement M
-rewind-sandbox-spec =
+by-rules-overflow_cast-result : tie.Need-overflow_cast-result
+by-rules-overflow_cast-result c = search rules
+
+pub rewind_sandbox_spec : {M : Type 1} → statement M
+rewind_sandbox_spec =
     tie.close
     (tie.spec
     cast-images
@@ -185,7 +188,7 @@ rewind-sandbox-spec =
     gathered-requires
     rewind-requires
     with-present-requires
-    cast-t30
+    by-rules-overflow_cast-result
     returns
     same_length
     same-length-2

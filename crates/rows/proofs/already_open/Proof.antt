@@ -8,5 +8,5 @@ returns : tie.Need-returns
 unfolding applies
 returns c v e = rw e
 
-pub already-open-spec : {M : Type 1} → statement M
-already-open-spec = tie.close (tie.spec returns)
+pub already_open_spec : {M : Type 1} → statement M
+already_open_spec = tie.close (tie.spec returns)

@@ -5,12 +5,12 @@ use borrow.Author.Rules.{rules}
 use Rattle.rows.proofs.no_snapshot.Statement.{statement}
 use Rattle.rows.proofs.no_snapshot.Tie as tie
 
-needs-snapshot-requires : tie.Need-needs-snapshot-requires
+needs-snapshot-requires : tie.Need-needs_snapshot-requires
 needs-snapshot-requires c κs = search rules
 
 returns : tie.Need-returns
 unfolding applies
-returns c v e = rw (e, taken-copy c.before.before.args.b, c.before.needs-snapshot.ensures)
+returns c v e = rw (e, taken-copy c.before.before.args.b, c.before.needs_snapshot.ensures)
 
-pub no-snapshot-spec : {M : Type 1} → statement M
-no-snapshot-spec = tie.close (tie.spec needs-snapshot-requires returns)
+pub no_snapshot_spec : {M : Type 1} → statement M
+no_snapshot_spec = tie.close (tie.spec needs-snapshot-requires returns)

@@ -9,5 +9,5 @@ returns : tie.Need-returns
 unfolding applies
 returns c v e = rw (lt-ltb c.before.args.q.sandbox 4 c.before.requires, e)
 
-pub not-open-spec : {M : Type 1} → statement M
-not-open-spec = tie.close (tie.spec returns)
+pub not_open_spec : {M : Type 1} → statement M
+not_open_spec = tie.close (tie.spec returns)

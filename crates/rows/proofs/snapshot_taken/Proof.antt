@@ -9,5 +9,5 @@ returns : tie.Need-returns
 unfolding applies
 returns c v e = rw (e, taken-copy c.before.before.args.b)
 
-pub snapshot-taken-spec : {M : Type 1} → statement M
-snapshot-taken-spec = tie.close (tie.spec returns)
+pub snapshot_taken_spec : {M : Type 1} → statement M
+snapshot_taken_spec = tie.close (tie.spec returns)

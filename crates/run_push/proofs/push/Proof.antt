@@ -7,48 +7,48 @@ use Rattle.run_push.proofs.push.Statement.{statement}
 use Rattle.run_push.proofs.push.Tie as tie
 
 -- the way back from where a fact is needed to where it was learned
-abbrev count-of-empty : tie.After-is-empty → tie.After-count
+abbrev count-of-empty : tie.After-is_empty → tie.After-count-frames
 count-of-empty c = c.before.before
 
-abbrev count-of-length : tie.After-length → tie.After-count
+abbrev count-of-length : tie.After-length → tie.After-count-frames
 count-of-length c = count-of-empty c.before.before.before
 
-count-requires : tie.Need-count-requires
+count-requires : tie.Need-count-frames-requires
 count-requires c κs = search rules
 
-returns : tie.Need-returns
-returns c = sym (pushed-empty _ _ (sym c.before.count.ensures ∙ c.if1.true))
+returns : tie.Need-returns-then-frames-eq0
+returns c = sym (pushed-empty _ _ (sym c.before.count-frames.ensures ∙ c.if-frames-eq0.true))
 
-is-empty-requires : tie.Need-is-empty-requires
+is-empty-requires : tie.Need-is_empty-requires
 is-empty-requires c κs = search rules
 
 with-requires : tie.Need-with-requires
 with-requires c κs = search rules
 
-returns-2 : tie.Need-returns-2
+returns-2 : tie.Need-returns-then-is_empty
 returns-2 c =
     let empty = c.before.before in
-    push-last _ _ _ _ _ (count-of-empty empty).count.ensures empty.before.if1.false empty.is-empty.ensures c.before.if2.true c.with.ensures
+    push-last _ _ _ _ _ (count-of-empty empty).count-frames.ensures empty.before.if-frames-eq0.false empty.is_empty.ensures c.before.if-is_empty.true c.with.ensures
 
-shortest-requires : tie.Need-shortest-requires
+shortest-requires : tie.Need-shortest-c-requires
 shortest-requires c κs = search rules
 
 length-requires : tie.Need-length-requires
 length-requires c κs = search rules
 
-returns-3 : tie.Need-returns-3
+returns-3 : tie.Need-returns-then-frames-length
 returns-3 c =
-    push-stays _ _ _ _ _ c.before.before.shortest.ensures.0 (count-of-length c.before).count.ensures c.before.length.ensures.0
-    c.if3.true
+    push-stays _ _ _ _ _ c.before.before.shortest-c.ensures.value (count-of-length c.before).count-frames.ensures c.before.length.ensures.value
+    c.if-frames-length.true
 
-moved-up-requires : tie.Need-moved-up-requires
+moved-up-requires : tie.Need-moved_up-requires
 moved-up-requires c κs = search rules
 
-returns-4 : tie.Need-returns-4
+returns-4 : tie.Need-returns
 returns-4 c =
     let length = c.before.before in
-    push-moves _ _ _ _ _ _ length.before.shortest.ensures.0 (count-of-length length).count.ensures
-    length.length.ensures.0 c.before.if3.false c.moved_up.ensures
+    push-moves _ _ _ _ _ _ length.before.shortest-c.ensures.value (count-of-length length).count-frames.ensures
+    length.length.ensures.value c.before.if-frames-length.false c.moved_up.ensures
 
 pub push_spec : {M : Type 1} → statement M
 push_spec =

@@ -10,57 +10,57 @@ use Rattle.run_search.proofs.SearchLaws.{BestOf, best-first, best-more}
 use Rattle.run_search.proofs.best.Statement.{statement}
 use Rattle.run_search.proofs.best.Tie as tie
 
-abbrev invariant-loop : tie.invariant-loop
+abbrev invariant-loop : tie.invariant-loop-i
 invariant-loop rule runs found₀ i₀ found i = (i ≤ 8) × BestOf (better_by rule) (lengths_of runs) i found
 
-abbrev decreases-loop : tie.decreases-loop
+abbrev decreases-loop : tie.decreases-loop-i
 decreases-loop rule runs found₀ i₀ found i = 8 - i
 
-element-copy-out-first : tie.Need-element-copy-out-first invariant-loop decreases-loop
+element-copy-out-first : tie.Need-bounds-runs-0 invariant-loop decreases-loop
 element-copy-out-first c = search rules
 
 count-requires : tie.Need-count-requires invariant-loop decreases-loop
 count-requires c κs = search rules
 
-loop-holds : tie.Need-loop-init invariant-loop decreases-loop
+loop-holds : tie.Need-loop-i-init invariant-loop decreases-loop
 loop-holds c = (omega arith, best-first _ _ c.count.result c.count.ensures)
 
-cast-run : tie.Need-overflow-cast-run invariant-loop decreases-loop
+cast-run : tie.Need-overflow_cast-run invariant-loop decreases-loop
 cast-run c = search rules
 
-mul-run : tie.Need-overflow-mul-run invariant-loop decreases-loop
+mul-run : tie.Need-offset_bounds-runs-i invariant-loop decreases-loop
 mul-run c = search rules
 
-element-copy-out-run : tie.Need-element-copy-out-run invariant-loop decreases-loop
+element-copy-out-run : tie.Need-bounds-runs-i invariant-loop decreases-loop
 element-copy-out-run c = search rules
 
-count-requires-2 : tie.Need-count-requires-2 invariant-loop decreases-loop
+count-requires-2 : tie.Need-count-requires-in-loop-i invariant-loop decreases-loop
 count-requires-2 c κs = search rules
 
-or-better-requires : tie.Need-or-better-requires invariant-loop decreases-loop
+or-better-requires : tie.Need-or_better-found-requires invariant-loop decreases-loop
 or-better-requires c κs = search rules
 
-add-i : tie.Need-overflow-add-i invariant-loop decreases-loop
+add-i : tie.Need-overflow_step-i invariant-loop decreases-loop
 add-i c = search rules
 
-loop-less : tie.Need-loop-smaller invariant-loop decreases-loop
+loop-less : tie.Need-loop-i-smaller invariant-loop decreases-loop
 loop-less c = search rules
 
-loop-again : tie.Need-loop-preserved invariant-loop decreases-loop
+loop-again : tie.Need-loop-i-preserved invariant-loop decreases-loop
 loop-again c =
     let turn = c.before.before.before in
-    let l = turn.before.loop in
-    (search rules, best-more _ _ l.i _ l.found _ turn.loop-test.true c.before.count2.ensures l.invariant.1 c.or-better.ensures)
+    let l = turn.before.loop-i in
+    (search rules, best-more _ _ l.i _ l.found _ turn.loop-i-test.true c.before.count-in-loop-i.ensures l.invariant.1 c.or_better-found.ensures)
 
 returns : tie.Need-returns invariant-loop decreases-loop
 returns c =
     let a = c.before.before.before.before.args in
-    let l = c.before.loop in
-    let end : l.i ≡ 8 = omega (arith, l.invariant.0, c.loop-test.false) in
-    (l.invariant.1.place ∙ ap (best (better_by a.rule) (lengths_of a.t1)) end, l.invariant.1.low)
+    let l = c.before.loop-i in
+    let end : l.i ≡ 8 = omega (arith, l.invariant.0, c.loop-i-test.false) in
+    (l.invariant.1.place ∙ ap (best (better_by a.rule) (lengths_of a.runs)) end, l.invariant.1.low)
 
-pub best-spec : {M : Type 1} → statement M
-best-spec =
+pub best_spec : {M : Type 1} → statement M
+best_spec =
     tie.close
     (tie.spec
     invariant-loop

@@ -12,5 +12,5 @@ returns : tie.Need-returns
 unfolding better_by run_for
 returns c = c.best.ensures
 
-pub fitting-spec : {M : Type 1} → statement M
-fitting-spec = tie.close (tie.spec best-requires returns)
+pub fitting_spec : {M : Type 1} → statement M
+fitting_spec = tie.close (tie.spec best-requires returns)

@@ -4,11 +4,11 @@ use borrow.Author.Tests.{le-leb, lt-leb}
 use Rattle.run_search.proofs.is_fitter.Statement.{statement}
 use Rattle.run_search.proofs.is_fitter.Tie as tie
 
-returns : tie.Need-returns
-returns c = sym (rw (le-leb c.before.args.pages c.before.args.new c.if1.true))
+returns : tie.Need-returns-then-pages-new
+returns c = sym (rw (le-leb c.before.args.pages c.before.args.new c.if-pages-new.true))
 
-returns-2 : tie.Need-returns-2
-returns-2 c = sym (rw (lt-leb c.before.args.pages c.before.args.new c.if1.false))
+returns-2 : tie.Need-returns
+returns-2 c = sym (rw (lt-leb c.before.args.pages c.before.args.new c.if-pages-new.false))
 
-pub is-fitter-spec : {M : Type 1} → statement M
-is-fitter-spec = tie.close (tie.spec returns returns-2)
+pub is_fitter_spec : {M : Type 1} → statement M
+is_fitter_spec = tie.close (tie.spec returns returns-2)

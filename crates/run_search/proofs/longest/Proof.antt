@@ -12,5 +12,5 @@ returns : tie.Need-returns
 unfolding better_by longest_run
 returns c = c.best.ensures
 
-pub longest-spec : {M : Type 1} → statement M
-longest-spec = tie.close (tie.spec best-requires returns)
+pub longest_spec : {M : Type 1} → statement M
+longest_spec = tie.close (tie.spec best-requires returns)

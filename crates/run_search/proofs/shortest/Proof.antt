@@ -11,5 +11,5 @@ returns : tie.Need-returns
 unfolding better_by
 returns c = c.best.ensures
 
-pub shortest-spec : {M : Type 1} → statement M
-shortest-spec = tie.close (tie.spec best-requires returns)
+pub shortest_spec : {M : Type 1} → statement M
+shortest_spec = tie.close (tie.spec best-requires returns)

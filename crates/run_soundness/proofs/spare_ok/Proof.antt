@@ -18,44 +18,44 @@ use Rattle.run_soundness.proofs.spare_ok.Tie as tie
 abbrev rows : List Sandbox → ℕ → ℕ → Held
 rows sandboxes s = row (get_or sandboxes s closed_sandbox).runs
 
-kept-marks-requires : tie.Need-kept-marks-requires
+kept-marks-requires : tie.Need-kept_marks-found-requires
 kept-marks-requires c κs = search rules
 
 -- the way back from where a fact is needed to where it was learned
-abbrev kept-marks-of-struct-known : tie.After-struct-known → tie.After-kept-marks
+abbrev kept-marks-of-struct-known : tie.After-struct_known-1 → tie.After-kept_marks-found
 kept-marks-of-struct-known c = c.before.before
 
-returns : tie.Need-returns
+returns : tie.Need-returns-then-not-found
 returns c = λ table.
     let found = kept-marks-of-struct-known c.before in
     let a = found.before.before.args in
-    twice a.frames (kept a.held a.pool.now table) (rows a.sandboxes) found.kept-marks.result found.kept-marks.ensures
-    (not-true _ c.if1.true)
+    twice a.frames (kept a.held a.pool.now table) (rows a.sandboxes) found.kept_marks-found.result found.kept_marks-found.ensures
+    (not-true _ c.if-not-found.true)
 
 apart-requires : tie.Need-apart-requires
 apart-requires c κs = search rules
 
-abbrev kept-marks-of-apart : tie.After-apart → tie.After-kept-marks
+abbrev kept-marks-of-apart : tie.After-apart → tie.After-kept_marks-found
 kept-marks-of-apart c = kept-marks-of-struct-known c.before.before
 
-returns-2 : tie.Need-returns-2
+returns-2 : tie.Need-returns-then-not-apart
 returns-2 c = λ table.
     let found = kept-marks-of-apart c.before in
     let a = found.before.before.args in
-    named-too a.frames (kept a.held a.pool.now table) (rows a.sandboxes) found.kept-marks.result found.kept-marks.ensures
-    (not-false _ c.before.before.if1.false) (sym c.before.apart.ensures ∙ not-true _ c.if2.true)
+    named-too a.frames (kept a.held a.pool.now table) (rows a.sandboxes) found.kept_marks-found.result found.kept_marks-found.ensures
+    (not-false _ c.before.before.if-not-found.false) (sym c.before.apart.ensures ∙ not-true _ c.if-not-apart.true-raw)
 
-frames-ok-requires : tie.Need-frames-ok-requires
+frames-ok-requires : tie.Need-frames_ok-requires
 frames-ok-requires c κs = search rules
 
-returns-3 : tie.Need-returns-3
+returns-3 : tie.Need-returns
 returns-3 c = λ table.
     let apart = c.before.before in
     let found = kept-marks-of-apart apart in
     let a = found.before.before.args in
-    c.frames-ok.ensures
-    ∙ frames-decide a.frames (kept a.held a.pool.now table) (rows a.sandboxes) found.kept-marks.result found.kept-marks.ensures
-    (not-false _ apart.before.if1.false) (sym apart.apart.ensures ∙ not-false _ c.before.if2.false)
+    c.frames_ok.ensures
+    ∙ frames-decide a.frames (kept a.held a.pool.now table) (rows a.sandboxes) found.kept_marks-found.result found.kept_marks-found.ensures
+    (not-false _ apart.before.if-not-found.false) (sym apart.apart.ensures ∙ not-false _ c.before.if-not-apart.false-raw)
 
-pub spare-ok-spec : {M : Type 1} → statement M
-spare-ok-spec = tie.close (tie.spec kept-marks-requires returns apart-requires returns-2 frames-ok-requires returns-3)
+pub spare_ok_spec : {M : Type 1} → statement M
+spare_ok_spec = tie.close (tie.spec kept-marks-requires returns apart-requires returns-2 frames-ok-requires returns-3)

@@ -7,13 +7,13 @@ use borrow.Author.Rules.{rules}
 use Rattle.share_row.proofs.share_exceeded.Statement.{statement}
 use Rattle.share_row.proofs.share_exceeded.Tie as tie
 
-cast-result : tie.Need-overflow-cast-result
+cast-result : tie.Need-overflow_cast-result-in-1-2
 cast-result c = search rules
 
-add-result : tie.Need-overflow-add-result
+add-result : tie.Need-overflow_add-result
 add-result c = search rules
 
-cast-result-2 : tie.Need-overflow-cast-result-2
+cast-result-2 : tie.Need-overflow_cast-result-in-2
 cast-result-2 c = search rules
 
 charge-requires : tie.Need-charge-requires
@@ -23,57 +23,57 @@ charge-requires c κs =
     let r = start.requires.1 in
     (settled start.requires.0 b.present r.sound.present r.few, settled start.requires.0 b.snapshot r.sound.snapshot r.few)
 
-cast-result-3 : tie.Need-overflow-cast-result-3
+cast-result-3 : tie.Need-overflow_cast-result-in-2-2
 cast-result-3 c = search rules
 
-cast-result-4 : tie.Need-overflow-cast-result-4
+cast-result-4 : tie.Need-overflow_cast-result-in-2-3
 cast-result-4 c = search rules
 
-add-result-2 : tie.Need-overflow-add-result-2
+add-result-2 : tie.Need-overflow_add-result-in-2
 add-result-2 c = search rules
 
-cast-result-5 : tie.Need-overflow-cast-result-5
+cast-result-5 : tie.Need-overflow_cast-result-in-7
 cast-result-5 c = search rules
 
-mapped-pages-requires : tie.Need-mapped-pages-requires
+mapped-pages-requires : tie.Need-mapped_pages-requires
 mapped-pages-requires c κs =
     let start = c.before.before.before in
     settled start.requires.0 start.args.b.present start.requires.1.sound.present start.requires.1.few
 
-cast-result-6 : tie.Need-overflow-cast-result-6
+cast-result-6 : tie.Need-overflow_cast-result-in-7-2
 cast-result-6 c = search rules
 
-mul-result : tie.Need-overflow-mul-result
+mul-result : tie.Need-overflow_mul-result
 mul-result c = search rules
 
-returns : tie.Need-returns
+returns : tie.Need-returns-in-1
 returns c images p =
     let start = c.before.before in
     let a = start.args in
-    exceeds-open a.frames images a.shares a.b a.q start.requires.1 p c.before.match.keys1
+    exceeds-open a.frames images a.shares a.b a.q start.requires.1 p c.before.in-1.keys1
 
-returns-2 : tie.Need-returns-2
+returns-2 : tie.Need-returns-in-2
 returns-2 c images p =
     let a = c.before.before.before.before.args in
     let charge = c.before.charge in
-    exceeds-map a.frames images a.shares a.b a.q p c.before.before.before.match.keys2 charge.result charge.ensures
+    exceeds-map a.frames images a.shares a.b a.q p c.before.before.before.in-2.keys2 charge.result charge.ensures
 
-returns-3 : tie.Need-returns-3
+returns-3 : tie.Need-returns-in-7
 returns-3 c images p =
     let a = c.before.before.before.before.args in
-    let pages = c.mapped-pages in
-    exceeds-snapshot a.frames images a.shares a.b a.q c.before.before.before.match.keys3 pages.result pages.ensures
+    let pages = c.mapped_pages in
+    exceeds-snapshot a.frames images a.shares a.b a.q c.before.before.before.in-7.keys3 pages.result pages.ensures
 
-returns-4 : tie.Need-returns-4
+returns-4 : tie.Need-returns-in_default
 returns-4 c images p =
     let start = c.before in
     let a = start.args in
     let s = settled-of start.requires.0 a.b start.requires.1.sound true a.frames images a.shares in
-    let no = c.match.rest in
+    let no = c.in_default.rest in
     exceeds-not a.frames images a.shares a.b a.q s p no.0.0.1 no.0.1 no.1
 
-pub share-exceeded-spec : {M : Type 1} → statement M
-share-exceeded-spec =
+pub share_exceeded_spec : {M : Type 1} → statement M
+share_exceeded_spec =
     tie.close
     (tie.spec
     cast-result

@@ -5,51 +5,51 @@ use Rattle.interface.specs.Slots.{follows}
 use Rattle.slots.proofs.follows.Statement.{statement}
 use Rattle.slots.proofs.follows.Tie as tie
 
-enum_told : tie.Need-enum-told
-enum_told c = c.match.keys1
+enum_told : tie.Need-enum_told-1
+enum_told c = c.in-Anonymous.keys1
 
-enum-told-2 : tie.Need-enum-told-2
-enum-told-2 c = c.match2.keys1
+enum-told-2 : tie.Need-enum_told-in-Anonymous-second
+enum-told-2 c = c.in-Anonymous-second.keys1
 
-enum-told-3 : tie.Need-enum-told-3
-enum-told-3 c = c.match2.keys2
+enum-told-3 : tie.Need-enum_told-in-Image-second
+enum-told-3 c = c.in-Image-second.keys2
 
-enum-known-first : tie.Need-enum-known-first
-enum-known-first c = c.match.keys2
+enum-known-first : tie.Need-enum_known-first
+enum-known-first c = c.in-Image.keys2
 
-enum-told-4 : tie.Need-enum-told-4
-enum-told-4 c = c.match3.keys1
+enum-told-4 : tie.Need-enum_told-in-Anonymous-second-2
+enum-told-4 c = c.in-Anonymous-second-2.keys1
 
-enum-known-second : tie.Need-enum-known-second
-enum-known-second c = c.match3.keys2
+enum-known-second : tie.Need-enum_known-second
+enum-known-second c = c.in-Image-second-2.keys2
 
-cast-result : tie.Need-overflow-cast-result
+cast-result : tie.Need-overflow_cast-result
 cast-result c = omega arith
 
-add-result : tie.Need-overflow-add-result
+add-result : tie.Need-overflow_add-result
 add-result c = omega arith
 
-cast-result-2 : tie.Need-overflow-cast-result-2
+cast-result-2 : tie.Need-overflow_cast-result-in-Image-second-2-2
 cast-result-2 c = omega arith
 
-returns : tie.Need-returns
+returns : tie.Need-returns-in-Anonymous-second
 unfolding follows
-returns c = rw (c.enum-told2.given.1, c.before.before.enum_told.given.1)
+returns c = rw (c.enum_told-in-Anonymous-second-1.given.1, c.before.before.enum_told-1.given.1)
 
-returns-2 : tie.Need-returns-2
+returns-2 : tie.Need-returns-in-Image-second
 unfolding follows
 returns-2 c = search rules
 
-returns-3 : tie.Need-returns-3
+returns-3 : tie.Need-returns-in-Anonymous-second-2
 unfolding follows
 returns-3 c = search rules
 
-returns-4 : tie.Need-returns-4
+returns-4 : tie.Need-returns-in-Image-second-2
 unfolding follows
-returns-4 c = rw (c.before.before.before.second.given.1, c.before.before.before.before.before.before.first.given.1)
+returns-4 c = rw (c.before.before.before.second-1.given.1, c.before.before.before.before.before.before.first-1.given.1)
 
-pub follows-spec : {M : Type 1} → statement M
-follows-spec =
+pub follows_spec : {M : Type 1} → statement M
+follows_spec =
     tie.close
     (tie.spec
     enum_told

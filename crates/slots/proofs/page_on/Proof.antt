@@ -2,11 +2,11 @@
 use Rattle.slots.proofs.page_on.Statement.{statement}
 use Rattle.slots.proofs.page_on.Tie as tie
 
-advanced-requires : tie.Need-advanced-requires
+advanced-requires : tie.Need-advanced-backing-requires
 advanced-requires c κs = c.requires
 
 returns : tie.Need-returns
-returns c = rw c.advanced.ensures
+returns c = rw c.advanced-backing.ensures
 
-pub page-on-spec : {M : Type 1} → statement M
-page-on-spec = tie.close (tie.spec advanced-requires returns)
+pub page_on_spec : {M : Type 1} → statement M
+page_on_spec = tie.close (tie.spec advanced-requires returns)

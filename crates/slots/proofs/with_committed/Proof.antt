@@ -3,17 +3,17 @@ use borrow.Author.Rules.{rules}
 use Rattle.slots.proofs.with_committed.Statement.{statement}
 use Rattle.slots.proofs.with_committed.Tie as tie
 
-enum_told : tie.Need-enum-told
-enum_told c = c.match.keys1
+enum_told : tie.Need-enum_told-1
+enum_told c = c.in-Unmapped.keys1
 
-enum-known-slot : tie.Need-enum-known-slot
-enum-known-slot c = c.match.keys2
+enum-known-slot : tie.Need-enum_known-slot
+enum-known-slot c = c.in-Mapped.keys2
 
-returns : tie.Need-returns
+returns : tie.Need-returns-in-Unmapped
 returns c = search rules
 
-returns-2 : tie.Need-returns-2
-returns-2 c = rw c.before.slot.given.1
+returns-2 : tie.Need-returns-in-Mapped
+returns-2 c = rw c.before.slot-1.given.1
 
-pub with-committed-spec : {M : Type 1} → statement M
-with-committed-spec = tie.close (tie.spec enum_told enum-known-slot returns returns-2)
+pub with_committed_spec : {M : Type 1} → statement M
+with_committed_spec = tie.close (tie.spec enum_told enum-known-slot returns returns-2)

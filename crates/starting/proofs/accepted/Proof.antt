@@ -5,17 +5,17 @@ use borrow.Author.Rules.{rules}
 use Rattle.starting.proofs.accepted.Statement.{statement}
 use Rattle.starting.proofs.accepted.Tie as tie
 
-enum_told : tie.Need-enum-told
+enum_told : tie.Need-enum_told-1
 enum_told c = search rules
 
-enum-told-2 : tie.Need-enum-told-2
+enum-told-2 : tie.Need-enum_told-in-Refused
 enum-told-2 c = search rules
 
-returns : tie.Need-returns
-returns c = rw c.enum_told.given.1 refl
+returns : tie.Need-returns-in-Value
+returns c = rw c.enum_told-1.given.1 refl
 
-returns-2 : tie.Need-returns-2
-returns-2 c = rw c.enum-told2.given.1 (sym (some_number c.enum-told2.given.0.0))
+returns-2 : tie.Need-returns-in-Refused
+returns-2 c = rw c.enum_told-in-Refused-1.given.1 (sym (some_number c.enum_told-in-Refused-1.given.0.0))
 
-pub accepted-spec : {M : Type 1} → statement M
-accepted-spec = tie.close (tie.spec enum_told enum-told-2 returns returns-2)
+pub accepted_spec : {M : Type 1} → statement M
+accepted_spec = tie.close (tie.spec enum_told enum-told-2 returns returns-2)

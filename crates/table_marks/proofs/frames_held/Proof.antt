@@ -6,17 +6,17 @@ use Rattle.marks.specs.declared.Marks.{Marks}
 use Rattle.table_marks.proofs.frames_held.Statement.{statement}
 use Rattle.table_marks.proofs.frames_held.Tie as tie
 
-mul-first : tie.Need-overflow-mul-first
+mul-first : tie.Need-overflow_mul-first
 mul-first c = search rules
 
-marks-of-requires : tie.Need-marks-of-requires
+marks-of-requires : tie.Need-marks_of-found-requires
 marks-of-requires c κs = search rules
 
 count-requires : tie.Need-count-requires
 count-requires c κs = search rules
 
 returns : tie.Need-returns
-returns c = c.count.ensures ∙ ap (λ (m : Marks). count_held m.held) c.before.before.marks-of.ensures
+returns c = c.count.ensures ∙ ap (λ (m : Marks). count_held m.held) c.before.before.marks_of-found.ensures
 
-pub frames-held-spec : {M : Type 1} → statement M
-frames-held-spec = tie.close (tie.spec mul-first marks-of-requires count-requires returns)
+pub frames_held_spec : {M : Type 1} → statement M
+frames_held_spec = tie.close (tie.spec mul-first marks-of-requires count-requires returns)

@@ -18,67 +18,58 @@ most c = roll-most c.args.image.now c.args.pool.now c.args.table.now c.args.snap
 
 -- the places of the proof: the start seen from the first call, and that call seen from either branch
 
-abbrev start_of : tie.After-put-roll-arg → tie.Start
+abbrev start_of : tie.After-put_roll-arg-1 → tie.Start
 start_of c = c.before.before.before.before.before
 
-abbrev counted_no : tie.Then1 → tie.After-put-roll
+abbrev counted_no : tie.Then-out-lines → tie.After-put_roll-lines
 counted_no c = c.before.before.before
 
-abbrev counted_yes : tie.Else1 → tie.After-put-roll
+abbrev counted_yes : tie.Else-out-lines → tie.After-put_roll-lines
 counted_yes c = c.before.before.before
 
-put-roll-requires : tie.Need-put-roll-requires
+put-roll-requires : tie.Need-put_roll-lines-requires
 put-roll-requires c κs =
     let start = start_of c in
-    (start.pre, count_room start.args.out.now (roll start) (most start))
+    (start.requires, count_room start.args.out.now (roll start) (most start))
 
-cast-if1 : tie.Need-overflow-cast-if1
+cast-if1 : tie.Need-overflow_cast-lines
 cast-if1 c = search rules
 
-mul-if1 : tie.Need-overflow-mul-if1
+mul-if1 : tie.Need-overflow_mul-lines
 mul-if1 c = search rules
 
-same_length : tie.Need-same-length
+same_length : tie.Need-shape_of-out-then-out-lines
 same_length c = search rules
 
-returns : tie.Need-returns
+returns : tie.Need-returns-then-out-lines
 returns c =
     let start = start_of (counted_no c).before in
-    let counted = (counted_no c).put-roll in
-    too_long start.args.out.now counted.last.0 counted.result (roll start) counted.ensures (omega (arith, c.if1.true))
+    let counted = (counted_no c).put_roll-lines in
+    too_long start.args.out.now counted.last.0 counted.result (roll start) counted.ensures (omega (arith, c.if-out-lines.true))
 
-put-roll-requires-2 : tie.Need-put-roll-requires-2
+put-roll-requires-2 : tie.Need-put_roll-requires
 put-roll-requires-2 c κs =
     let branch = c.before in
     let start = start_of (counted_yes branch).before in
-    let counted = (counted_yes branch).put-roll in (
-      start.pre,
+    let counted = (counted_yes branch).put_roll-lines in (
+      start.requires,
       fits-room start.args.out.now counted.last.0 counted.result (roll start) counted.ensures
-          (omega (arith, branch.if1.false)) (most start),
+          (omega (arith, branch.if-out-lines.false)) (most start),
     )
 
-same-length-2 : tie.Need-same-length-2
+same-length-2 : tie.Need-shape_of-out
 same-length-2 c = search rules
 
-returns-2 : tie.Need-returns-2
+returns-2 : tie.Need-returns
 returns-2 c =
     let writing = c.before.before in
     let branch = writing.before.before in
     let start = start_of (counted_yes branch).before in
-    let counted = (counted_yes branch).put-roll in
-    let written = writing.put-roll2 in
+    let counted = (counted_yes branch).put_roll-lines in
+    let written = writing.put_roll in
     fits_in start.args.out.now counted.last.0 counted.result (roll start) counted.ensures
-    (omega (arith, branch.if1.false)) written.result written.new.0 written.ensures
+    (omega (arith, branch.if-out-lines.false)) written.result written.new.0 written.ensures
 
-pub put-fitting-spec : {M : Type 1} → statement M
-put-fitting-spec =
-    tie.close
-    (tie.spec
-    put-roll-requires
-    cast-if1
-    mul-if1
-    same_length
-    returns
-    put-roll-requires-2
-    same-length-2
-    returns-2)
+pub put_fitting_spec : {M : Type 1} → statement M
+put_fitting_spec =
+    tie.close (tie.spec put-roll-requires cast-if1 mul-if1 same_length returns put-roll-requires-2 same-length-2 returns-2)

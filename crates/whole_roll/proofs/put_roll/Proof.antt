@@ -41,7 +41,7 @@ out s = s.args.out.now
 
 module _ (s : tie.Start) where
   abbrev room : Room (to s) (out s) (roll_of s.args.image.now s.args.pool.now s.args.table.now s.args.snapshot)
-  room = s.requires.1
+  room = s.requires.room
 
   starts : Room (to s) (out s) (start s)
   starts = room_open s.args.image.now s.args.pool.now s.args.table.now s.args.snapshot (to s) (out s) room
@@ -60,131 +60,131 @@ module _ (s : tie.Start) where
 
 -- each segment, seen from before the next call, and the lines that were made first
 
-abbrev first_line : tie.After-put-maps-arg → tie.After-put-line
+abbrev first_line : tie.After-put_maps-arg-1 → tie.After-put_line-opened
 first_line c = c.before.before.before
 
-abbrev map_lines : tie.After-put-writes-arg → tie.After-put-maps
+abbrev map_lines : tie.After-put_writes-arg-1 → tie.After-put_maps-mapped
 map_lines c = c.before.before.before
 
-abbrev write_lines : tie.After-put-protects-arg → tie.After-put-writes
+abbrev write_lines : tie.After-put_protects-arg-1 → tie.After-put_writes-written
 write_lines c = c.before.before.before
 
-abbrev protect_lines : tie.After-put-line-arg2 → tie.After-put-protects
+abbrev protect_lines : tie.After-put_line-arg-2-1 → tie.After-put_protects-protected
 protect_lines c = c.before.before.before
 
-abbrev made_lines : tie.After-put-line → tie.After-line2
+abbrev made_lines : tie.After-put_line-opened → tie.After-line-closing
 made_lines c = c.before.before
 
-abbrev lines_made : tie.After-put-line-arg2 → tie.After-line2
+abbrev lines_made : tie.After-put_line-arg-2-1 → tie.After-line-closing
 lines_made c = made_lines (first_line (map_lines (write_lines (protect_lines c).before).before).before)
 
 -- what stands behind each segment
 
-abbrev behind_open : tie.After-put-maps-arg → tie.Start
+abbrev behind_open : tie.After-put_maps-arg-1 → tie.Start
 behind_open c = (made_lines (first_line c)).before.before.before.before.before.before
 
-opened : (c : tie.After-put-maps-arg) → let s = behind_open c in
-    let line = (first_line c).put-line in
+opened : (c : tie.After-put_maps-arg-1) → let s = behind_open c in
+    let line = (first_line c).put_line-opened in
     placed line.result line.last.0 ≡ put (to s) (out s) (start s)
 opened c =
     let s = behind_open c in
     let first = (made_lines (first_line c)).before.line in
-    (first_line c).put-line.ensures ∙ ap (λ (q : Request). put (to s) (out s) (q ∷ [])) first.ensures
+    (first_line c).put_line-opened.ensures ∙ ap (λ (q : Request). put (to s) (out s) (q ∷ [])) first.ensures
 
-abbrev behind_maps : tie.After-put-writes-arg → tie.Start
+abbrev behind_maps : tie.After-put_writes-arg-1 → tie.Start
 behind_maps c = behind_open (map_lines c).before
 
-mapped : (c : tie.After-put-writes-arg) → let s = behind_maps c in
-    let lines = (map_lines c).put-maps in
+mapped : (c : tie.After-put_writes-arg-1) → let s = behind_maps c in
+    let lines = (map_lines c).put_maps-mapped in
     placed lines.result lines.last.1.0 ≡ put (to s) (out s) (to_maps s.args.snapshot)
 mapped c =
     let before = (map_lines c).before in
     let s = behind_maps c in
-    let line = (first_line before).put-line in
-    let lines = (map_lines c).put-maps in
+    let line = (first_line before).put_line-opened in
+    let lines = (map_lines c).put_maps-mapped in
     next-put (to s) line.result (out s) line.last.0 (start s) (maps_of s.args.snapshot) (maps s) (opened before)
     lines.result lines.last.1.0 lines.ensures
 
-abbrev behind_writes : tie.After-put-protects-arg → tie.Start
+abbrev behind_writes : tie.After-put_protects-arg-1 → tie.Start
 behind_writes c = behind_maps (write_lines c).before
 
-wrote : (c : tie.After-put-protects-arg) → let s = behind_writes c in
-    let lines = (write_lines c).put-writes in
+wrote : (c : tie.After-put_protects-arg-1) → let s = behind_writes c in
+    let lines = (write_lines c).put_writes-written in
     placed lines.result lines.last.1.1.1.1.0 ≡ put (to s) (out s) (until_writes s)
 wrote c =
     let before = (write_lines c).before in
     let s = behind_writes c in
-    let last = (map_lines before).put-maps in
-    let lines = (write_lines c).put-writes in
+    let last = (map_lines before).put_maps-mapped in
+    let lines = (write_lines c).put_writes-written in
     next-put (to s) last.result (out s) last.last.1.0 (to_maps s.args.snapshot) (writes s) (written s) (mapped before)
     lines.result lines.last.1.1.1.1.0 lines.ensures
 
-abbrev behind_protects : tie.After-put-line-arg2 → tie.Start
+abbrev behind_protects : tie.After-put_line-arg-2-1 → tie.Start
 behind_protects c = behind_writes (protect_lines c).before
 
-locked : (c : tie.After-put-line-arg2) → let s = behind_protects c in
-    let lines = (protect_lines c).put-protects in
+locked : (c : tie.After-put_line-arg-2-1) → let s = behind_protects c in
+    let lines = (protect_lines c).put_protects-protected in
     placed lines.result lines.last.1.0 ≡ put (to s) (out s) (until_protects s)
 locked c =
     let before = (protect_lines c).before in
     let s = behind_protects c in
-    let last = (write_lines before).put-writes in
-    let lines = (protect_lines c).put-protects in
+    let last = (write_lines before).put_writes-written in
+    let lines = (protect_lines c).put_protects-protected in
     next-put (to s) last.result (out s) last.last.1.1.1.1.0 (until_writes s) (protects_of s.args.snapshot) (protected s) (wrote before)
     lines.result lines.last.1.0 lines.ensures
 
 -- the needs
 
-line-requires : tie.Need-line-requires
+line-requires : tie.Need-line-opening-requires
 line-requires c κs = search rules
 
-line-requires-2 : tie.Need-line-requires-2
+line-requires-2 : tie.Need-line-closing-requires
 line-requires-2 c κs = search rules
 
-put-line-requires : tie.Need-put-line-requires
-put-line-requires c κs = let made = c.before.before in rw made.line.ensures (starts made.before.before.before.before.before)
+put-line-requires : tie.Need-put_line-opened-requires
+put-line-requires c κs = let made = c.before.before in rw made.line-opening.ensures (starts made.before.before.before.before.before)
 
-put-maps-requires : tie.Need-put-maps-requires
+put-maps-requires : tie.Need-put_maps-mapped-requires
 put-maps-requires c κs =
     let s = behind_open c in
-    let line = (first_line c).put-line in
+    let line = (first_line c).put_line-opened in
     next-room (to s) line.result (out s) line.last.0 (start s) (maps_of s.args.snapshot) (maps s) (opened c)
 
-put-writes-requires : tie.Need-put-writes-requires
+put-writes-requires : tie.Need-put_writes-written-requires
 put-writes-requires c κs =
     let s = behind_maps c in
-    let last = (map_lines c).put-maps in
-    (s.pre.0, next-room (to s) last.result (out s) last.last.1.0 (to_maps s.args.snapshot) (writes s) (written s) (mapped c))
+    let last = (map_lines c).put_maps-mapped in
+    (s.requires.readable, next-room (to s) last.result (out s) last.last.1.0 (to_maps s.args.snapshot) (writes s) (written s) (mapped c))
 
-put-protects-requires : tie.Need-put-protects-requires
+put-protects-requires : tie.Need-put_protects-protected-requires
 put-protects-requires c κs =
     let s = behind_writes c in
-    let last = (write_lines c).put-writes in
+    let last = (write_lines c).put_writes-written in
     next-room (to s) last.result (out s) last.last.1.1.1.1.0 (until_writes s) (protects_of s.args.snapshot) (protected s) (wrote c)
 
-put-line-requires-2 : tie.Need-put-line-requires-2
+put-line-requires-2 : tie.Need-put_line-requires
 put-line-requires-2 c κs =
     let s = behind_protects c in
-    let last = (protect_lines c).put-protects in
-    rw (lines_made c).line2.ensures
+    let last = (protect_lines c).put_protects-protected in
+    rw (lines_made c).line-closing.ensures
     (next-room (to s) last.result (out s) last.last.1.0 (until_protects s) (closing s.args.snapshot.sandbox) (all s) (locked c))
 
-same_length : tie.Need-same-length
+same_length : tie.Need-shape_of-out
 same_length c = search rules
 
 returns : tie.Need-returns
 returns c =
     let before = c.before.before.before in
     let s = behind_protects before in
-    let last = (protect_lines before).put-protects in
-    let closed = c.before.before.put-line2 in
+    let last = (protect_lines before).put_protects-protected in
+    let closed = c.before.before.put_line in
     next-put (to s) last.result (out s) last.last.1.0 (until_protects s) (closing s.args.snapshot.sandbox) (all s) (locked before)
     closed.result closed.new.0
-    (closed.ensures ∙ ap (λ (q : Request). put last.result last.last.1.0 (q ∷ [])) (lines_made before).line2.ensures)
+    (closed.ensures ∙ ap (λ (q : Request). put last.result last.last.1.0 (q ∷ [])) (lines_made before).line-closing.ensures)
     ∙ whole s.args.image.now s.args.pool.now s.args.table.now s.args.snapshot (to s) (out s)
 
-pub put-roll-spec : {M : Type 1} → statement M
-put-roll-spec =
+pub put_roll_spec : {M : Type 1} → statement M
+put_roll_spec =
     tie.close
     (tie.spec
     line-requires

@@ -8,12 +8,12 @@ use Rattle.words.specs.Word.{bit}
 use Rattle.words.proofs.has.Statement.{statement}
 use Rattle.words.proofs.has.Tie as tie
 
-shr-result : tie.Need-overflow-shr-result
+shr-result : tie.Need-overflow_shr-result
 shr-result c = search rules
 
 returns : tie.Need-returns
 unfolding bit
 returns c = ap (λ (x : ℕ). eqb x 1) (and_mask (c.args.word / 2 ^ c.args.place) 1)
 
-pub has-spec : {M : Type 1} → statement M
-has-spec = tie.close (tie.spec shr-result returns)
+pub has_spec : {M : Type 1} → statement M
+has_spec = tie.close (tie.spec shr-result returns)

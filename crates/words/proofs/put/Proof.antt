@@ -4,21 +4,21 @@ use Rattle.words.proofs.OperatorLaws.{one_shl, or-is-put, and-is-put}
 use Rattle.words.proofs.put.Statement.{statement}
 use Rattle.words.proofs.put.Tie as tie
 
-shl-result : tie.Need-overflow-shl-result
+shl-result : tie.Need-overflow_shl-result
 shl-result c = search rules
 
-shl-result-2 : tie.Need-overflow-shl-result-2
+shl-result-2 : tie.Need-overflow_shl-result-else-on
 shl-result-2 c = search rules
 
-returns : tie.Need-returns
+returns : tie.Need-returns-then-on
 returns c =
     let start = c.before in
-    simp (c.if1.true, one_shl start.args.place start.requires) (or-is-put start.args.word start.args.place)
+    simp (c.if-on.true, one_shl start.args.place start.requires) (or-is-put start.args.word start.args.place)
 
-returns-2 : tie.Need-returns-2
+returns-2 : tie.Need-returns-else-on
 returns-2 c =
     let start = c.before in
-    simp (c.if1.false, one_shl start.args.place start.requires)
+    simp (c.if-on.false, one_shl start.args.place start.requires)
     (and-is-put 64 start.args.word start.args.place start.ranges.word.fits start.requires)
 
 pub put_spec : {M : Type 1} → statement M

@@ -39,10 +39,10 @@ Row s row = AskedOf s.args.image.now s.args.q s.args.b s.args.all (store_in s) r
 
 -- one such row is there
 abbrev there : tie.Start → List Sandbox
-there s = s.requires.1.0
+there s = s.requires.some_row.0
 
 abbrev its : (s : tie.Start) → Row s (there s)
-its s = s.requires.1.1
+its s = s.requires.some_row.1
 
 abbrev asked : (s : tie.Start) → Asked s.args.image.now s.args.q (world_in s (there s))
 asked s = (its s).1
@@ -52,48 +52,48 @@ same-sandbox : (s : tie.Start) (row : List Sandbox) → Row s row → s.args.b �
 same-sandbox s row a = a.0.own
 
 small : (s : tie.Start) → s.args.q.p1 / 256 < 64
-small s = page-small s.args.q.p1 ((asked s).fit.written s.requires.0).0
+small s = page-small s.args.q.p1 ((asked s).fit.written s.requires.code_value).0
 
 -- ---- what is known behind each part
 
 abbrev argued : tie.After-front-arg → tie.Start
 argued c = c.before.before.before.before.before.before.before.before
 
-abbrev fronted : tie.After-front → tie.Start
+abbrev fronted : tie.After-front-front → tie.Start
 fronted c = argued c.before
 
-abbrev bare : tie.Else1 → tie.Start
+abbrev bare : tie.Else-front-ne0 → tie.Start
 bare c = fronted c.before
 
-no_front : (c : tie.Else1) (row : List Sandbox) → own_front (bare c).args.q (world_in (bare c) row).store ≡ 0
-no_front c row = sym c.before.front.ensures ∙ c.if1.false
+no_front : (c : tie.Else-front-ne0) (row : List Sandbox) → own_front (bare c).args.q (world_in (bare c) row).store ≡ 0
+no_front c row = sym c.before.front-front.ensures ∙ c.if-front-ne0.false
 
-abbrev spared : tie.After-give-up → tie.Else1
+abbrev spared : tie.After-give_up-given → tie.Else-front-ne0
 spared c = c.before.before
 
 -- what was given up
-gave : (c : tie.After-give-up) (row : List Sandbox) (a : Row (bare (spared c)) row) → let s = bare (spared c) in
-    GaveUp (gives s.args.image.now s.args.q (world_in s row) a.1 s.pre.0 (no_front (spared c) row))
-    (own_sandbox s.args.q (world_in s row)).runs (kept_to (rows_of (world_in s row)) 4).held c.give-up.result
+gave : (c : tie.After-give_up-given) (row : List Sandbox) (a : Row (bare (spared c)) row) → let s = bare (spared c) in
+    GaveUp (gives s.args.image.now s.args.q (world_in s row) a.1 s.requires.code_value (no_front (spared c) row))
+    (own_sandbox s.args.q (world_in s row)).runs (kept_to (rows_of (world_in s row)) 4).held c.give_up-given.result
 gave c row a =
     let s = bare (spared c) in
-    rw (← a.0.kept s.pre.0, ← same-sandbox s row a) c.give-up.ensures
+    rw (← a.0.kept s.requires.code_value, ← same-sandbox s row a) c.give_up-given.ensures
 
-abbrev framed : tie.After-unheld-frame → tie.After-give-up
+abbrev framed : tie.After-unheld_frame-f → tie.After-give_up-given
 framed c = c.before.before.before
 
-abbrev looked : tie.After-slot → tie.After-unheld-frame
+abbrev looked : tie.After-slot-slot → tie.After-unheld_frame-f
 looked c = c.before.before
 
-abbrev behind : tie.After-slot → tie.Start
+abbrev behind : tie.After-slot-slot → tie.Start
 behind c = bare (spared (framed (looked c)))
 
-slot_is : (c : tie.After-slot) (row : List Sandbox) → Row (behind c) row
-    → c.slot.result ≡ slots (own_sandbox (behind c).args.q (world_in (behind c) row)).rec.present ((behind c).args.q.p1 / 256)
-slot_is c row a = c.slot.ensures ∙ ap (λ (b : Sandbox). slots b.rec.present ((behind c).args.q.p1 / 256)) (same-sandbox (behind c) row a)
+slot_is : (c : tie.After-slot-slot) (row : List Sandbox) → Row (behind c) row
+    → c.slot-slot.result ≡ slots (own_sandbox (behind c).args.q (world_in (behind c) row)).rec.present ((behind c).args.q.p1 / 256)
+slot_is c row a = c.slot-slot.ensures ∙ ap (λ (b : Sandbox). slots b.rec.present ((behind c).args.q.p1 / 256)) (same-sandbox (behind c) row a)
 
 -- its image page is there
-backing-here : (c : tie.After-slot) → backing_end (backing_at c.slot.result) * 256 ≤ length (behind c).args.image.now
+backing-here : (c : tie.After-slot-slot) → backing_end (backing_at c.slot-slot.result) * 256 ≤ length (behind c).args.image.now
 backing-here c =
     let s = behind c in
     let own = own_sandbox s.args.q (world_in s (there s)) in
@@ -102,51 +102,51 @@ backing-here c =
 
 -- ---- the needs
 
-cast-s : tie.Need-overflow-cast-s
+cast-s : tie.Need-overflow_cast-s
 cast-s c = let row = (asked c.before.before.before.before).row in search rules
 
-cast-t21 : tie.Need-overflow-cast-t21
+cast-t21 : tie.Need-overflow_cast-number
 cast-t21 c = search rules
 
-div-t22 : tie.Need-nonzero-div-t22
+div-t22 : tie.Need-nonzero_div-number
 div-t22 c = search rules
 
-cast-t23 : tie.Need-overflow-cast-t23
+cast-t23 : tie.Need-overflow_cast-number-2
 cast-t23 c = search rules
 
-front-requires : tie.Need-front-requires
+front-requires : tie.Need-front-front-requires
 front-requires c κs = let s = argued c in ((asked s).row, (small s, (asked s).filed.entries))
 
-same_length : tie.Need-same-length
+same_length : tie.Need-shape_of-table-then-front-ne0
 same_length c = search rules
 
-returns : tie.Need-returns
+returns : tie.Need-returns-then-front-ne0
 returns c row a =
     let s = fronted c.before in
     rw (same-sandbox s row a)
-    (touch-kept s.args.image.now s.args.q (world_in s row) a.1 s.pre.0 (λ z. c.if1.true (c.before.front.ensures ∙ z)))
+    (touch-kept s.args.image.now s.args.q (world_in s row) a.1 s.requires.code_value (λ z. c.if-front-ne0.true (c.before.front-front.ensures ∙ z)))
 
-give-up-requires : tie.Need-give-up-requires
+give-up-requires : tie.Need-give_up-given-requires
 give-up-requires c κs =
     let bared = c.before in
     let s = bare bared in
     let row = there s in
-    ((asked s).row, ((asked s).filed.entries, rw (same-sandbox s row (its s)) ((asked s).fits s.pre.0 (no_front bared row))))
+    ((asked s).row, ((asked s).filed.entries, rw (same-sandbox s row (its s)) ((asked s).fits s.requires.code_value (no_front bared row))))
 
-cast-frames : tie.Need-overflow-cast-frames
+cast-frames : tie.Need-overflow_cast-frames
 cast-frames c = omega (arith, (asked (bare (spared c.before.before))).filed.few)
 
-unheld-frame-requires : tie.Need-unheld-frame-requires
+unheld-frame-requires : tie.Need-unheld_frame-f-requires
 unheld-frame-requires c κs =
     let g = c.before.before in
     let s = bare (spared g) in
     let row = there s in (
       (asked s).filed.few,
-      frame-there s.args.image.now s.args.q (world_in s row) (asked s) s.pre.0 (no_front (spared g) row) g.give-up.result
+      frame-there s.args.image.now s.args.q (world_in s row) (asked s) s.requires.code_value (no_front (spared g) row) g.give_up-given.result
           (gave g row (its s)),
     )
 
-slot-requires : tie.Need-slot-requires
+slot-requires : tie.Need-slot-slot-requires
 slot-requires c κs =
     let s = bare (spared (framed c.before)) in
     let ready = (asked s).ready in
@@ -155,11 +155,11 @@ slot-requires c κs =
       small s,
     )
 
-take-requires : tie.Need-take-requires
+take-requires : tie.Need-take-h-requires
 take-requires c κs =
     let found = c.before.before in
     let s = behind found in
-    let low = (looked found).unheld-frame.ensures.0 in
+    let low = (looked found).unheld_frame-f.ensures.result_lt_frames in
     let filed = (asked s).filed in (
       record { row = (asked s).row; inside = small s; backed = backing-here found },
       (
@@ -168,13 +168,13 @@ take-requires c κs =
       ),
     )
 
-same-length-2 : tie.Need-same-length-2
+same-length-2 : tie.Need-shape_of-pool
 same-length-2 c = search rules
 
-same-length-3 : tie.Need-same-length-3
+same-length-3 : tie.Need-shape_of-table
 same-length-3 c = search rules
 
-returns-2 : tie.Need-returns-2
+returns-2 : tie.Need-returns
 returns-2 c row h =
     let taken = c.before.before.before.before in
     let found = taken.before.before.before in
@@ -182,15 +182,15 @@ returns-2 c row h =
     let a = s.args in
     let w = world_in s row in
     let g = framed (looked found) in
-    let f = (looked found).unheld-frame in
+    let f = (looked found).unheld_frame-f in
     let front = front_of a.q.sandbox (page_of a.q) in
-    touch-made a.image.now a.q w h.1 s.pre.0 _ g.give-up.result f.result.0 (no_front (spared g) row) (gave g row h)
+    touch-made a.image.now a.q w h.1 s.requires.code_value _ g.give_up-given.result f.result.0 (no_front (spared g) row) (gave g row h)
     f.ensures.0 f.ensures.1.0 f.ensures.1.1
-    (taken.take.ensures ∙ ap (λ (bytes : List ℕ). take 256 front f.result.0 bytes w.store)
-    (under-is a.image.now w.store (own_sandbox a.q w).rec a.q.sandbox _ found.slot.result (slot_is found row h)))
+    (taken.take-h.ensures ∙ ap (λ (bytes : List ℕ). take 256 front f.result.0 bytes w.store)
+    (under-is a.image.now w.store (own_sandbox a.q w).rec a.q.sandbox _ found.slot-slot.result (slot_is found row h)))
 
-pub touch-spec : {M : Type 1} → statement M
-touch-spec =
+pub touch_spec : {M : Type 1} → statement M
+touch_spec =
     tie.close
     (tie.spec
     cast-s

@@ -20,71 +20,71 @@ world_in s row = record { sandboxes = row; store = store_in s }
 
 -- a row from which the sandbox is
 abbrev there : tie.Start → List Sandbox
-there s = s.requires.1.0
+there s = s.requires.some_row.0
 
 abbrev asked : (s : tie.Start) → Asked s.args.image.now s.args.q (world_in s (there s))
-asked s = s.requires.1.1.1
+asked s = s.requires.some_row.1.1
 
 small : (s : tie.Start) → s.args.q.p1 / 256 < 64
-small s = page-small s.args.q.p1 ((asked s).fit.written s.requires.0).0
+small s = page-small s.args.q.p1 ((asked s).fit.written s.requires.code_value).0
 
 -- behind the touch, and where the byte is stored
-abbrev behind : tie.After-touch → tie.Start
+abbrev behind : tie.After-touch-left → tie.Start
 behind c = c.before.before.before.before.before.before
 
-abbrev touched : tie.After-struct-known4 → tie.After-touch
+abbrev touched : tie.After-struct_known-4-1 → tie.After-touch-left
 touched c = c.before.before.before.before.before.before.before.before.before.before
 
 -- ---- the needs
 
-touch-requires : tie.Need-touch-requires
+touch-requires : tie.Need-touch-left-requires
 touch-requires c κs = search rules
 
-cast-s : tie.Need-overflow-cast-s
+cast-s : tie.Need-overflow_cast-s
 cast-s c = search rules
 
-cast-store-byte : tie.Need-overflow-cast-store-byte
+cast-store-byte : tie.Need-overflow_cast-page
 cast-store-byte c = search rules
 
-div-store-byte : tie.Need-nonzero-div-store-byte
+div-store-byte : tie.Need-nonzero_div-page
 div-store-byte c = search rules
 
-cast-store-byte-2 : tie.Need-overflow-cast-store-byte-2
+cast-store-byte-2 : tie.Need-overflow_cast-page-2
 cast-store-byte-2 c = search rules
 
-cast-store-byte-3 : tie.Need-overflow-cast-store-byte-3
+cast-store-byte-3 : tie.Need-overflow_cast-store_byte
 cast-store-byte-3 c = search rules
 
-rem-store-byte : tie.Need-nonzero-rem-store-byte
+rem-store-byte : tie.Need-nonzero_rem-q
 rem-store-byte c = search rules
 
-cast-store-byte-4 : tie.Need-overflow-cast-store-byte-4
+cast-store-byte-4 : tie.Need-overflow_cast-q
 cast-store-byte-4 c = search rules
 
-cast-store-byte-5 : tie.Need-overflow-cast-store-byte-5
-cast-store-byte-5 c = let s = behind (touched c) in omega (arith, ((asked s).fit.written s.pre.0).1)
+cast-store-byte-5 : tie.Need-overflow_cast-q-2
+cast-store-byte-5 c = let s = behind (touched c) in omega (arith, ((asked s).fit.written s.requires.code_value).1)
 
-store-byte-requires : tie.Need-store-byte-requires
+store-byte-requires : tie.Need-store_byte-requires
 store-byte-requires c κs =
     let touching = touched c in
     let s = behind touching in
     let row = there s in
-    let left = touching.touch.ensures row s.pre.1.1 in
-    let ranged = touch-ranged s.args.image.now s.args.q (world_in s row) (asked s) s.pre.0 _ _ (small s) left in
+    let left = touching.touch-left.ensures row s.requires.some_row.1 in
+    let ranged = touch-ranged s.args.image.now s.args.q (world_in s row) (asked s) s.requires.code_value _ _ (small s) left in
     ((asked s).row, (small s, ranged))
 
-same_length : tie.Need-same-length
+same_length : tie.Need-shape_of-pool
 same_length c = search rules
 
-same-length-2 : tie.Need-same-length-2
+same-length-2 : tie.Need-shape_of-table
 same-length-2 c = search rules
 
 returns : tie.Need-returns
 returns c row a =
     let stored = c.before.before in
-    let touch = (touched stored.before).touch in
+    let touch = (touched stored.before).touch-left in
     let s = behind (touched stored.before) in
-    written s.args.image.now s.args.q (world_in s row) _ _ touch.result.runs (touch.ensures row a) s.pre.0
+    written s.args.image.now s.args.q (world_in s row) _ _ touch.result.runs (touch.ensures row a) s.requires.code_value
     (stored.IsStore-byte.ensures touch.result.held)
 
 pub write_spec : {M : Type 1} → statement M

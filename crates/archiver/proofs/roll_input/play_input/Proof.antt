@@ -11,18 +11,18 @@ use Rattle.archiver.proofs.InputLaws.{SoFar, none_so_far, known-so-far, short-li
 use Rattle.archiver.proofs.roll_input.play_input.Statement.{statement}
 use Rattle.archiver.proofs.roll_input.play_input.Tie as tie
 
-abbrev invariant-loop : tie.invariant-loop
+abbrev invariant-loop : tie.invariant-loop-number
 invariant-loop sound pool₀ table₀ image state₀ number₀ pool table state number =
     (number ≤ 65536) × (length pool ≡ length pool₀) × (length table ≡ length table₀)
     × SoFar image (world_of state₀ pool₀ table₀) number (world_of state pool table)
 
-abbrev decreases-loop : tie.decreases-loop
+abbrev decreases-loop : tie.decreases-loop-number
 decreases-loop sound pool₀ table₀ image state₀ number₀ pool table state number = 65536 - number
 
 -- ---- what is known in the loop
 
 abbrev AtLoop : Type 0
-AtLoop = tie.At-loop invariant-loop decreases-loop
+AtLoop = tie.At-loop-number invariant-loop decreases-loop
 
 -- the world that a line meets
 abbrev world_at : AtLoop → World
@@ -41,18 +41,18 @@ world_begun c = let a = (start_of c).args in world_of a.machine a.pool.now a.tab
 -- ---- a line read
 
 abbrev AfterRead : Type 0
-AfterRead = tie.After-read-full invariant-loop decreases-loop
+AfterRead = tie.After-read_full-got invariant-loop decreases-loop
 
 abbrev loop_of : AfterRead → AtLoop
 loop_of c = c.before.before.before
 
-few_bytes : (c : AfterRead) → c.read-full.result ≤ 43
-few_bytes c = omega (arith, c.read-full.ensures.0, c.read-full.auto.1.0)
+few_bytes : (c : AfterRead) → c.read_full-got.result ≤ 43
+few_bytes c = omega (arith, c.read_full-got.ensures.0, c.read_full-got.auto.1.0)
 
 -- ---- and played
 
 abbrev AfterPlay : Type 0
-AfterPlay = tie.After-play invariant-loop decreases-loop
+AfterPlay = tie.After-play-state invariant-loop decreases-loop
 
 abbrev read_of : AfterPlay → AfterRead
 read_of c = c.before.before.before.before.before.before
@@ -62,89 +62,89 @@ world_after c = world_of c.play.result c.play.new.1.0 c.play.new.1.1.0
 
 -- ---- the needs
 
-loop-holds : tie.Need-loop-init invariant-loop decreases-loop
+loop-holds : tie.Need-loop-number-init invariant-loop decreases-loop
 loop-holds c = (omega arith, refl, refl, none_so_far _ _)
 
-slice-aggregate-read-full : tie.Need-slice-aggregate-read-full invariant-loop decreases-loop
+slice-aggregate-read-full : tie.Need-slice_bounds-read_full-end invariant-loop decreases-loop
 slice-aggregate-read-full c = search rules
 
-read-full-requires : tie.Need-read-full-requires invariant-loop decreases-loop
+read-full-requires : tie.Need-read_full-got-requires invariant-loop decreases-loop
 read-full-requires c κs = search rules
 
-array-share-prefix-line : tie.Need-array-share-prefix-line invariant-loop decreases-loop
+array-share-prefix-line : tie.Need-slice_bounds-line-end invariant-loop decreases-loop
 array-share-prefix-line c = search rules
 
-slice-aggregate-play : tie.Need-slice-aggregate-play invariant-loop decreases-loop
+slice-aggregate-play : tie.Need-slice_bounds-play-end invariant-loop decreases-loop
 slice-aggregate-play c = search rules
 
-slice-aggregate-play-2 : tie.Need-slice-aggregate-play-2 invariant-loop decreases-loop
+slice-aggregate-play-2 : tie.Need-slice_bounds-play-end-in-loop-number invariant-loop decreases-loop
 slice-aggregate-play-2 c = search rules
 
-play-requires : tie.Need-play-requires invariant-loop decreases-loop
+play-requires : tie.Need-play-state-requires invariant-loop decreases-loop
 play-requires c κs =
     let reading = c.before.before.before.before.before in
     let at = loop_of reading in
-    let few = few-lines reading.read-full.result (few_bytes reading) in
+    let few = few-lines reading.read_full-got.result (few_bytes reading) in
     let start = start_of at in
-    let known = known-so-far (image_in at) (world_begun at) at.loop.number (world_at at) at.loop.inv.3 start.args.sound start.pre in
-    rw (← reading.read-full.ensures.1) (omega (arith, few), (omega (arith, few, at.loop.inv.0), known))
+    let known = known-so-far (image_in at) (world_begun at) at.loop.number (world_at at) at.loop.invariant.3 start.args.sound start.requires in
+    rw (← reading.read_full-got.ensures.1) (omega (arith, few), (omega (arith, few, at.loop.invariant.0), known))
 
-is-whole-requires : tie.Need-is-whole-requires invariant-loop decreases-loop
+is-whole-requires : tie.Need-is_whole-requires invariant-loop decreases-loop
 is-whole-requires c κs = search rules
 
-same_length : tie.Need-same-length invariant-loop decreases-loop
+same_length : tie.Need-shape_of-pool-then-not-is_whole invariant-loop decreases-loop
 same_length c = search rules
 
-same-length-2 : tie.Need-same-length-2 invariant-loop decreases-loop
+same-length-2 : tie.Need-shape_of-table-then-not-is_whole invariant-loop decreases-loop
 same-length-2 c = search rules
 
-returns : tie.Need-returns invariant-loop decreases-loop
+returns : tie.Need-returns-then-not-is_whole invariant-loop decreases-loop
 returns c =
     let told = c.before.is_whole in
     let playing = c.before.before.before.before.before.before.before in
     let reading = read_of playing in
     let at = loop_of reading in
-    let low : at.loop.number ≤ 65535 = omega (arith, reading.before.before.loop-test.taken) in
-    ended (image_in at) (world_begun at) at.loop.number (world_at at) at.loop.inv.3 low _ _ _ (world_after playing)
-    (rw (← reading.read-full.ensures.1) (short-line reading.read-full.result told.result told.ensures (few_bytes reading) c.if1.true))
-    playing.play.ensures
+    let low : at.loop.number ≤ 65535 = omega (arith, reading.before.before.loop-number-test.taken) in
+    ended (image_in at) (world_begun at) at.loop.number (world_at at) at.loop.invariant.3 low _ _ _ (world_after playing)
+    (rw (← reading.read_full-got.ensures.1) (short-line reading.read_full-got.result told.result told.ensures (few_bytes reading) c.if-not-is_whole.true-raw))
+    playing.play-state.ensures
 
-add-number : tie.Need-overflow-add-number invariant-loop decreases-loop
+add-number : tie.Need-overflow_add-number invariant-loop decreases-loop
 add-number c = search rules
 
-loop-less : tie.Need-loop-smaller invariant-loop decreases-loop
+loop-less : tie.Need-loop-number-smaller invariant-loop decreases-loop
 loop-less c = search rules
 
-loop-again : tie.Need-loop-preserved invariant-loop decreases-loop
+loop-again : tie.Need-loop-number-preserved invariant-loop decreases-loop
 loop-again c =
     let told = c.before.is_whole in
     let playing = c.before.before.before.before.before.before.before in
     let reading = read_of playing in
     let at = loop_of reading in
-    let got = reading.read-full in
-    let low : at.loop.number ≤ 65535 = omega (arith, reading.before.before.loop-test.taken) in
-    let whole : got.result ≡ 43 = whole-line got.result told.result told.ensures c.if1.false in (
+    let got = reading.read_full-got in
+    let low : at.loop.number ≤ 65535 = omega (arith, reading.before.before.loop-number-test.taken) in
+    let whole : got.result ≡ 43 = whole-line got.result told.result told.ensures c.if-not-is_whole.false-raw in (
       omega (arith, low),
-      playing.play.auto.1.0 ∙ at.loop.inv.1,
-      playing.play.auto.1.1.0 ∙ at.loop.inv.2,
-      one_more (image_in at) (world_begun at) at.loop.number (world_at at) at.loop.inv.3 low _ _ _ (world_after playing) (sym got.ensures.1 ∙ whole)
-          playing.play.ensures,
+      playing.play-state.auto.1.0 ∙ at.loop.invariant.1,
+      playing.play-state.auto.1.1.0 ∙ at.loop.invariant.2,
+      one_more (image_in at) (world_begun at) at.loop.number (world_at at) at.loop.invariant.3 low _ _ _ (world_after playing) (sym got.ensures.1 ∙ whole)
+          playing.play-state.ensures,
     )
 
-same-length-3 : tie.Need-same-length-3 invariant-loop decreases-loop
+same-length-3 : tie.Need-shape_of-pool invariant-loop decreases-loop
 same-length-3 c = search rules
 
-same-length-4 : tie.Need-same-length-4 invariant-loop decreases-loop
+same-length-4 : tie.Need-shape_of-table invariant-loop decreases-loop
 same-length-4 c = search rules
 
-returns-2 : tie.Need-returns-2 invariant-loop decreases-loop
+returns-2 : tie.Need-returns invariant-loop decreases-loop
 returns-2 c =
     let at = c.before in
-    let all : at.loop.number ≡ 65536 = omega (arith, at.loop.invariant.0, c.loop-test.false) in
-    full (image_in at) (world_begun at) at.loop.number (world_at at) at.loop.invariant.3 all
+    let all : at.loop-number.number ≡ 65536 = omega (arith, at.loop-number.invariant.0, c.loop-number-test.false) in
+    full (image_in at) (world_begun at) at.loop-number.number (world_at at) at.loop-number.invariant.3 all
 
-pub play-input-spec : {M : Type 1} → statement M
-play-input-spec =
+pub play_input_spec : {M : Type 1} → statement M
+play_input_spec =
     tie.close
     (tie.spec
     invariant-loop

@@ -4,17 +4,17 @@ use Rattle.basics.proofs.RangeLaws.{inside-ends}
 use Rattle.areas.proofs.basic.is_inside.Statement.{statement}
 use Rattle.areas.proofs.basic.is_inside.Tie as tie
 
-cast-end : tie.Need-overflow-cast-end
+cast-end : tie.Need-overflow_cast-end
 cast-end c = search rules
 
-add-end : tie.Need-overflow-add-end
+add-end : tie.Need-overflow_add-end
 add-end c = search rules
 
-cast-result : tie.Need-overflow-cast-result
+cast-result : tie.Need-overflow_cast-result
 cast-result c = search rules
 
 returns : tie.Need-returns
 returns c = inside-ends _ _ _
 
-pub is-inside-spec : {M : Type 1} → statement M
-is-inside-spec = tie.close (tie.spec cast-end add-end cast-result returns)
+pub is_inside_spec : {M : Type 1} → statement M
+is_inside_spec = tie.close (tie.spec cast-end add-end cast-result returns)

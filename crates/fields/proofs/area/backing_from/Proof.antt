@@ -3,11 +3,11 @@ use borrow.Author.Tests.{eq-eqb, ne_eqb}
 use Rattle.fields.proofs.area.backing_from.Statement.{statement}
 use Rattle.fields.proofs.area.backing_from.Tie as tie
 
-returns : tie.Need-returns
-returns c = simp (eq-eqb _ _ c.if1.true)
+returns : tie.Need-returns-then-kind-eq-IMAGE
+returns c = simp (eq-eqb _ _ c.if-kind-eq-IMAGE.true)
 
-returns-2 : tie.Need-returns-2
-returns-2 c = simp (ne_eqb _ _ c.if1.false)
+returns-2 : tie.Need-returns-else-kind-eq-IMAGE
+returns-2 c = simp (ne_eqb _ _ c.if-kind-eq-IMAGE.false)
 
-pub backing-from-spec : {M : Type 1} → statement M
-backing-from-spec = tie.close (tie.spec returns returns-2)
+pub backing_from_spec : {M : Type 1} → statement M
+backing_from_spec = tie.close (tie.spec returns returns-2)

@@ -7,45 +7,45 @@ use borrow.Author.Rules.{rules}
 use Rattle.fields.proofs.area.encode_area.Statement.{statement}
 use Rattle.fields.proofs.area.encode_area.Tie as tie
 
-slice-write-out : tie.Need-slice-write-out
+slice-write-out : tie.Need-bounds-out-0
 slice-write-out c = search rules
 
-slice-write-out-2 : tie.Need-slice-write-out-2
+slice-write-out-2 : tie.Need-bounds-out-1
 slice-write-out-2 c = search rules
 
-slice-write-out-3 : tie.Need-slice-write-out-3
+slice-write-out-3 : tie.Need-bounds-out-2
 slice-write-out-3 c = search rules
 
 flag-requires : tie.Need-flag-requires
 flag-requires c κs = search rules
 
-slice-write-out-4 : tie.Need-slice-write-out-4
+slice-write-out-4 : tie.Need-bounds-out-3
 slice-write-out-4 c = search rules
 
-kind-of-requires : tie.Need-kind-of-requires
+kind-of-requires : tie.Need-kind_of-requires
 kind-of-requires c κs = search rules
 
-slice-write-out-5 : tie.Need-slice-write-out-5
+slice-write-out-5 : tie.Need-bounds-out-4
 slice-write-out-5 c = simp length-set (omega (arith, c.before.before.before.requires))
 
-start-of-requires : tie.Need-start-of-requires
+start-of-requires : tie.Need-start_of-requires
 start-of-requires c κs = search rules
 
-slice-write-out-6 : tie.Need-slice-write-out-6
+slice-write-out-6 : tie.Need-bounds-out-5
 slice-write-out-6 c = simp length-set (omega (arith, c.before.before.before.before.requires))
 
-same_length : tie.Need-same-length
+same_length : tie.Need-shape_of-out
 same_length c = search rules
 
 returns : tie.Need-returns
 unfolding area_bytes
 returns c =
     let first = c.before.before.before.before in
-    rw (c.start_of_lem.ensures, c.before.kind-of.ensures, c.before.before.flag.ensures)
+    rw (c.start_of_lem.ensures, c.before.kind_of.ensures, c.before.before.flag.ensures)
     (stored-all (area_bytes first.args.area) first.args.out.now first.requires)
 
-pub encode-area-spec : {M : Type 1} → statement M
-encode-area-spec =
+pub encode_area_spec : {M : Type 1} → statement M
+encode_area_spec =
     tie.close
     (tie.spec
     slice-write-out

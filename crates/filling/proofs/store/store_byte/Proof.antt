@@ -10,49 +10,48 @@ use Rattle.filling.proofs.store.store_byte.Tie as tie
 
 -- ---- what is known behind the front entry and its frame
 
-abbrev behind : tie.After-front → tie.Start
+abbrev behind : tie.After-front-front → tie.Start
 behind c = c.before.before.before
 
-abbrev framed : tie.After-frame-of → tie.After-front
+abbrev framed : tie.After-frame_of → tie.After-front-front
 framed c = c.before.before.before
 
-abbrev stored : tie.After-store-byte → tie.After-frame-of
+abbrev stored : tie.After-store_byte → tie.After-frame_of
 stored c = c.before
 
 -- ---- the needs
 
-front-requires : tie.Need-front-requires
+front-requires : tie.Need-front-front-requires
 front-requires c κs = search rules
 
-returns : tie.Need-returns
+returns : tie.Need-returns-then-front-eq0
 unfolding store_byte
-returns c = λ h. sym (fill_none 256 _ _ _ (sym c.before.front.ensures ∙ c.if1.true))
+returns c = λ h. sym (fill_none 256 _ _ _ (sym c.before.front-front.ensures ∙ c.if-front-eq0.true))
 
-frame-of-requires : tie.Need-frame-of-requires
+frame-of-requires : tie.Need-frame_of-requires
 frame-of-requires c κs =
     let front = c.before.before in
-    (omega arith, rw front.front.ensures ((behind front).requires.1.1.few _))
+    (omega arith, rw front.front-front.ensures ((behind front).requires.ranged.few _))
 
-store-byte-requires : tie.Need-store-byte-requires
+store-byte-requires : tie.Need-store_byte-requires
 store-byte-requires c κs =
     let front = framed c in
     let s = behind front in
-    omega (arith, s.pre.1.1.room (front_of s.args.sandbox s.args.page.0), front.front.ensures, c.frame-of.ensures)
+    omega (arith, s.requires.ranged.room (front_of s.args.sandbox s.args.page.0), front.front-front.ensures, c.frame_of.ensures)
 
-same_length : tie.Need-same-length
+same_length : tie.Need-shape_of-pool
 same_length c = search rules
 
-returns-2 : tie.Need-returns-2
+returns-2 : tie.Need-returns
 returns-2 c = λ h.
     let byte = c.before.before in
     let frame = stored byte in
     let front = framed frame in
     let a = (behind front).args in
-    store-some 256 (front_of a.sandbox a.page.0) a.offset a.byte (kept h a.pool.now a.table.now) front.front.result
-    frame.frame-of.result.0 byte.IsStore-byte.new.0 front.front.ensures frame.before.before.if1.left frame.frame-of.ensures
+    store-some 256 (front_of a.sandbox a.page.0) a.offset a.byte (kept h a.pool.now a.table.now) front.front-front.result
+    frame.frame_of.result.0 byte.IsStore-byte.new.0 front.front-front.ensures frame.before.before.if-front-eq0.left frame.frame_of.ensures
     byte.IsStore-byte.ensures
 
-pub store-byte-spec : {M : Type 1} → statement M
-store-byte-spec =
-    tie.close
-    (tie.spec front-requires returns frame-of-requires store-byte-requires same_length returns-2)
+pub store_byte_spec : {M : Type 1} → statement M
+store_byte_spec =
+    tie.close (tie.spec front-requires returns frame-of-requires store-byte-requires same_length returns-2)

@@ -15,67 +15,67 @@ use Rattle.filling.proofs.store.take.Tie as tie
 
 -- ---- what is known of the back entry
 
-abbrev behind : tie.After-back-if → tie.Start
+abbrev behind : tie.After-back_if-under → tie.Start
 behind c = c.before.before.before.before.before.before.before.before
 
 abbrev committed : tie.Start → Bool
 committed s = is_committed s.args.page.slot
 
-under-is : (c : tie.After-back-if) → let s = behind c in
-    c.back-if.result ≡ (get_or s.args.table.now (back_at s.args.page) 0 when committed s else 0)
+under-is : (c : tie.After-back_if-under) → let s = behind c in
+    c.back_if-under.result ≡ (get_or s.args.table.now (back_at s.args.page) 0 when committed s else 0)
 under-is c =
     let s = behind c in
-    c.back-if.ensures
-    ∙ ap (λ (b : Bool). get_or s.args.table.now (back_at s.args.page) 0 when b else 0) c.before.is-committed.ensures
+    c.back_if-under.ensures
+    ∙ ap (λ (b : Bool). get_or s.args.table.now (back_at s.args.page) 0 when b else 0) c.before.is_committed.ensures
 
 -- ---- the needs
 
-backing-at-requires : tie.Need-backing-at-requires
+backing-at-requires : tie.Need-backing_at-backing-requires
 backing-at-requires c κs = search rules
 
-is-committed-requires : tie.Need-is-committed-requires
+is-committed-requires : tie.Need-is_committed-requires
 is-committed-requires c κs = search rules
 
-back-if-requires : tie.Need-back-if-requires
+back-if-requires : tie.Need-back_if-under-requires
 back-if-requires c κs = search rules
 
-fill-frame-requires : tie.Need-fill-frame-requires
+fill-frame-requires : tie.Need-fill_frame-requires
 fill-frame-requires c κs =
     let under = c.before in
     let s = behind under in
-    let ranged = s.pre.1.0 in (
-      s.pre.1.1.1,
+    let ranged = s.requires.ranged in (
+      s.requires.f_in_bounds,
       (
         rw (under-is under) (few-if 256 _ _ ranged _ (committed s)),
         (
           rw (under-is under) (room-if 256 _ _ ranged _ (committed s)),
-          omega (arith, ap backing_end under.before.before.before.backing-at.ensures, s.pre.0.backed),
+          omega (arith, ap backing_end under.before.before.before.backing-at.ensures, s.requires.placed.backed),
         ),
       ),
     )
 
-front-index-requires : tie.Need-front-index-requires
+front-index-requires : tie.Need-front_index-at-requires
 front-index-requires c κs = search rules
 
-cast-table : tie.Need-overflow-cast-table
+cast-table : tie.Need-overflow_cast-table
 cast-table c = search rules
 
-add-table : tie.Need-overflow-add-table
+add-table : tie.Need-overflow_add-table
 add-table c = search rules
 
-mul-table : tie.Need-overflow-mul-table
+mul-table : tie.Need-offset_bounds-table-at
 mul-table c = search rules
 
-slice-write-table : tie.Need-slice-write-table
+slice-write-table : tie.Need-bounds-table-at
 slice-write-table c = search rules
 
 with-requires : tie.Need-with-requires
 with-requires c κs = search rules
 
-same_length : tie.Need-same-length
+same_length : tie.Need-shape_of-pool
 same_length c = search rules
 
-same-length-2 : tie.Need-same-length-2
+same-length-2 : tie.Need-shape_of-table
 same-length-2 c = search rules
 
 returns : tie.Need-returns
@@ -92,7 +92,7 @@ returns c =
       ← under.before.before.before.backing-at.ensures,
       c.with.ensures,
       filled.fill_frame.ensures,
-      c.before.before.front-index.ensures,
+      c.before.before.front_index-at.ensures,
     )
 
 pub take_spec : {M : Type 1} → statement M

@@ -8,5 +8,5 @@ returns : tie.Need-returns
 unfolding apart_held
 returns c = refl
 
-pub apart-spec : {M : Type 1} → statement M
-apart-spec = tie.close (tie.spec returns)
+pub apart_spec : {M : Type 1} → statement M
+apart_spec = tie.close (tie.spec returns)

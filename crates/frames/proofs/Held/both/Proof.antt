@@ -8,5 +8,5 @@ returns : tie.Need-returns
 unfolding both_held
 returns c = refl
 
-pub both-spec : {M : Type 1} → statement M
-both-spec = tie.close (tie.spec returns)
+pub both_spec : {M : Type 1} → statement M
+both_spec = tie.close (tie.spec returns)

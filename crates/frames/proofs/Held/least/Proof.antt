@@ -11,31 +11,31 @@ use Rattle.frames.proofs.Held.least.Statement.{statement}
 use Rattle.frames.proofs.Held.least.Tie as tie
 
 -- the way back from where a fact is needed to where it was learned
-abbrev at-start : tie.After-lowest-set2 → tie.Start
+abbrev at-start : tie.After-lowest_set → tie.Start
 at-start c = c.before.before.before
 
-lowest-set-requires : tie.Need-lowest-set-requires
+lowest-set-requires : tie.Need-lowest_set-low-requires
 lowest-set-requires c κs = search rules
 
-returns : tie.Need-returns
+returns : tie.Need-returns-then-low-lt-WORD
 returns c =
     let self = c.before.before.args.self in
-    sym (rw (lt-ltb _ 64 c.if1.true)) ∙ least-words self c.before.lowest_set.result _ c.before.lowest_set.ensures refl
+    sym (rw (lt-ltb _ 64 c.if-low-lt-WORD.true)) ∙ least-words self c.before.lowest_set-low.result _ c.before.lowest_set-low.ensures refl
 
-lowest-set-requires-2 : tie.Need-lowest-set-requires-2
+lowest-set-requires-2 : tie.Need-lowest_set-requires
 lowest-set-requires-2 c κs = search rules
 
-add-result : tie.Need-overflow-add-result
+add-result : tie.Need-overflow_add-result
 add-result c =
     let words = (at-start c).args.self in
     let range = (lowest-range (λ k. eqb (bit words.high k) 1) 0 64).1 in
-    record { fits = omega (arith, c.lowest-set2.ensures, range) }
+    record { fits = omega (arith, c.lowest_set.ensures, range) }
 
-returns-2 : tie.Need-returns-2
+returns-2 : tie.Need-returns
 returns-2 c =
     let self = (at-start c).args.self in
-    sym (rw (le-ltb _ 64 c.before.if1.false))
-    ∙ least-words self c.before.before.lowest_set.result c.lowest-set2.result c.before.before.lowest_set.ensures c.lowest-set2.ensures
+    sym (rw (le-ltb _ 64 c.before.if-low-lt-WORD.false))
+    ∙ least-words self c.before.before.lowest_set-low.result c.lowest_set.result c.before.before.lowest_set-low.ensures c.lowest_set.ensures
 
-pub least-spec : {M : Type 1} → statement M
-least-spec = tie.close (tie.spec lowest-set-requires returns lowest-set-requires-2 add-result returns-2)
+pub least_spec : {M : Type 1} → statement M
+least_spec = tie.close (tie.spec lowest-set-requires returns lowest-set-requires-2 add-result returns-2)

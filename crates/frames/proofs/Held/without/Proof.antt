@@ -9,5 +9,5 @@ marked-requires c κs = search rules
 returns : tie.Need-returns
 returns c = c.marked.ensures
 
-pub without-spec : {M : Type 1} → statement M
-without-spec = tie.close (tie.spec marked-requires returns)
+pub without_spec : {M : Type 1} → statement M
+without_spec = tie.close (tie.spec marked-requires returns)

@@ -9,64 +9,64 @@ use Rattle.table.proofs.FreeLaws.{free_more, free-kept-as}
 use Rattle.freeing.proofs.store.free_each.Statement.{statement}
 use Rattle.freeing.proofs.store.free_each.Tie as tie
 
-abbrev invariant-loop : tie.invariant-loop
+abbrev invariant-loop : tie.invariant-loop-i
 invariant-loop pool₀ table₀ at n h₀ i₀ pool table h i = (i ≤ n) × (length pool ≡ length pool₀) ×
     (length table ≡ length table₀) × Ranged 256 pool table × (kept h pool table ≡ free_to 256 at (kept h₀ pool₀ table₀) i)
 
-abbrev decreases-loop : tie.decreases-loop
+abbrev decreases-loop : tie.decreases-loop-i
 decreases-loop pool₀ table₀ at n h₀ i₀ pool table h i = n - i
 
 -- where an entry is freed in a turn
-abbrev turning : tie.After-free-entry-arg2 invariant-loop decreases-loop → tie.In-loop invariant-loop decreases-loop
+abbrev turning : tie.After-free_entry-arg-in-loop-i-1 invariant-loop decreases-loop → tie.In-loop-i invariant-loop decreases-loop
 turning c = c.before.before
 
-abbrev behind : tie.In-loop invariant-loop decreases-loop → tie.Start invariant-loop decreases-loop
+abbrev behind : tie.In-loop-i invariant-loop decreases-loop → tie.Start invariant-loop decreases-loop
 behind c = c.before.before.before.before
 
-loop-holds : tie.Need-loop-init invariant-loop decreases-loop
+loop-holds : tie.Need-loop-i-init invariant-loop decreases-loop
 unfolding free_to
-loop-holds c = (search rules, refl, refl, c.before.before.requires.1, refl)
+loop-holds c = (search rules, refl, refl, c.before.before.requires.ranged, refl)
 
-cast-free-entry : tie.Need-overflow-cast-free-entry invariant-loop decreases-loop
+cast-free-entry : tie.Need-overflow_cast-i invariant-loop decreases-loop
 cast-free-entry c = search rules
 
-add-free-entry : tie.Need-overflow-add-free-entry invariant-loop decreases-loop
+add-free-entry : tie.Need-overflow_add-at invariant-loop decreases-loop
 add-free-entry c = search rules
 
-free-entry-requires : tie.Need-free-entry-requires invariant-loop decreases-loop
-free-entry-requires c κs = (omega arith, (turning c).before.loop.invariant.3)
+free-entry-requires : tie.Need-free_entry-h-requires invariant-loop decreases-loop
+free-entry-requires c κs = (omega arith, (turning c).before.loop-i.invariant.3)
 
-add-i : tie.Need-overflow-add-i invariant-loop decreases-loop
+add-i : tie.Need-overflow_step-i invariant-loop decreases-loop
 add-i c = search rules
 
-loop-less : tie.Need-loop-smaller invariant-loop decreases-loop
+loop-less : tie.Need-loop-i-smaller invariant-loop decreases-loop
 loop-less c = search rules
 
-loop-again : tie.Need-loop-preserved invariant-loop decreases-loop
+loop-again : tie.Need-loop-i-preserved invariant-loop decreases-loop
 loop-again c =
     let freed = c.before.before.before.before in
     let turn = turning freed.before in
-    let l = turn.before.loop in
+    let l = turn.before.loop-i in
     let at = (behind turn).args.at in
-    let f = freed.free-entry in
+    let f = freed.free_entry-h in
     let r = kept l.h l.pool l.table in
     let q = kept f.result f.new.1.0 f.new.1.1.0 in
-    let k = free-kept-as 256 (at + l.i) r q f.ensures l.inv.3 in
-    (search rules, k.pool ∙ l.inv.1, k.table ∙ l.inv.2, k.ranged, free_more 256 at l.i _ r q l.inv.4 f.ensures)
+    let k = free-kept-as 256 (at + l.i) r q f.ensures l.invariant.3 in
+    (search rules, k.pool ∙ l.invariant.1, k.table ∙ l.invariant.2, k.ranged, free_more 256 at l.i _ r q l.invariant.4 f.ensures)
 
-same_length : tie.Need-same-length invariant-loop decreases-loop
+same_length : tie.Need-shape_of-pool invariant-loop decreases-loop
 same_length c = search rules
 
-same-length-2 : tie.Need-same-length-2 invariant-loop decreases-loop
+same-length-2 : tie.Need-shape_of-table invariant-loop decreases-loop
 same-length-2 c = search rules
 
 returns : tie.Need-returns invariant-loop decreases-loop
 returns c =
     let at = c.before.before.before.before.args.at in
-    c.before.loop.invariant.4 ∙ ap (free_to 256 at _) (omega arith)
+    c.before.loop-i.invariant.4 ∙ ap (free_to 256 at _) (omega arith)
 
-pub free-each-spec : {M : Type 1} → statement M
-free-each-spec =
+pub free_each_spec : {M : Type 1} → statement M
+free_each_spec =
     tie.close
     (tie.spec
     invariant-loop

@@ -17,62 +17,62 @@ use Rattle.gazhuppin.proofs.calls.gazhuppin_call.Tie as tie
 abbrev hands : tie.Start → Handed
 hands c = handed c.args.state.now c.args.pool.now c.args.table.now
 
-abbrev asking : tie.After-is-state → tie.After-request
+abbrev asking : tie.After-is_state → tie.After-request-q
 asking c = c.before.before
 
-abbrev start : tie.After-request → tie.Start
+abbrev start : tie.After-request-q → tie.Start
 start c = c.before.before.before.before.before
 
-abbrev behind_no : tie.Then1 → tie.Start
+abbrev behind_no : tie.Then-not-is_state → tie.Start
 behind_no c = start (asking c.before)
 
-abbrev behind_yes : tie.Else1 → tie.Start
+abbrev behind_yes : tie.Else-not-is_state → tie.Start
 behind_yes c = start (asking c.before)
 
-abbrev passed : tie.After-decode → tie.Else1
+abbrev passed : tie.After-decode → tie.Else-not-is_state
 passed c = c.before.before
 
-abbrev decoded : tie.After-call → tie.After-decode
+abbrev decoded : tie.After-call-reply → tie.After-decode
 decoded c = c.before.before.before
 
-abbrev called : tie.After-encode-arg → tie.After-call
+abbrev called : tie.After-encode-arg-1 → tie.After-call-reply
 called c = c.before.before.before.before.before.before
 
 abbrev written : tie.After-by → tie.After-encode
 written c = c.before.before.before
 
-no-state : (c : tie.Then1) → is_state (behind_no c).args.state.now ≡ false
-no-state c = fails-test (behind_no c).args.state.now c.before.is_state.result c.before.is_state.ensures c.if1.true
+no-state : (c : tie.Then-not-is_state) → is_state (behind_no c).args.state.now ≡ false
+no-state c = fails-test (behind_no c).args.state.now c.before.is_state.result c.before.is_state.ensures c.if-not-is_state.true-raw
 
-a-state : (c : tie.Else1) → is_state (behind_yes c).args.state.now ≡ true
-a-state c = passes-test (behind_yes c).args.state.now c.before.is_state.result c.before.is_state.ensures c.if1.false
+a-state : (c : tie.Else-not-is_state) → is_state (behind_yes c).args.state.now ≡ true
+a-state c = passes-test (behind_yes c).args.state.now c.before.is_state.result c.before.is_state.ensures c.if-not-is_state.false-raw
 
 -- ---- the answers
 
-request-requires : tie.Need-request-requires
+request-requires : tie.Need-request-q-requires
 request-requires c κs = search rules
 
-is-state-requires : tie.Need-is-state-requires
+is-state-requires : tie.Need-is_state-requires
 is-state-requires c κs = search rules
 
-without-state-requires : tie.Need-without-state-requires
+without-state-requires : tie.Need-without_state-requires
 without-state-requires c κs = search rules
 
-same_length : tie.Need-same-length
+same_length : tie.Need-shape_of-state-then-not-is_state
 same_length c = search rules
 
-returns : tie.Need-returns
+returns : tie.Need-returns-then-not-is_state
 returns c =
     let branch = c.before in
     let first = behind_no branch in
-    let request = (asking branch.before).request in
+    let request = (asking branch.before).request-q in
     rw (← request.ensures)
-    (call-unsound first.args.image.now (hands first) request.result c.without-state.result (no-state branch) c.without-state.ensures)
+    (call-unsound first.args.image.now (hands first) request.result c.without_state.result (no-state branch) c.without_state.ensures)
 
 decode-requires : tie.Need-decode-requires
 decode-requires c κs = state-long (behind_yes c.before).args.state.now (a-state c.before)
 
-call-requires : tie.Need-call-requires
+call-requires : tie.Need-call-reply-requires
 call-requires c κs = search rules
 
 encode-requires : tie.Need-encode-requires
@@ -83,33 +83,33 @@ encode-requires c κs =
 by-requires : tie.Need-by-requires
 by-requires c κs = search rules
 
-same-length-2 : tie.Need-same-length-2
+same-length-2 : tie.Need-shape_of-state
 same-length-2 c = search rules
 
-same-length-3 : tie.Need-same-length-3
+same-length-3 : tie.Need-shape_of-pool
 same-length-3 c = search rules
 
-same-length-4 : tie.Need-same-length-4
+same-length-4 : tie.Need-shape_of-table
 same-length-4 c = search rules
 
-returns-2 : tie.Need-returns-2
+returns-2 : tie.Need-returns
 returns-2 c =
     let encoding = (written c).encode in
     let calling = called (written c).before in
     let decoding = decoded calling in
     let branch = passed decoding in
     let first = behind_yes branch in
-    let known = (asking branch.before).before.before.before.before.slice-known.given in
+    let known = (asking branch.before).before.before.before.before.slice_known-1.given in
     let bytes : Bytes first.args.state.now = record { at = λ i. omega (arith, known i) } in
     let reply = calling.call in
-    let request = (asking branch.before).request in
+    let request = (asking branch.before).request-q in
     rw (← request.ensures)
     (call-stepped first.args.image.now (hands first) request.result bytes (a-state branch)
     decoding.decode.result reply.result c.by.result encoding.last.1.0 reply.last.1.0 reply.last.1.1.0
     decoding.decode.ensures reply.ensures encoding.ensures c.by.ensures)
 
-pub gazhuppin-call-spec : {M : Type 1} → statement M
-gazhuppin-call-spec =
+pub gazhuppin_call_spec : {M : Type 1} → statement M
+gazhuppin_call_spec =
     tie.close
     (tie.spec
     request-requires

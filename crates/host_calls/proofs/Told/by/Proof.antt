@@ -6,7 +6,7 @@ use Rattle.host_calls.proofs.Told.by.Tie as tie
 number-requires : tie.Need-number-requires
 number-requires c κs = search rules
 
-cast-t3 : tie.Need-overflow-cast-t3
+cast-t3 : tie.Need-overflow_cast-result
 cast-t3 c = search rules
 
 value-requires : tie.Need-value-requires
@@ -15,5 +15,5 @@ value-requires c κs = search rules
 returns : tie.Need-returns
 returns c = rw (c.value.ensures, c.before.number.ensures)
 
-pub by-spec : {M : Type 1} → statement M
-by-spec = tie.close (tie.spec number-requires cast-t3 value-requires returns)
+pub by_spec : {M : Type 1} → statement M
+by_spec = tie.close (tie.spec number-requires cast-t3 value-requires returns)

@@ -5,25 +5,25 @@ use borrow.Author.Rules.{rules}
 use Rattle.host_calls.proofs.Told.without_state.Statement.{statement}
 use Rattle.host_calls.proofs.Told.without_state.Tie as tie
 
-is-call-requires : tie.Need-is-call-requires
+is-call-requires : tie.Need-is_call-requires
 is-call-requires c κs = search rules
 
 by-requires : tie.Need-by-requires
 by-requires c κs = search rules
 
-returns : tie.Need-returns
+returns : tie.Need-returns-then-not-is_call
 returns c =
-    let code = c.before.before.is-call in
-    rw (c.by.ensures, sym code.ensures ∙ not-true code.result c.before.if1.true) refl
+    let code = c.before.before.is_call in
+    rw (c.by.ensures, sym code.ensures ∙ not-true code.result c.before.if-not-is_call.true-raw) refl
 
 by-requires-2 : tie.Need-by-requires-2
 by-requires-2 c κs = search rules
 
-returns-2 : tie.Need-returns-2
+returns-2 : tie.Need-returns
 returns-2 c =
-    let code = c.before.before.is-call in
-    rw (c.by2.ensures, sym code.ensures ∙ not-false code.result c.before.if1.false) refl
+    let code = c.before.before.is_call in
+    rw (c.by-2.ensures, sym code.ensures ∙ not-false code.result c.before.if-not-is_call.false-raw) refl
 
-pub without-state-spec : {M : Type 1} → statement M
-without-state-spec =
+pub without_state_spec : {M : Type 1} → statement M
+without_state_spec =
     tie.close (tie.spec is-call-requires by-requires returns by-requires-2 returns-2)

@@ -21,71 +21,63 @@ use Rattle.in_place.proofs.look.look.Tie as tie
 abbrev Here : tie.Start → World → Type 0
 Here s w = Around s.args.image.now s.args.q s.args.b s.args.pool.now s.args.table.now w
 
-abbrev start : tie.After-rec → tie.Start
+abbrev start : tie.After-rec-1 → tie.Start
 start c = c.before.before.before.before
 
 -- ---- what was decided
 
-abbrev decided : tie.After-decide → tie.Start
+abbrev decided : tie.After-decide-verdict → tie.Start
 decided c = start c.before
 
-number : (c : tie.After-decide) (w : World) → Here (decided c) w
-    → verdict_number c.decide.result ≡ number_at (decided c).args.image.now w (decided c).args.q
-number c w A = number-here A (verdict_number c.decide.result) c.decide.ensures
+number : (c : tie.After-decide-verdict) (w : World) → Here (decided c) w
+    → verdict_number c.decide-verdict.result ≡ number_at (decided c).args.image.now w (decided c).args.q
+number c w A = number-here A (verdict_number c.decide-verdict.result) c.decide-verdict.ensures
 
-accepted : (c : tie.After-decide) (w : World) → Here (decided c) w → c.decide.result ≡ Accepted
+accepted : (c : tie.After-decide-verdict) (w : World) → Here (decided c) w → c.decide-verdict.result ≡ Accepted
     → number_at (decided c).args.image.now w (decided c).args.q ≡ 0
 accepted c w A e = sym (number c w A) ∙ ap verdict_number e
 
 -- ---- the needs
 
-cast-images : tie.Need-overflow-cast-images
-cast-images c = omega (arith, (state (start c).requires.1.1.1).images)
+cast-images : tie.Need-overflow_cast-images
+cast-images c = omega (arith, (state (start c).requires.stands.1).images)
 
-decide-requires : tie.Need-decide-requires
+decide-requires : tie.Need-decide-verdict-requires
 decide-requires c κs = let p = (start c).requires in (look-unpaged (start c).args.q p.0, (p.1.0, ready-here p.1.1.1 p.1.0))
 
-enum-known-verdict : tie.Need-enum-known-verdict
+enum-known-verdict : tie.Need-enum_known-verdict
 enum-known-verdict c = search rules
 
-enum_told : tie.Need-enum-told
+enum_told : tie.Need-enum_told-1
 enum_told c = search rules
 
-value-of-requires : tie.Need-value-of-requires
+value-of-requires : tie.Need-value_of-requires
 value-of-requires c κs =
     let deciding = c.before.before in
     let s = decided deciding in
-    let row = s.pre.1.0 in
-    let w = s.pre.1.1.0 in
-    let A = s.pre.1.1.1 in
-    let parts = asked s.args.image.now w s.args.q (state A) (accepted deciding w A c.enum_told.given.1) in
-    (row, (parts.fit, (ready-here A row, (ranged-here A, (few-frames A, eqb-false s.args.q.code rewind_code (look-stays s.args.q s.pre.0))))))
+    let row = s.requires.sandbox_bound in
+    let w = s.requires.stands.0 in
+    let A = s.requires.stands.1 in
+    let parts = asked s.args.image.now w s.args.q (state A) (accepted deciding w A c.enum_told-1.given.1) in
+    (row, (parts.fit, (ready-here A row, (ranged-here A, (few-frames A, eqb-false s.args.q.code rewind_code (look-stays s.args.q s.requires.is_value))))))
 
-returns : tie.Need-returns
+returns : tie.Need-returns-in-Refused
 returns c w A =
     let arm = c.before in
     let deciding = arm.before.before in
     let a = (decided deciding).args in
-    stepped-refused a.image.now w a.q arm.verdict.given.0.0 (ap verdict_number (sym arm.verdict.given.1) ∙ number deciding w A)
+    stepped-refused a.image.now w a.q arm.verdict-1.given.0.0 (ap verdict_number (sym arm.verdict-1.given.1) ∙ number deciding w A)
 
-returns-2 : tie.Need-returns-2
+returns-2 : tie.Need-returns-in-Accepted
 returns-2 c w A =
     let arm = c.before in
     let deciding = arm.before.before in
     let s = decided deciding in
     let q = s.args.q in
-    let unpaged = look-unpaged q s.pre.0 in
-    looked A (few-unpaged q unpaged) (look-stays q s.pre.0) (accepted deciding w A arm.enum_told.given.1) (no_write q unpaged) c.value_of_lem.result
+    let unpaged = look-unpaged q s.requires.is_value in
+    looked A (few-unpaged q unpaged) (look-stays q s.requires.is_value) (accepted deciding w A arm.enum_told-1.given.1) (no_write q unpaged) c.value_of_lem.result
     c.value_of_lem.ensures
 
 pub look_spec : {M : Type 1} → statement M
 look_spec =
-    tie.close
-    (tie.spec
-    cast-images
-    decide-requires
-    enum-known-verdict
-    enum_told
-    value-of-requires
-    returns
-    returns-2)
+    tie.close (tie.spec cast-images decide-requires enum-known-verdict enum_told value-of-requires returns returns-2)

@@ -8,73 +8,73 @@ use Rattle.page_fill.proofs.backing.fill_frame.Statement.{statement}
 use Rattle.page_fill.proofs.backing.fill_frame.Tie as tie
 
 -- behind the arms
-abbrev cleared : tie.After-clear-frame → tie.After-enum-told
+abbrev cleared : tie.After-clear_frame → tie.In-Anonymous
 cleared c = c.before.before
 
-abbrev paged : tie.After-struct-known → tie.After-backing
+abbrev paged : tie.After-struct_known-1 → tie.In-Image-2
 paged c = c.before.before
 
-abbrev behind : tie.After-backing → tie.Start
+abbrev behind : tie.In-Image-2 → tie.Start
 behind c = c.before.before.before.before
 
-abbrev loaded : tie.After-fill-frame → tie.After-load
+abbrev loaded : tie.After-fill_frame → tie.After-load-bytes
 loaded c = c.before.before.before
 
-enum_told : tie.Need-enum-told
+enum_told : tie.Need-enum_told-1
 enum_told c = search rules
 
-clear-frame-requires : tie.Need-clear-frame-requires
+clear-frame-requires : tie.Need-clear_frame-requires
 clear-frame-requires c κs = search rules
 
-enum-known-backing : tie.Need-enum-known-backing
+enum-known-backing : tie.Need-enum_known-backing
 enum-known-backing c = search rules
 
-cast-start : tie.Need-overflow-cast-start
+cast-start : tie.Need-overflow_cast-start
 cast-start c = search rules
 
-mul-start : tie.Need-overflow-mul-start
+mul-start : tie.Need-overflow_mul-start
 mul-start c = search rules
 
-add-end : tie.Need-overflow-add-end
+add-end : tie.Need-overflow_add-end
 add-end c = search rules
 
-sub-load : tie.Need-overflow-sub-load
+sub-load : tie.Need-slice_bounds-load-count
 sub-load c = search rules
 
-part-load-start : tie.Need-slice-bounds-load-start
+part-load-start : tie.Need-slice_bounds-load-start
 part-load-start c = search rules
 
-part-load-end : tie.Need-slice-bounds-load-end
-part-load-end c = omega (arith, ap backing_end (paged c).backing.given.1)
+part-load-end : tie.Need-slice_bounds-load-end
+part-load-end c = omega (arith, ap backing_end (paged c).backing-1.given.1)
 
-load-requires : tie.Need-load-requires
+load-requires : tie.Need-load-bytes-requires
 load-requires c κs = search rules
 
-slice-aggregate-fill-frame : tie.Need-slice-aggregate-fill-frame
+slice-aggregate-fill-frame : tie.Need-slice_bounds-fill_frame-end
 slice-aggregate-fill-frame c = search rules
 
-fill-frame-requires : tie.Need-fill-frame-requires
+fill-frame-requires : tie.Need-fill_frame-requires
 fill-frame-requires c κs = search rules
 
-same_length : tie.Need-same-length
+same_length : tie.Need-shape_of-pool-in-Anonymous
 same_length c = search rules
 
-returns : tie.Need-returns
-returns c = let clear = c.before.before in rw (cleared clear).enum_told.given.1 clear.clear-frame.ensures
+returns : tie.Need-returns-in-Anonymous
+returns c = let clear = c.before.before in rw (cleared clear).enum_told-1.given.1 clear.clear_frame.ensures
 
-same-length-2 : tie.Need-same-length-2
+same-length-2 : tie.Need-shape_of-pool-in-Image
 same-length-2 c = search rules
 
-returns-2 : tie.Need-returns-2
+returns-2 : tie.Need-returns-in-Image
 returns-2 c =
     let filled = c.before.before in
     let load = loaded filled in
     let page = paged load.before.before in
-    let known = page.backing.given in
-    rw (known.1, ← part-is-frame 256 (behind page).args.image.now known.0.0.0, ← load.load.ensures) filled.fill_frame.ensures
+    let known = page.backing-1.given in
+    rw (known.1, ← part-is-frame 256 (behind page).args.image.now known.0.0.0, ← load.load-bytes.ensures) filled.fill_frame.ensures
 
-pub fill-frame-spec : {M : Type 1} → statement M
-fill-frame-spec =
+pub fill_frame_spec : {M : Type 1} → statement M
+fill_frame_spec =
     tie.close
     (tie.spec
     enum_told

@@ -18,81 +18,81 @@ use Rattle.places.proofs.area.decode_areas.Tie as tie
 abbrev area_in : List ℕ → ℕ → Area
 area_in bytes j = area_from (part_in area_size (drop 1 bytes) j)
 
-abbrev invariant-loop : tie.invariant-loop
+abbrev invariant-loop : tie.invariant-loop-k
 invariant-loop bytes areas₀ k₀ areas k = (areas.count ≡ get_or bytes 0 0) × Filled (area_in bytes) 8 (replicate 8 none) areas.list k
 
-abbrev decreases-loop : tie.decreases-loop
+abbrev decreases-loop : tie.decreases-loop-k
 decreases-loop bytes areas₀ k₀ areas k = 8 - k
 
 -- the bytes, seen from the loop
-abbrev bytes_of : tie.At-loop invariant-loop decreases-loop → List ℕ
+abbrev bytes_of : tie.At-loop-k invariant-loop decreases-loop → List ℕ
 bytes_of c = c.before.before.before.before.args.bytes.now
 
-empty-requires : tie.Need-empty-requires invariant-loop decreases-loop
+empty-requires : tie.Need-empty-areas-requires invariant-loop decreases-loop
 empty-requires c κs = search rules
 
-shared-slice-read-areas : tie.Need-shared-slice-read-areas invariant-loop decreases-loop
+shared-slice-read-areas : tie.Need-bounds-bytes-0 invariant-loop decreases-loop
 shared-slice-read-areas c = search rules
 
-loop-holds : tie.Need-loop-init invariant-loop decreases-loop
+loop-holds : tie.Need-loop-k-init invariant-loop decreases-loop
 loop-holds c =
     let bytes = c.before.before.before.args.bytes.now in
-    let none_yet = c.before.empty in
+    let none_yet = c.before.empty-areas in
     (refl, filled_none (area_in bytes) 8 (replicate 8 none) none_yet.result.list (ap (λ a. a.list) none_yet.ensures))
 
-mul_at : tie.Need-overflow-mul-at invariant-loop decreases-loop
+mul_at : tie.Need-overflow_mul-at invariant-loop decreases-loop
 mul_at c = search rules
 
-add_at : tie.Need-overflow-add-at invariant-loop decreases-loop
+add_at : tie.Need-overflow_add-at invariant-loop decreases-loop
 add_at c = search rules
 
-add-end : tie.Need-overflow-add-end invariant-loop decreases-loop
+add-end : tie.Need-overflow_add-end invariant-loop decreases-loop
 add-end c = search rules
 
-sub-decode-area : tie.Need-overflow-sub-decode-area invariant-loop decreases-loop
+sub-decode-area : tie.Need-slice_bounds-decode_area-count invariant-loop decreases-loop
 sub-decode-area c = search rules
 
-part-decode-area-start : tie.Need-slice-bounds-decode-area-start invariant-loop decreases-loop
+part-decode-area-start : tie.Need-slice_bounds-decode_area-start invariant-loop decreases-loop
 part-decode-area-start c = search rules
 
-part-decode-area-end : tie.Need-slice-bounds-decode-area-end invariant-loop decreases-loop
+part-decode-area-end : tie.Need-slice_bounds-decode_area-end invariant-loop decreases-loop
 part-decode-area-end c = search rules
 
-decode-area-requires : tie.Need-decode-area-requires invariant-loop decreases-loop
+decode-area-requires : tie.Need-decode_area-area-requires invariant-loop decreases-loop
 decode-area-requires c κs = search rules
 
-mul-area : tie.Need-overflow-mul-area invariant-loop decreases-loop
+mul-area : tie.Need-offset_bounds-areas-k invariant-loop decreases-loop
 mul-area c = search rules
 
-element-set-from-area : tie.Need-element-set-from-area invariant-loop decreases-loop
+element-set-from-area : tie.Need-bounds-areas-k invariant-loop decreases-loop
 element-set-from-area c = search rules
 
-add-k : tie.Need-overflow-add-k invariant-loop decreases-loop
+add-k : tie.Need-overflow_step-k invariant-loop decreases-loop
 add-k c = search rules
 
-loop-less : tie.Need-loop-smaller invariant-loop decreases-loop
+loop-less : tie.Need-loop-k-smaller invariant-loop decreases-loop
 loop-less c = search rules
 
-loop-again : tie.Need-loop-preserved invariant-loop decreases-loop
+loop-again : tie.Need-loop-k-preserved invariant-loop decreases-loop
 loop-again c =
     let turn = c.before.before in
-    let at = turn.before.loop in
+    let at = turn.before.loop-k in
     let bytes = bytes_of turn.before in
-    let got : c.decode-area.result ≡ area_in bytes at.k
-    = c.decode-area.ensures ∙ ap area_from (part-lent-behind bytes 1 (at.k * area_size) area_size) in
-    let more = turn.loop-test.true in
-    (at.invariant.0, filled_next (area_in bytes) 8 (replicate 8 none) none at.areas.list at.k c.decode-area.result (omega arith) at.invariant.1 more got)
+    let got : c.decode_area-area.result ≡ area_in bytes at.k
+    = c.decode_area-area.ensures ∙ ap area_from (part-lent-behind bytes 1 (at.k * area_size) area_size) in
+    let more = turn.loop-k-test.true in
+    (at.invariant.0, filled_next (area_in bytes) 8 (replicate 8 none) none at.areas.list at.k c.decode_area-area.result (omega arith) at.invariant.1 more got)
 
 returns : tie.Need-returns invariant-loop decreases-loop
 unfolding areas_from
 returns c =
-    let at = c.before.loop in
+    let at = c.before.loop-k in
     let bytes = bytes_of c.before in
-    let all = filled-all (area_in bytes) 8 (replicate 8 none) at.areas.list at.k refl at.invariant.1 (omega (arith, c.loop-test.false)) in
+    let all = filled-all (area_in bytes) 8 (replicate 8 none) at.areas.list at.k refl at.invariant.1 (omega (arith, c.loop-k-test.false)) in
     λ i. record { count = at.invariant.0 i; list = all i }
 
-pub decode-areas-spec : {M : Type 1} → statement M
-decode-areas-spec =
+pub decode_areas_spec : {M : Type 1} → statement M
+decode_areas_spec =
     tie.close
     (tie.spec
     invariant-loop

@@ -11,73 +11,73 @@ use borrow.Author.Rules.{rules}
 use Rattle.places.proofs.area.encode_places.Statement.{statement}
 use Rattle.places.proofs.area.encode_places.Tie as tie
 
-abbrev invariant-loop : tie.invariant-loop
+abbrev invariant-loop : tie.invariant-loop-k
 invariant-loop out₀ areas k₀ out k = Written (λ j. area_bytes (get_or areas.list j none)) area_size 8 out₀ out k
 
-abbrev decreases-loop : tie.decreases-loop
+abbrev decreases-loop : tie.decreases-loop-k
 decreases-loop out₀ areas k₀ out k = 8 - k
 
 -- the turn and the start, seen from the end of a turn
-abbrev turn_of : tie.After-encode-area invariant-loop decreases-loop → tie.In-loop invariant-loop decreases-loop
+abbrev turn_of : tie.After-encode_area invariant-loop decreases-loop → tie.In-loop-k invariant-loop decreases-loop
 turn_of c = c.before.before.before
 
-abbrev start_of : tie.At-loop invariant-loop decreases-loop → tie.Start invariant-loop decreases-loop
+abbrev start_of : tie.At-loop-k invariant-loop decreases-loop → tie.Start invariant-loop decreases-loop
 start_of c = c.before.before
 
-loop-holds : tie.Need-loop-init invariant-loop decreases-loop
-loop-holds c = written_none (λ j. area_bytes (get_or c.before.args.t1.list j none)) area_size 8 c.before.args.out.now c.before.requires
+loop-holds : tie.Need-loop-k-init invariant-loop decreases-loop
+loop-holds c = written_none (λ j. area_bytes (get_or c.before.args.areas.list j none)) area_size 8 c.before.args.out.now c.before.requires
 
-mul_at : tie.Need-overflow-mul-at invariant-loop decreases-loop
+mul_at : tie.Need-overflow_mul-at invariant-loop decreases-loop
 mul_at c = search rules
 
-add-end : tie.Need-overflow-add-end invariant-loop decreases-loop
+add-end : tie.Need-overflow_add-end invariant-loop decreases-loop
 add-end c = search rules
 
-mul-area : tie.Need-overflow-mul-area invariant-loop decreases-loop
+mul-area : tie.Need-offset_bounds-areas-k invariant-loop decreases-loop
 mul-area c = search rules
 
-element-copy-out-area : tie.Need-element-copy-out-area invariant-loop decreases-loop
+element-copy-out-area : tie.Need-bounds-areas-k invariant-loop decreases-loop
 element-copy-out-area c = search rules
 
-sub-encode-area : tie.Need-overflow-sub-encode-area invariant-loop decreases-loop
+sub-encode-area : tie.Need-slice_bounds-encode_area-count invariant-loop decreases-loop
 sub-encode-area c = search rules
 
-part-encode-area-start : tie.Need-slice-bounds-encode-area-start invariant-loop decreases-loop
+part-encode-area-start : tie.Need-slice_bounds-encode_area-start invariant-loop decreases-loop
 part-encode-area-start c = search rules
 
-part-encode-area-end : tie.Need-slice-bounds-encode-area-end invariant-loop decreases-loop
+part-encode-area-end : tie.Need-slice_bounds-encode_area-end invariant-loop decreases-loop
 part-encode-area-end c = search rules
 
-encode-area-requires : tie.Need-encode-area-requires invariant-loop decreases-loop
+encode-area-requires : tie.Need-encode_area-requires invariant-loop decreases-loop
 encode-area-requires c κs = search rules
 
-add-k : tie.Need-overflow-add-k invariant-loop decreases-loop
+add-k : tie.Need-overflow_step-k invariant-loop decreases-loop
 add-k c = search rules
 
-loop-less : tie.Need-loop-smaller invariant-loop decreases-loop
+loop-less : tie.Need-loop-k-smaller invariant-loop decreases-loop
 loop-less c = search rules
 
-loop-again : tie.Need-loop-preserved invariant-loop decreases-loop
+loop-again : tie.Need-loop-k-preserved invariant-loop decreases-loop
 loop-again c =
     let got = c.before.before in
     let turn = turn_of got in
-    let at = turn.before.loop in
+    let at = turn.before.loop-k in
     let a = (start_of turn.before).args in
-    let f : ℕ → List ℕ = λ j. area_bytes (get_or a.t1.list j none) in
-    written_next f area_size 8 a.out.now (λ j. length-area (get_or a.t1.list j none)) at.out got.encode-area.new.1.0 at.k at.inv
-    turn.loop-test.taken got.encode-area.ensures
+    let f : ℕ → List ℕ = λ j. area_bytes (get_or a.areas.list j none) in
+    written_next f area_size 8 a.out.now (λ j. length-area (get_or a.areas.list j none)) at.out got.encode_area.new.1.0 at.k at.invariant
+    turn.loop-k-test.taken got.encode_area.ensures
 
-same_length : tie.Need-same-length invariant-loop decreases-loop
+same_length : tie.Need-shape_of-out invariant-loop decreases-loop
 same_length c = search rules
 
 returns : tie.Need-returns invariant-loop decreases-loop
 returns c =
     let a = (start_of c.before).args in
-    let at = c.before.loop in
-    written_all (λ j. area_bytes (get_or a.t1.list j none)) area_size 8 a.out.now at.out at.k at.invariant (omega (arith, c.loop-test.false))
+    let at = c.before.loop-k in
+    written_all (λ j. area_bytes (get_or a.areas.list j none)) area_size 8 a.out.now at.out at.k at.invariant (omega (arith, c.loop-k-test.false))
 
-pub encode-places-spec : {M : Type 1} → statement M
-encode-places-spec =
+pub encode_places_spec : {M : Type 1} → statement M
+encode_places_spec =
     tie.close
     (tie.spec
     invariant-loop

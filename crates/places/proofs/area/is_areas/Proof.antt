@@ -12,63 +12,63 @@ use borrow.Author.Rules.{rules}
 use Rattle.places.proofs.area.is_areas.Statement.{statement}
 use Rattle.places.proofs.area.is_areas.Tie as tie
 
-abbrev invariant-loop : tie.invariant-loop
+abbrev invariant-loop : tie.invariant-loop-k
 invariant-loop bytes all₀ k₀ all k = Tested (λ j. is_area (part_in area_size (drop 1 bytes) j)) 8 all k
 
-abbrev decreases-loop : tie.decreases-loop
+abbrev decreases-loop : tie.decreases-loop-k
 decreases-loop bytes all₀ k₀ all k = 8 - k
 
 -- the bytes, seen from the loop
-abbrev bytes_of : tie.At-loop invariant-loop decreases-loop → List ℕ
+abbrev bytes_of : tie.At-loop-k invariant-loop decreases-loop → List ℕ
 bytes_of c = c.before.before.args.bytes.now
 
-loop-holds : tie.Need-loop-init invariant-loop decreases-loop
+loop-holds : tie.Need-loop-k-init invariant-loop decreases-loop
 loop-holds c = let bytes = c.before.args.bytes.now in tested-none (λ j. is_area (part_in area_size (drop 1 bytes) j)) 8
 
-mul_at : tie.Need-overflow-mul-at invariant-loop decreases-loop
+mul_at : tie.Need-overflow_mul-at invariant-loop decreases-loop
 mul_at c = search rules
 
-add_at : tie.Need-overflow-add-at invariant-loop decreases-loop
+add_at : tie.Need-overflow_add-at invariant-loop decreases-loop
 add_at c = search rules
 
-add-end : tie.Need-overflow-add-end invariant-loop decreases-loop
+add-end : tie.Need-overflow_add-end invariant-loop decreases-loop
 add-end c = search rules
 
-sub-is-area : tie.Need-overflow-sub-is-area invariant-loop decreases-loop
+sub-is-area : tie.Need-slice_bounds-is_area-count invariant-loop decreases-loop
 sub-is-area c = search rules
 
-part-is-area-start : tie.Need-slice-bounds-is-area-start invariant-loop decreases-loop
+part-is-area-start : tie.Need-slice_bounds-is_area-start invariant-loop decreases-loop
 part-is-area-start c = search rules
 
-part-is-area-end : tie.Need-slice-bounds-is-area-end invariant-loop decreases-loop
+part-is-area-end : tie.Need-slice_bounds-is_area-end invariant-loop decreases-loop
 part-is-area-end c = search rules
 
-is-area-requires : tie.Need-is-area-requires invariant-loop decreases-loop
+is-area-requires : tie.Need-is_area-all-requires invariant-loop decreases-loop
 is-area-requires c κs = search rules
 
-add-k : tie.Need-overflow-add-k invariant-loop decreases-loop
+add-k : tie.Need-overflow_step-k invariant-loop decreases-loop
 add-k c = search rules
 
-loop-less : tie.Need-loop-smaller invariant-loop decreases-loop
+loop-less : tie.Need-loop-k-smaller invariant-loop decreases-loop
 loop-less c = search rules
 
-loop-again : tie.Need-loop-preserved invariant-loop decreases-loop
+loop-again : tie.Need-loop-k-preserved invariant-loop decreases-loop
 loop-again c =
     let turn = c.before.before in
-    let at = turn.before.loop in
+    let at = turn.before.loop-k in
     let bytes = bytes_of turn.before in
-    let got = c.is-area.ensures ∙ ap is_area (part-lent-behind bytes 1 (at.k * area_size) area_size) in
-    tested-next (λ j. is_area (part_in area_size (drop 1 bytes) j)) 8 at.all c.is-area.result at.k at.invariant turn.loop-test.true got
+    let got = c.is_area-all.ensures ∙ ap is_area (part-lent-behind bytes 1 (at.k * area_size) area_size) in
+    tested-next (λ j. is_area (part_in area_size (drop 1 bytes) j)) 8 at.all c.is_area-all.result at.k at.invariant turn.loop-k-test.true got
 
 returns : tie.Need-returns invariant-loop decreases-loop
 unfolding is_areas
 returns c =
-    let at = c.before.loop in
+    let at = c.before.loop-k in
     let bytes = bytes_of c.before in
-    tested-all (λ j. is_area (part_in area_size (drop 1 bytes) j)) 8 at.all at.k at.invariant (omega (arith, c.loop-test.false))
+    tested-all (λ j. is_area (part_in area_size (drop 1 bytes) j)) 8 at.all at.k at.invariant (omega (arith, c.loop-k-test.false))
 
-pub is-areas-spec : {M : Type 1} → statement M
-is-areas-spec =
+pub is_areas_spec : {M : Type 1} → statement M
+is_areas_spec =
     tie.close
     (tie.spec
     invariant-loop

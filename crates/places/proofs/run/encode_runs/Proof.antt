@@ -10,74 +10,74 @@ use borrow.Author.Rules.{rules}
 use Rattle.places.proofs.run.encode_runs.Statement.{statement}
 use Rattle.places.proofs.run.encode_runs.Tie as tie
 
-abbrev invariant-loop : tie.invariant-loop
+abbrev invariant-loop : tie.invariant-loop-k
 invariant-loop out₀ runs k₀ out k = Written (λ j. marks_bytes (row runs j)) marks_size 8 out₀ out k
 
-abbrev decreases-loop : tie.decreases-loop
+abbrev decreases-loop : tie.decreases-loop-k
 decreases-loop out₀ runs k₀ out k = 8 - k
 
 -- the turn and the start, seen from the end of a turn
-abbrev turn_of : tie.After-encode-marks invariant-loop decreases-loop → tie.In-loop invariant-loop decreases-loop
+abbrev turn_of : tie.After-encode_marks invariant-loop decreases-loop → tie.In-loop-k invariant-loop decreases-loop
 turn_of c = c.before.before.before
 
-abbrev start_of : tie.At-loop invariant-loop decreases-loop → tie.Start invariant-loop decreases-loop
+abbrev start_of : tie.At-loop-k invariant-loop decreases-loop → tie.Start invariant-loop decreases-loop
 start_of c = c.before.before
 
-loop-holds : tie.Need-loop-init invariant-loop decreases-loop
-loop-holds c = written_none (λ j. marks_bytes (row c.before.args.t1 j)) marks_size 8 c.before.args.out.now c.before.requires
+loop-holds : tie.Need-loop-k-init invariant-loop decreases-loop
+loop-holds c = written_none (λ j. marks_bytes (row c.before.args.runs j)) marks_size 8 c.before.args.out.now c.before.requires
 
-mul_at : tie.Need-overflow-mul-at invariant-loop decreases-loop
+mul_at : tie.Need-overflow_mul-at invariant-loop decreases-loop
 mul_at c = search rules
 
-add-end : tie.Need-overflow-add-end invariant-loop decreases-loop
+add-end : tie.Need-overflow_add-end invariant-loop decreases-loop
 add-end c = search rules
 
-mul-run : tie.Need-overflow-mul-run invariant-loop decreases-loop
+mul-run : tie.Need-offset_bounds-runs-k invariant-loop decreases-loop
 mul-run c = search rules
 
-element-copy-out-run : tie.Need-element-copy-out-run invariant-loop decreases-loop
+element-copy-out-run : tie.Need-bounds-runs-k invariant-loop decreases-loop
 element-copy-out-run c = search rules
 
-sub-encode-marks : tie.Need-overflow-sub-encode-marks invariant-loop decreases-loop
+sub-encode-marks : tie.Need-slice_bounds-encode_marks-count invariant-loop decreases-loop
 sub-encode-marks c = search rules
 
-part-encode-marks-start : tie.Need-slice-bounds-encode-marks-start invariant-loop decreases-loop
+part-encode-marks-start : tie.Need-slice_bounds-encode_marks-start invariant-loop decreases-loop
 part-encode-marks-start c = search rules
 
-part-encode-marks-end : tie.Need-slice-bounds-encode-marks-end invariant-loop decreases-loop
+part-encode-marks-end : tie.Need-slice_bounds-encode_marks-end invariant-loop decreases-loop
 part-encode-marks-end c = search rules
 
-encode-marks-requires : tie.Need-encode-marks-requires invariant-loop decreases-loop
+encode-marks-requires : tie.Need-encode_marks-requires invariant-loop decreases-loop
 encode-marks-requires c κs = search rules
 
-add-k : tie.Need-overflow-add-k invariant-loop decreases-loop
+add-k : tie.Need-overflow_step-k invariant-loop decreases-loop
 add-k c = search rules
 
-loop-less : tie.Need-loop-smaller invariant-loop decreases-loop
+loop-less : tie.Need-loop-k-smaller invariant-loop decreases-loop
 loop-less c = search rules
 
-loop-again : tie.Need-loop-preserved invariant-loop decreases-loop
+loop-again : tie.Need-loop-k-preserved invariant-loop decreases-loop
 loop-again c =
     let got = c.before.before in
     let turn = turn_of got in
-    let at = turn.before.loop in
+    let at = turn.before.loop-k in
     let a = (start_of turn.before).args in
-    let f : ℕ → List ℕ = λ j. marks_bytes (row a.t1 j) in
-    written_next f marks_size 8 a.out.now (λ j. length-marks (row a.t1 j)) at.out got.encode-marks.new.1.0 at.k at.inv
-    turn.loop-test.taken got.encode-marks.ensures
+    let f : ℕ → List ℕ = λ j. marks_bytes (row a.runs j) in
+    written_next f marks_size 8 a.out.now (λ j. length-marks (row a.runs j)) at.out got.encode_marks.new.1.0 at.k at.invariant
+    turn.loop-k-test.taken got.encode_marks.ensures
 
-same_length : tie.Need-same-length invariant-loop decreases-loop
+same_length : tie.Need-shape_of-out invariant-loop decreases-loop
 same_length c = search rules
 
 returns : tie.Need-returns invariant-loop decreases-loop
 unfolding runs_bytes
 returns c =
     let a = (start_of c.before).args in
-    let at = c.before.loop in
-    written_all (λ j. marks_bytes (row a.t1 j)) marks_size 8 a.out.now at.out at.k at.invariant (omega (arith, c.loop-test.false))
+    let at = c.before.loop-k in
+    written_all (λ j. marks_bytes (row a.runs j)) marks_size 8 a.out.now at.out at.k at.invariant (omega (arith, c.loop-k-test.false))
 
-pub encode-runs-spec : {M : Type 1} → statement M
-encode-runs-spec =
+pub encode_runs_spec : {M : Type 1} → statement M
+encode_runs_spec =
     tie.close
     (tie.spec
     invariant-loop

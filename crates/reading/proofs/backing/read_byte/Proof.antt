@@ -8,49 +8,49 @@ use Rattle.reading.proofs.backing.read_byte.Statement.{statement}
 use Rattle.reading.proofs.backing.read_byte.Tie as tie
 
 -- behind the page of the image
-abbrev paged : tie.After-read → tie.After-backing
+abbrev paged : tie.After-read → tie.In-Image-2
 paged c = c.before.before.before.before
 
-abbrev behind : tie.After-backing → tie.Start
+abbrev behind : tie.In-Image-2 → tie.Start
 behind c = c.before.before.before
 
-enum_told : tie.Need-enum-told
+enum_told : tie.Need-enum_told-1
 enum_told c = search rules
 
-enum-known-backing : tie.Need-enum-known-backing
+enum-known-backing : tie.Need-enum_known-backing
 enum-known-backing c = search rules
 
-cast-start : tie.Need-overflow-cast-start
+cast-start : tie.Need-overflow_cast-start
 cast-start c = search rules
 
-mul-start : tie.Need-overflow-mul-start
+mul-start : tie.Need-overflow_mul-start
 mul-start c = search rules
 
-add-end : tie.Need-overflow-add-end
+add-end : tie.Need-overflow_add-end
 add-end c = search rules
 
-sub_read : tie.Need-overflow-sub-read
+sub_read : tie.Need-slice_bounds-read-count
 sub_read c = search rules
 
-part-read-start : tie.Need-slice-bounds-read-start
+part-read-start : tie.Need-slice_bounds-read-start
 part-read-start c = search rules
 
-part-read-end : tie.Need-slice-bounds-read-end
-part-read-end c = omega (arith, ap backing_end c.before.before.backing.given.1)
+part-read-end : tie.Need-slice_bounds-read-end
+part-read-end c = omega (arith, ap backing_end c.before.before.backing-1.given.1)
 
 read-requires : tie.Need-read-requires
 read-requires c κs = search rules
 
-returns : tie.Need-returns
-returns c = rw (c.enum_told.given.1, get_or-zeros)
+returns : tie.Need-returns-in-Anonymous
+returns c = rw (c.enum_told-1.given.1, get_or-zeros)
 
-returns-2 : tie.Need-returns-2
+returns-2 : tie.Need-returns-in-Image
 returns-2 c =
-    let known = (paged c).backing.given in
+    let known = (paged c).backing-1.given in
     rw (known.1, ← part-is-frame 256 (behind (paged c)).args.image.now known.0.0.0) c.read.ensures
 
-pub read-byte-spec : {M : Type 1} → statement M
-read-byte-spec =
+pub read_byte_spec : {M : Type 1} → statement M
+read_byte_spec =
     tie.close
     (tie.spec
     enum_told

@@ -4,14 +4,14 @@ use borrow.Author.Rules.{rules}
 use Rattle.rules.proofs.after.new_page.Statement.{statement}
 use Rattle.rules.proofs.after.new_page.Tie as tie
 
-backing-of-requires : tie.Need-backing-of-requires
+backing-of-requires : tie.Need-backing_of-backing-requires
 backing-of-requires c κs = search rules
 
-cast-t3 : tie.Need-overflow-cast-t3
-cast-t3 c = omega (arith, (c.before.before.requires.1.place c.before.before.requires.0).2)
+cast-t3 : tie.Need-overflow_cast-result
+cast-t3 c = omega (arith, (c.before.before.requires.fit.place c.before.before.requires.code_value).2)
 
 returns : tie.Need-returns
-returns c = rw c.before.backing-of.ensures
+returns c = rw c.before.backing_of-backing.ensures
 
-pub new-page-spec : {M : Type 1} → statement M
-new-page-spec = tie.close (tie.spec backing-of-requires cast-t3 returns)
+pub new_page_spec : {M : Type 1} → statement M
+new_page_spec = tie.close (tie.spec backing-of-requires cast-t3 returns)

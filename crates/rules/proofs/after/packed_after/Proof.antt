@@ -10,93 +10,93 @@ use Rattle.rules.proofs.after.packed_after.Tie as tie
 
 -- the present areas are well formed
 present-formed : (s : tie.Start) → Formed s.args.b.present
-present-formed s = settled s.requires.0.0 s.args.b.present s.requires.0.1.sound.present s.requires.0.1.few
+present-formed s = settled s.requires.by_index.0 s.args.b.present s.requires.by_index.1.sound.present s.requires.by_index.1.few
 
-first-of-requires : tie.Need-first-of-requires
+first-of-requires : tie.Need-first_of-first-requires
 first-of-requires c κs =
     let start = c.before.before in
-    (present-formed start, (c.match.keys1, start.requires.1))
+    (present-formed start, (c.in-2.keys1, start.requires.fit))
 
-cast-repack : tie.Need-overflow-cast-repack
-cast-repack c = omega (arith, (c.before.before.before.before.requires.1.place c.before.before.match.keys1).1)
+cast-repack : tie.Need-overflow_cast-q
+cast-repack c = omega (arith, (c.before.before.before.before.requires.fit.place c.before.before.in-2.keys1).1)
 
-new-page-requires : tie.Need-new-page-requires
+new-page-requires : tie.Need-new_page-requires
 new-page-requires c κs = search rules
 
 repack-requires : tie.Need-repack-requires
 repack-requires c κs =
     let start = c.before.before.before.before.before in
-    let small = start_small start.args.q start.requires.1 c.before.before.before.match.keys1 in
-    (present-formed start, rw c.new-page.ensures small)
+    let small = start_small start.args.q start.requires.fit c.before.before.before.in-2.keys1 in
+    (present-formed start, rw c.new_page.ensures small)
 
-cast-t13 : tie.Need-overflow-cast-t13
-cast-t13 c = omega (arith, c.before.before.before.requires.1.unmapped c.before.match.keys2)
+cast-t13 : tie.Need-overflow_cast-q-in-3
+cast-t13 c = omega (arith, c.before.before.before.requires.fit.unmapped c.before.in-3.keys2)
 
-cast-repack-2 : tie.Need-overflow-cast-repack-2
-cast-repack-2 c = omega (arith, c.before.before.before.before.requires.1.unmapped c.before.before.match.keys2)
+cast-repack-2 : tie.Need-overflow_cast-q-in-3-2
+cast-repack-2 c = omega (arith, c.before.before.before.before.requires.fit.unmapped c.before.before.in-3.keys2)
 
-repack-requires-2 : tie.Need-repack-requires-2
+repack-requires-2 : tie.Need-repack-requires-in-3
 repack-requires-2 c κs = (present-formed c.before.before.before.before, omega arith)
 
-cast-t17 : tie.Need-overflow-cast-t17
-cast-t17 c = omega (arith, (c.before.before.before.requires.1.protected c.before.match.keys3).1)
+cast-t17 : tie.Need-overflow_cast-change
+cast-t17 c = omega (arith, (c.before.before.before.requires.fit.protected c.before.in-4.keys3).1)
 
-cast-t17-2 : tie.Need-overflow-cast-t17-2
-cast-t17-2 c = omega (arith, (c.before.before.before.before.requires.1.protected c.before.before.match.keys3).0)
+cast-t17-2 : tie.Need-overflow_cast-q-in-4
+cast-t17-2 c = omega (arith, (c.before.before.before.before.requires.fit.protected c.before.before.in-4.keys3).0)
 
-cast-repack-3 : tie.Need-overflow-cast-repack-3
-cast-repack-3 c = omega (arith, (c.before.before.before.before.before.requires.1.protected c.before.before.before.match.keys3).0)
+cast-repack-3 : tie.Need-overflow_cast-q-in-4-2
+cast-repack-3 c = omega (arith, (c.before.before.before.before.before.requires.fit.protected c.before.before.before.in-4.keys3).0)
 
-repack-requires-3 : tie.Need-repack-requires-3
+repack-requires-3 : tie.Need-repack-requires-in-4
 repack-requires-3 c κs = (present-formed c.before.before.before.before.before, omega arith)
 
-repack-requires-4 : tie.Need-repack-requires-4
+repack-requires-4 : tie.Need-repack-requires-in-7
 repack-requires-4 c κs = (present-formed c.before.before, omega arith)
 
 whole-requires : tie.Need-whole-requires
 whole-requires c κs = search rules
 
-whole-requires-2 : tie.Need-whole-requires-2
+whole-requires-2 : tie.Need-whole-requires-in_default
 whole-requires-2 c κs = search rules
 
-returns : tie.Need-returns
+returns : tie.Need-returns-in-2
 returns c =
-    let page = c.before.new-page in
+    let page = c.before.new_page in
     let placing = c.before.before.before in
-    let first = placing.first_of in
+    let first = placing.first_of-first in
     let start = placing.before.before.before in
-    packed-map start.args.q start.args.b c.repack.result placing.before.match.keys1 first.result page.result
+    packed-map start.args.q start.args.b c.repack.result placing.before.in-2.keys1 first.result page.result
     first.ensures page.ensures c.repack.ensures
 
-returns-2 : tie.Need-returns-2
+returns-2 : tie.Need-returns-in-3
 returns-2 c =
     let start = c.before.before.before.before.before in
-    packed-unmap start.args.q start.args.b c.repack2.result c.before.before.before.match.keys2 c.repack2.ensures
+    packed-unmap start.args.q start.args.b c.repack-in-3.result c.before.before.before.in-3.keys2 c.repack-in-3.ensures
 
-returns-3 : tie.Need-returns-3
+returns-3 : tie.Need-returns-in-4
 returns-3 c =
     let start = c.before.before.before.before.before.before in
-    packed-protect start.args.q start.args.b c.repack3.result c.before.before.before.before.match.keys3 c.repack3.ensures
+    packed-protect start.args.q start.args.b c.repack-in-4.result c.before.before.before.before.in-4.keys3 c.repack-in-4.ensures
 
-returns-4 : tie.Need-returns-4
+returns-4 : tie.Need-returns-in-7
 returns-4 c =
     let start = c.before.before.before in
-    let r = start.requires.0 in
-    packed-snapshot start.args.q start.args.b c.repack4.result r.0 r.1.sound.present c.before.match.keys4 c.repack4.ensures
+    let r = start.requires.by_index in
+    packed-snapshot start.args.q start.args.b c.repack-in-7.result r.0 r.1.sound.present c.before.in-7.keys4 c.repack-in-7.ensures
 
-returns-5 : tie.Need-returns-5
+returns-5 : tie.Need-returns-in-8
 returns-5 c =
     let start = c.before.before.before.before in
-    rw c.whole.ensures (packed-rewind start.args.q start.args.b c.before.before.match.keys5)
+    rw c.whole.ensures (packed-rewind start.args.q start.args.b c.before.before.in-8.keys5)
 
-returns-6 : tie.Need-returns-6
+returns-6 : tie.Need-returns-in_default
 returns-6 c =
     let start = c.before.before.before in
-    let no = c.before.match.rest in
-    rw c.whole2.ensures (packed_none start.args.q start.args.b no.0.0.0.0.1 no.0.0.0.1 no.0.0.1 no.0.1 no.1)
+    let no = c.before.in_default.rest in
+    rw c.whole-in_default.ensures (packed_none start.args.q start.args.b no.0.0.0.0.1 no.0.0.0.1 no.0.0.1 no.0.1 no.1)
 
-pub packed-after-spec : {M : Type 1} → statement M
-packed-after-spec =
+pub packed_after_spec : {M : Type 1} → statement M
+packed_after_spec =
     tie.close
     (tie.spec
     first-of-requires

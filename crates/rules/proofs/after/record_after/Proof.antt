@@ -3,28 +3,28 @@ use borrow.Author.Rules.{rules}
 use Rattle.rules.proofs.after.record_after.Statement.{statement}
 use Rattle.rules.proofs.after.record_after.Tie as tie
 
-snapshot-after-requires : tie.Need-snapshot-after-requires
+snapshot-after-requires : tie.Need-snapshot_after-snapshot-requires
 snapshot-after-requires c κs = search rules
 
-taken-after-requires : tie.Need-taken-after-requires
+taken-after-requires : tie.Need-taken_after-taken-requires
 taken-after-requires c κs = search rules
 
-share-after-requires : tie.Need-share-after-requires
+share-after-requires : tie.Need-share_after-share-requires
 share-after-requires c κs = search rules
 
-with-snapshot-requires : tie.Need-with-snapshot-requires
+with-snapshot-requires : tie.Need-with_snapshot-copied-requires
 with-snapshot-requires c κs = search rules
 
-with-taken-requires : tie.Need-with-taken-requires
+with-taken-requires : tie.Need-with_taken-marked-requires
 with-taken-requires c κs = search rules
 
-with-present-requires : tie.Need-with-present-requires
+with-present-requires : tie.Need-with_present-mapped-requires
 with-present-requires c κs = search rules
 
-with-share-requires : tie.Need-with-share-requires
+with-share-requires : tie.Need-with_share-shared-requires
 with-share-requires c κs = search rules
 
-with-opened-requires : tie.Need-with-opened-requires
+with-opened-requires : tie.Need-with_opened-requires
 with-opened-requires c κs = search rules
 
 returns : tie.Need-returns
@@ -33,14 +33,14 @@ returns c =
     let placed = shared.before in
     let marked = placed.before in
     let copied = marked.before in
-    let share = copied.before.share-after in
-    let taken = copied.before.before.taken-after in
-    let snapshot = copied.before.before.before.snapshot-after in
-    rw (c.with-opened.ensures, shared.with-share.ensures, placed.with-present.ensures, marked.with-taken.ensures, copied.with-snapshot.ensures)
+    let share = copied.before.share_after-share in
+    let taken = copied.before.before.taken_after-taken in
+    let snapshot = copied.before.before.before.snapshot_after-snapshot in
+    rw (c.with_opened.ensures, shared.with_share-shared.ensures, placed.with_present-mapped.ensures, marked.with_taken-marked.ensures, copied.with_snapshot-copied.ensures)
     (rw (share.ensures, taken.ensures, snapshot.ensures))
 
-pub record-after-spec : {M : Type 1} → statement M
-record-after-spec =
+pub record_after_spec : {M : Type 1} → statement M
+record_after_spec =
     tie.close
     (tie.spec
     snapshot-after-requires

@@ -4,14 +4,14 @@ use native.Mathlib.Omega.{arith}
 use Rattle.rules.proofs.after.share_after.Statement.{statement}
 use Rattle.rules.proofs.after.share_after.Tie as tie
 
-cast-result : tie.Need-overflow-cast-result
-cast-result c = omega (arith, c.before.before.before.requires.share c.before.if1.true)
+cast-result : tie.Need-overflow_cast-result
+cast-result c = omega (arith, c.before.before.before.requires.share c.before.if-q-eq-OPEN.true)
 
-returns : tie.Need-returns
-returns c = rw (eq-eqb c.before.before.before.args.q.code 1 c.before.if1.true)
+returns : tie.Need-returns-then-q-eq-OPEN
+returns c = rw (eq-eqb c.before.before.before.args.q.code 1 c.before.if-q-eq-OPEN.true)
 
-returns-2 : tie.Need-returns-2
-returns-2 c = rw (ne_eqb c.before.before.args.q.code 1 c.if1.false)
+returns-2 : tie.Need-returns
+returns-2 c = rw (ne_eqb c.before.before.args.q.code 1 c.if-q-eq-OPEN.false)
 
-pub share-after-spec : {M : Type 1} → statement M
-share-after-spec = tie.close (tie.spec cast-result returns returns-2)
+pub share_after_spec : {M : Type 1} → statement M
+share_after_spec = tie.close (tie.spec cast-result returns returns-2)

@@ -3,14 +3,14 @@ use borrow.Author.Rules.{rules}
 use Rattle.run_search.proofs.Choice.or_better.Statement.{statement}
 use Rattle.run_search.proofs.Choice.or_better.Tie as tie
 
-is-better-requires : tie.Need-is-better-requires
+is-better-requires : tie.Need-is_better-requires
 is-better-requires c κs = search rules
 
-returns : tie.Need-returns
-returns c = rw (← c.before.is-better.ensures, c.if1.true)
+returns : tie.Need-returns-then-is_better
+returns c = rw (← c.before.is_better.ensures, c.if-is_better.true)
 
-returns-2 : tie.Need-returns-2
-returns-2 c = rw (← c.before.is-better.ensures, c.if1.false)
+returns-2 : tie.Need-returns
+returns-2 c = rw (← c.before.is_better.ensures, c.if-is_better.false)
 
-pub or-better-spec : {M : Type 1} → statement M
-or-better-spec = tie.close (tie.spec is-better-requires returns returns-2)
+pub or_better_spec : {M : Type 1} → statement M
+or_better_spec = tie.close (tie.spec is-better-requires returns returns-2)

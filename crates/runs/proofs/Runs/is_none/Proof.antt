@@ -16,38 +16,38 @@ use Rattle.runs.proofs.Runs.is_none.Tie as tie
 abbrev of : Runs → ℕ → Bool
 of runs i = same_held (row runs i) none_held
 
-abbrev invariant-loop : tie.invariant-loop
+abbrev invariant-loop : tie.invariant-loop-i
 invariant-loop self none₀ i₀ none i = (i ≤ 8) × (none ≡ every (of self) 0 i)
 
-abbrev decreases-loop : tie.decreases-loop
+abbrev decreases-loop : tie.decreases-loop-i
 decreases-loop self none₀ i₀ none i = 8 - i
 
 -- the way back from where a fact is needed to where it was learned
-abbrev at-loop : tie.After-is-empty invariant-loop decreases-loop → tie.At-loop invariant-loop decreases-loop
+abbrev at-loop : tie.After-is_empty-none invariant-loop decreases-loop → tie.At-loop-i invariant-loop decreases-loop
 at-loop c = c.before.before
 
-loop-holds : tie.Need-loop-init invariant-loop decreases-loop
+loop-holds : tie.Need-loop-i-init invariant-loop decreases-loop
 unfolding every
 loop-holds c = (omega arith, refl)
 
-is-empty-requires : tie.Need-is-empty-requires invariant-loop decreases-loop
+is-empty-requires : tie.Need-is_empty-none-requires invariant-loop decreases-loop
 is-empty-requires c κs = search rules
 
-add-i : tie.Need-overflow-add-i invariant-loop decreases-loop
+add-i : tie.Need-overflow_step-i invariant-loop decreases-loop
 add-i c = search rules
 
-loop-less : tie.Need-loop-smaller invariant-loop decreases-loop
+loop-less : tie.Need-loop-i-smaller invariant-loop decreases-loop
 loop-less c = search rules
 
-loop-again : tie.Need-loop-preserved invariant-loop decreases-loop
+loop-again : tie.Need-loop-i-preserved invariant-loop decreases-loop
 loop-again c =
-    let l = (at-loop c).loop in
-    (search rules, (λ j. l.inv.1 j && c.is-empty.ensures j) ∙ sym (every-last (of (at-loop c).before.args.self) l.i))
+    let l = (at-loop c).loop-i in
+    (search rules, (λ j. l.invariant.1 j && c.is_empty-none.ensures j) ∙ sym (every-last (of (at-loop c).before.args.self) l.i))
 
 returns : tie.Need-returns invariant-loop decreases-loop
 returns c =
-    let l = c.before.loop in
-    l.invariant.1 ∙ ap (every (of c.before.before.args.self) 0) (omega (arith, l.invariant.0, c.loop-test.false))
+    let l = c.before.loop-i in
+    l.invariant.1 ∙ ap (every (of c.before.before.args.self) 0) (omega (arith, l.invariant.0, c.loop-i-test.false))
 
-pub is-none-spec : {M : Type 1} → statement M
-is-none-spec = tie.close (tie.spec invariant-loop decreases-loop loop-holds is-empty-requires add-i loop-less loop-again returns)
+pub is_none_spec : {M : Type 1} → statement M
+is_none_spec = tie.close (tie.spec invariant-loop decreases-loop loop-holds is-empty-requires add-i loop-less loop-again returns)

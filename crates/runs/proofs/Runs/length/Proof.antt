@@ -8,11 +8,11 @@ use Rattle.runs.proofs.Runs.length.Tie as tie
 at-requires : tie.Need-at-requires
 at-requires c κs = search rules
 
-frames-in-requires : tie.Need-frames-in-requires
+frames-in-requires : tie.Need-frames_in-requires
 frames-in-requires c κs = search rules
 
 returns : tie.Need-returns
-returns c = (c.frames-in.ensures.0 ∙ ap count_held c.before.at.ensures, c.frames-in.ensures.1)
+returns c = (c.frames_in.ensures.value ∙ ap count_held c.before.at.ensures, c.frames_in.ensures.small)
 
 pub length_spec : {M : Type 1} → statement M
 length_spec = tie.close (tie.spec at-requires frames-in-requires returns)

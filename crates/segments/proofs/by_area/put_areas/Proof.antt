@@ -13,10 +13,10 @@ use borrow.Author.Rules.{rules}
 use Rattle.segments.proofs.by_area.put_areas.Statement.{statement}
 use Rattle.segments.proofs.by_area.put_areas.Tie as tie
 
-abbrev invariant-loop : tie.invariant-loop
+abbrev invariant-loop : tie.invariant-loop-k
 invariant-loop segment snapshot out₀ areas next₀ k₀ out next k = Turn next₀ next out₀ out (lines_at segment snapshot.sandbox snapshot.areas) 8 k
 
-abbrev decreases-loop : tie.decreases-loop
+abbrev decreases-loop : tie.decreases-loop-k
 decreases-loop segment snapshot out₀ areas next₀ k₀ out next k = 8 - k
 
 abbrev lines : tie.Start invariant-loop decreases-loop → ℕ → List Request
@@ -24,68 +24,68 @@ lines c = let a = c.args in lines_at a.segment a.snapshot.sandbox a.snapshot.are
 
 -- where a place's line and its test are at hand
 abbrev At : Type 0
-At = tie.After-is-told invariant-loop decreases-loop
+At = tie.After-is_told invariant-loop decreases-loop
 
-abbrev turn_of : At → tie.In-loop invariant-loop decreases-loop
+abbrev turn_of : At → tie.In-loop-k invariant-loop decreases-loop
 turn_of c = c.before.before.before.before
 
 abbrev start_of : At → tie.Start invariant-loop decreases-loop
 start_of c = (turn_of c).before.before.before.before
 
-put-here : (c : At) → only c.is-told.result c.before.before.Line-of.result ≡ lines (start_of c) (turn_of c).before.loop.k
+put-here : (c : At) → only c.is_told.result c.before.before.Line-of.result ≡ lines (start_of c) (turn_of c).before.loop-k.k
 put-here c =
     let a = (start_of c).args in
-    let area : Area = get_or a.snapshot.areas.list (turn_of c).before.loop.k none in
-    ap (λ b. only b c.before.before.Line-of.result) c.is-told.ensures ∙ ap (only (is_told a.segment area)) c.before.before.Line-of.ensures
+    let area : Area = get_or a.snapshot.areas.list (turn_of c).before.loop-k.k none in
+    ap (λ b. only b c.before.before.Line-of.result) c.is_told.ensures ∙ ap (only (is_told a.segment area)) c.before.before.Line-of.ensures
 
-loop-holds : tie.Need-loop-init invariant-loop decreases-loop
+loop-holds : tie.Need-loop-k-init invariant-loop decreases-loop
 loop-holds c = let start = c.before.before in turn-first start.args.to start.args.out.now (lines start) 8
 
-mul-area : tie.Need-overflow-mul-area invariant-loop decreases-loop
+mul-area : tie.Need-offset_bounds-areas-k invariant-loop decreases-loop
 mul-area c = search rules
 
-element-copy-out-area : tie.Need-element-copy-out-area invariant-loop decreases-loop
+element-copy-out-area : tie.Need-bounds-areas-k invariant-loop decreases-loop
 element-copy-out-area c = search rules
 
-line-of-requires : tie.Need-line-of-requires invariant-loop decreases-loop
+line-of-requires : tie.Need-line_of-line-requires invariant-loop decreases-loop
 line-of-requires c κs = search rules
 
-is-told-requires : tie.Need-is-told-requires invariant-loop decreases-loop
+is-told-requires : tie.Need-is_told-requires invariant-loop decreases-loop
 is-told-requires c κs = search rules
 
-put-if-requires : tie.Need-put-if-requires invariant-loop decreases-loop
+put-if-requires : tie.Need-put_if-next-requires invariant-loop decreases-loop
 put-if-requires c κs =
     let start = start_of c in
-    let l = (turn_of c).before.loop in
-    turn-room start.args.to start.args.out.now (lines start) 8 start.pre l.next l.out l.k l.inv (turn_of c).loop-test.true _
+    let l = (turn_of c).before.loop-k in
+    turn-room start.args.to start.args.out.now (lines start) 8 start.requires l.next l.out l.k l.invariant (turn_of c).loop-k-test.true _
     (put-here c)
 
-add-k : tie.Need-overflow-add-k invariant-loop decreases-loop
+add-k : tie.Need-overflow_step-k invariant-loop decreases-loop
 add-k c = search rules
 
-loop-less : tie.Need-loop-smaller invariant-loop decreases-loop
+loop-less : tie.Need-loop-k-smaller invariant-loop decreases-loop
 loop-less c = search rules
 
-loop-again : tie.Need-loop-preserved invariant-loop decreases-loop
+loop-again : tie.Need-loop-k-preserved invariant-loop decreases-loop
 loop-again c =
     let here = c.before.before.before in
     let start = start_of here in
-    let l = (turn_of here).before.loop in
-    let line = c.before.before.put_if in
-    turn-next start.args.to start.args.out.now (lines start) 8 start.pre l.next l.out l.k l.inv (turn_of here).loop-test.true _
+    let l = (turn_of here).before.loop-k in
+    let line = c.before.before.put_if-next in
+    turn-next start.args.to start.args.out.now (lines start) 8 start.requires l.next l.out l.k l.invariant (turn_of here).loop-k-test.true _
     (put-here here) line.result line.new.0 line.ensures
 
-same_length : tie.Need-same-length invariant-loop decreases-loop
+same_length : tie.Need-shape_of-out invariant-loop decreases-loop
 same_length c = search rules
 
 returns : tie.Need-returns invariant-loop decreases-loop
 returns c =
     let start = c.before.before.before.before in
-    let l = c.before.loop in
-    turn_last start.args.to start.args.out.now (lines start) 8 l.next l.out l.k l.invariant c.loop-test.false
+    let l = c.before.loop-k in
+    turn_last start.args.to start.args.out.now (lines start) 8 l.next l.out l.k l.invariant c.loop-k-test.false
 
-pub put-areas-spec : {M : Type 1} → statement M
-put-areas-spec =
+pub put_areas_spec : {M : Type 1} → statement M
+put_areas_spec =
     tie.close
     (tie.spec
     invariant-loop

@@ -30,140 +30,143 @@ tests h pool table images sandboxes s =
     let w : World = record { sandboxes = sandboxes; store = kept h pool table } in
     sandbox_ok images w.store s (sandbox_at w s) && runs_ok_at w s
 
-abbrev invariant-loop : tie.invariant-loop
+abbrev invariant-loop : tie.invariant-loop-s
 invariant-loop table images sandboxes s₀ s =
     (s ≤ 4) × ((h : Held) (pool : List ℕ) → every (tests h pool table images sandboxes) 0 4 ≡ every (tests h pool table images sandboxes) s (4 - s))
 
-abbrev decreases-loop : tie.decreases-loop
+abbrev decreases-loop : tie.decreases-loop-s
 decreases-loop table images sandboxes s₀ s = 4 - s
 
-four : (c : tie.Start invariant-loop decreases-loop) → length c.args.t1 ≡ 4
+four : (c : tie.Start invariant-loop decreases-loop) → length c.args.sandboxes ≡ 4
 four c = search length-mapped
 
-same : (start : tie.Start invariant-loop decreases-loop) (s : ℕ) → s < 4 → get_or start.args.t1 s zero_sandbox ≡ get_or start.args.t1 s closed_sandbox
-same start s l = get_d_any start.args.t1 s zero_sandbox closed_sandbox (omega (arith, four start, l))
+same : (start : tie.Start invariant-loop decreases-loop) (s : ℕ) → s < 4 → get_or start.args.sandboxes s zero_sandbox ≡ get_or start.args.sandboxes s closed_sandbox
+same start s l = get_d_any start.args.sandboxes s zero_sandbox closed_sandbox (omega (arith, four start, l))
 
 -- the way back from where a fact is needed to where it was learned
-abbrev at-sandbox-ok : tie.After-runs-ok invariant-loop decreases-loop → tie.After-sandbox-ok invariant-loop decreases-loop
+abbrev at-sandbox-ok : tie.After-runs_ok invariant-loop decreases-loop → tie.After-sandbox_ok invariant-loop decreases-loop
 at-sandbox-ok c = c.before.before.before.before
 
-abbrev turn-of-sandbox-ok : tie.After-sandbox-ok invariant-loop decreases-loop → tie.In-loop invariant-loop decreases-loop
+abbrev turn-of-sandbox-ok : tie.After-sandbox_ok invariant-loop decreases-loop → tie.In-loop-s invariant-loop decreases-loop
 turn-of-sandbox-ok c = c.before.before.before
 
-abbrev turn-of-runs : tie.After-runs invariant-loop decreases-loop → tie.In-loop invariant-loop decreases-loop
+abbrev turn-of-runs : tie.After-runs-1 invariant-loop decreases-loop → tie.In-loop-s invariant-loop decreases-loop
 turn-of-runs c = turn-of-sandbox-ok c.before.before.before
 
-abbrev turn-of-runs-ok : tie.After-runs-ok invariant-loop decreases-loop → tie.In-loop invariant-loop decreases-loop
+abbrev turn-of-runs-ok : tie.After-runs_ok invariant-loop decreases-loop → tie.In-loop-s invariant-loop decreases-loop
 turn-of-runs-ok c = turn-of-runs c.before
 
-abbrev start-of-turn : tie.In-loop invariant-loop decreases-loop → tie.Start invariant-loop decreases-loop
+abbrev start-of-turn : tie.In-loop-s invariant-loop decreases-loop → tie.Start invariant-loop decreases-loop
 start-of-turn c = c.before.before.before
 
 -- what the first call says of the array's sandbox
-told : (c : tie.After-sandbox-ok invariant-loop decreases-loop) (h : Held) (pool : List ℕ) →
+told : (c : tie.After-sandbox_ok invariant-loop decreases-loop) (h : Held) (pool : List ℕ) →
     let a = (start-of-turn (turn-of-sandbox-ok c)).args in
-    let s : ℕ = (turn-of-sandbox-ok c).before.loop.s in
-    c.sandbox-ok.result ≡ sandbox_ok a.images (kept h pool a.table.now) s (get_or a.t1 s zero_sandbox)
+    let s : ℕ = (turn-of-sandbox-ok c).before.loop-s.s in
+    c.sandbox_ok.result ≡ sandbox_ok a.images (kept h pool a.table.now) s (get_or a.sandboxes s zero_sandbox)
 told c h pool =
     let a = (start-of-turn (turn-of-sandbox-ok c)).args in
-    let s : ℕ = (turn-of-sandbox-ok c).before.loop.s in
-    sandbox-tested a.images (kept h pool a.table.now) s (get_or a.t1 s zero_sandbox) _ (c.sandbox-ok.ensures h pool)
+    let s : ℕ = (turn-of-sandbox-ok c).before.loop-s.s in
+    sandbox-tested a.images (kept h pool a.table.now) s (get_or a.sandboxes s zero_sandbox) _ (c.sandbox_ok.ensures h pool)
 
 -- what the two calls say of the world's sandbox
-here : (c : tie.After-runs-ok invariant-loop decreases-loop) (h : Held) (pool : List ℕ) →
+here : (c : tie.After-runs_ok invariant-loop decreases-loop) (h : Held) (pool : List ℕ) →
     let a = (start-of-turn (turn-of-runs-ok c)).args in
-    c.runs-ok.result ≡ tests h pool a.table.now a.images a.t1 (turn-of-runs-ok c).before.loop.s
+    c.runs_ok.result ≡ tests h pool a.table.now a.images a.sandboxes (turn-of-runs-ok c).before.loop-s.s
 here c h pool =
     let start = start-of-turn (turn-of-runs-ok c) in
     let a = start.args in
-    let s : ℕ = (turn-of-runs-ok c).before.loop.s in
-    let t = (at-sandbox-ok c).sandbox-ok in
-    runs-decide a.images (kept h pool a.table.now) s (get_or a.t1 s zero_sandbox) (get_or a.t1 s closed_sandbox)
-    (same start s (turn-of-runs-ok c).loop-test.true) t.result (told (at-sandbox-ok c) h pool) (not-false _ c.before.before.before.if1.false)
-    c.runs-ok.result
-    (c.runs-ok.ensures h pool)
+    let s : ℕ = (turn-of-runs-ok c).before.loop-s.s in
+    let t = (at-sandbox-ok c).sandbox_ok in
+    runs-decide a.images (kept h pool a.table.now) s (get_or a.sandboxes s zero_sandbox) (get_or a.sandboxes s closed_sandbox)
+    (same start s (turn-of-runs-ok c).loop-s-test.true) t.result (told (at-sandbox-ok c) h pool) (not-false _ c.before.before.before.if-not-sandbox_ok.false-raw)
+    c.runs_ok.result
+    (c.runs_ok.ensures h pool)
 
-loop-holds : tie.Need-loop-init invariant-loop decreases-loop
+loop-holds : tie.Need-loop-s-init invariant-loop decreases-loop
 loop-holds c = (omega arith, λ h pool. refl)
 
-cast-k : tie.Need-overflow-cast-k invariant-loop decreases-loop
+cast-k : tie.Need-overflow_cast-k invariant-loop decreases-loop
 cast-k c = search rules
 
-mul-b : tie.Need-overflow-mul-b invariant-loop decreases-loop
+mul-b : tie.Need-offset_bounds-sandboxes-k invariant-loop decreases-loop
 mul-b c = search rules
 
-array-copy-out-b : tie.Need-array-copy-out-b invariant-loop decreases-loop
+array-copy-out-b : tie.Need-bounds-sandboxes-k invariant-loop decreases-loop
 array-copy-out-b c = search rules
 
-sandbox-ok-requires : tie.Need-sandbox-ok-requires invariant-loop decreases-loop
-sandbox-ok-requires c κs = (c.before.before.loop-test.true, (start-of-turn c.before.before).pre)
+sandbox-ok-requires : tie.Need-sandbox_ok-requires invariant-loop decreases-loop
+sandbox-ok-requires c κs = (c.before.before.loop-s-test.true, (start-of-turn c.before.before).requires)
 
-abbrev at-loop : tie.After-sandbox-ok invariant-loop decreases-loop → tie.At-loop invariant-loop decreases-loop
+abbrev at-loop : tie.After-sandbox_ok invariant-loop decreases-loop → tie.At-loop-s invariant-loop decreases-loop
 at-loop c = (turn-of-sandbox-ok c).before
 
-returns : tie.Need-returns invariant-loop decreases-loop
+returns : tie.Need-returns-then-not-sandbox_ok invariant-loop decreases-loop
 returns c = λ h pool.
     let start = start-of-turn (turn-of-sandbox-ok c.before) in
     let a = start.args in
-    let l = (at-loop c.before).loop in
-    let low = (turn-of-sandbox-ok c.before).loop-test.taken in
-    let t = c.before.sandbox-ok in
-    sym (l.inv.1 h pool ∙ every-stop (tests h pool a.table.now a.images a.t1) 4 l.s low
-    (sandbox-stops a.images (kept h pool a.table.now) l.s (get_or a.t1 l.s zero_sandbox) (get_or a.t1 l.s closed_sandbox)
-    (same start l.s low) t.result (told c.before h pool) (not-true _ c.if1.true)))
+    let l = (at-loop c.before).loop-s in
+    let low = (turn-of-sandbox-ok c.before).loop-s-test.taken in
+    let t = c.before.sandbox_ok in
+    sym (l.invariant.1 h pool ∙ every-stop (tests h pool a.table.now a.images a.sandboxes) 4 l.s low
+    (sandbox-stops a.images (kept h pool a.table.now) l.s (get_or a.sandboxes l.s zero_sandbox) (get_or a.sandboxes l.s closed_sandbox)
+    (same start l.s low) t.result (told c.before h pool) (not-true _ c.if-not-sandbox_ok.true-raw)))
 
-mul-again : tie.Need-overflow-mul-again invariant-loop decreases-loop
+mul-again : tie.Need-offset_bounds-sandboxes-k-in-loop-s invariant-loop decreases-loop
 mul-again c = search rules
 
 array-copy-out-again : tie.Need-array-copy-out-preserved invariant-loop decreases-loop
 array-copy-out-again c = search rules
 
 -- a sandbox that passed has entries within its share
-runs-ok-requires : tie.Need-runs-ok-requires invariant-loop decreases-loop
+runs-ok-requires : tie.Need-runs_ok-requires invariant-loop decreases-loop
 runs-ok-requires c κs =
     let start = start-of-turn (turn-of-runs c) in
     let a = start.args in
-    let s : ℕ = (turn-of-runs c).before.loop.s in
-    let b : Sandbox = get_or a.t1 s zero_sandbox in
+    let s : ℕ = (turn-of-runs c).before.loop-s.s in
+    let b : Sandbox = get_or a.sandboxes s zero_sandbox in
     let st : Store = kept none_held [] a.table.now in
-    let passed = passed-true a.images st s b (sym (told c.before.before.before none_held []) ∙ not-false _ c.before.before.if1.false) in
-    ((turn-of-runs c).loop-test.true, (start.pre.1, passed-share a.images st s b passed))
+    let passed = passed-true a.images st s b (sym (told c.before.before.before none_held []) ∙ not-false _ c.before.before.if-not-sandbox_ok.false-raw) in
+    ((turn-of-runs c).loop-s-test.true, (start.requires.table_len, passed-share a.images st s b passed))
 
-returns-2 : tie.Need-returns-2 invariant-loop decreases-loop
+returns-2 : tie.Need-returns-then-not-runs_ok invariant-loop decreases-loop
 returns-2 c = λ h pool.
     let a = (start-of-turn (turn-of-runs-ok c.before)).args in
-    let l = (turn-of-runs-ok c.before).before.loop in
-    sym (l.inv.1 h pool ∙ every-stop (tests h pool a.table.now a.images a.t1) 4 l.s
-    (turn-of-runs-ok c.before).loop-test.taken
-    (sym (here c.before h pool) ∙ not-true _ c.if2.true))
+    let l = (turn-of-runs-ok c.before).before.loop-s in
+    sym (l.invariant.1 h pool ∙ every-stop (tests h pool a.table.now a.images a.sandboxes) 4 l.s
+    (turn-of-runs-ok c.before).loop-s-test.taken
+    (sym (here c.before h pool) ∙ not-true _ c.if-not-runs_ok.true-raw))
 
-add-s : tie.Need-overflow-add-s invariant-loop decreases-loop
+add-s : tie.Need-overflow_step-s invariant-loop decreases-loop
 add-s c = search rules
 
-loop-less : tie.Need-loop-smaller invariant-loop decreases-loop
+loop-less : tie.Need-loop-s-smaller invariant-loop decreases-loop
 loop-less c = search rules
 
-loop-again : tie.Need-loop-preserved invariant-loop decreases-loop
+loop-again : tie.Need-loop-s-preserved invariant-loop decreases-loop
 loop-again c =
     let a = (start-of-turn (turn-of-runs-ok c.before)).args in
-    let l = (turn-of-runs-ok c.before).before.loop in (
+    let l = (turn-of-runs-ok c.before).before.loop-s in (
       search rules,
-      λ h pool. l.inv.1 h pool
-          ∙ every-next (tests h pool a.table.now a.images a.t1) 4 l.s (turn-of-runs-ok c.before).loop-test.taken
-          (sym (here c.before h pool) ∙ not-false _ c.if2.false),
+      λ h pool. l.invariant.1 h pool
+          ∙ every-next (tests h pool a.table.now a.images a.sandboxes) 4 l.s (turn-of-runs-ok c.before).loop-s-test.taken
+          (sym (here c.before h pool) ∙ not-false _ c.if-not-runs_ok.false-raw),
     )
 
-abbrev start-of-loop-end : tie.After-loop invariant-loop decreases-loop → tie.Start invariant-loop decreases-loop
+abbrev start-of-loop-end : tie.After-loop-s invariant-loop decreases-loop → tie.Start invariant-loop decreases-loop
 start-of-loop-end c = c.before.before.before
 
-returns-3 : tie.Need-returns-3 invariant-loop decreases-loop
+returns-3 : tie.Need-returns invariant-loop decreases-loop
 returns-3 c = λ h pool.
     let a = (start-of-loop-end c).args in
-    let l = c.before.loop in
-    sym (l.invariant.1 h pool ∙ every-end (tests h pool a.table.now a.images a.t1) 4 l.s c.loop-test.false)
+    let l = c.before.loop-s in
+    sym (l.invariant.1 h pool ∙ every-end (tests h pool a.table.now a.images a.sandboxes) 4 l.s c.loop-s-test.false)
 
-pub sandboxes-ok-spec : {M : Type 1} → statement M
-sandboxes-ok-spec =
+by-rules-bounds-sandboxes-k-in-loop-s : tie.Need-bounds-sandboxes-k-in-loop-s invariant-loop decreases-loop
+by-rules-bounds-sandboxes-k-in-loop-s c = search rules
+
+pub sandboxes_ok_spec : {M : Type 1} → statement M
+sandboxes_ok_spec =
     tie.close
     (tie.spec
     invariant-loop
@@ -175,7 +178,7 @@ sandboxes-ok-spec =
     sandbox-ok-requires
     returns
     mul-again
-    array-copy-out-again
+    by-rules-bounds-sandboxes-k-in-loop-s
     runs-ok-requires
     returns-2
     add-s

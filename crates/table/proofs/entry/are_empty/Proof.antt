@@ -16,47 +16,47 @@ use Rattle.table.proofs.entry.are_empty.Tie as tie
 abbrev of : List ℕ → ℕ → ℕ → Bool
 of table at i = eqb (get_or table (at + i) 0) 0
 
-abbrev invariant-loop : tie.invariant-loop
+abbrev invariant-loop : tie.invariant-loop-i
 invariant-loop table at none₀ i₀ none i = (i ≤ 8) × (none ≡ every (of table at) 0 i)
 
-abbrev decreases-loop : tie.decreases-loop
+abbrev decreases-loop : tie.decreases-loop-i
 decreases-loop table at none₀ i₀ none i = 8 - i
 
-loop-holds : tie.Need-loop-init invariant-loop decreases-loop
+loop-holds : tie.Need-loop-i-init invariant-loop decreases-loop
 unfolding every
 loop-holds c = (omega arith, refl)
 
-cast-none : tie.Need-overflow-cast-none invariant-loop decreases-loop
+cast-none : tie.Need-overflow_cast-none invariant-loop decreases-loop
 cast-none c = search rules
 
-add_none : tie.Need-overflow-add-none invariant-loop decreases-loop
+add_none : tie.Need-overflow_add-none invariant-loop decreases-loop
 add_none c = search rules
 
-mul-none : tie.Need-overflow-mul-none invariant-loop decreases-loop
+mul-none : tie.Need-offset_bounds-table-at invariant-loop decreases-loop
 mul-none c = search rules
 
-shared-slice-read-none : tie.Need-shared-slice-read-none invariant-loop decreases-loop
+shared-slice-read-none : tie.Need-bounds-table-at invariant-loop decreases-loop
 shared-slice-read-none c = search rules
 
-add-i : tie.Need-overflow-add-i invariant-loop decreases-loop
+add-i : tie.Need-overflow_step-i invariant-loop decreases-loop
 add-i c = search rules
 
-loop-less : tie.Need-loop-smaller invariant-loop decreases-loop
+loop-less : tie.Need-loop-i-smaller invariant-loop decreases-loop
 loop-less c = search rules
 
-loop-again : tie.Need-loop-preserved invariant-loop decreases-loop
+loop-again : tie.Need-loop-i-preserved invariant-loop decreases-loop
 loop-again c =
     let s = c.before.before.before in
-    let l = c.before.before.loop in
+    let l = c.before.before.loop-i in
     (search rules, rw l.invariant.1 (sym (every-last (of s.args.table.now s.args.at) l.i)))
 
 returns : tie.Need-returns invariant-loop decreases-loop
 returns c =
     let s = c.before.before in
-    c.before.loop.invariant.1 ∙ ap (every (of s.args.table.now s.args.at) 0) (omega arith)
+    c.before.loop-i.invariant.1 ∙ ap (every (of s.args.table.now s.args.at) 0) (omega arith)
 
-pub are-empty-spec : {M : Type 1} → statement M
-are-empty-spec =
+pub are_empty_spec : {M : Type 1} → statement M
+are_empty_spec =
     tie.close
     (tie.spec
     invariant-loop

@@ -6,11 +6,11 @@ use Rattle.table.proofs.entry.back_if.Tie as tie
 back-requires : tie.Need-back-requires
 back-requires c κs = search rules
 
-returns : tie.Need-returns
-returns c = rw c.before.if1.true c.back.ensures
+returns : tie.Need-returns-then-committed
+returns c = rw c.before.if-committed.true c.back.ensures
 
-returns-2 : tie.Need-returns-2
+returns-2 : tie.Need-returns
 returns-2 c = search rules
 
-pub back-if-spec : {M : Type 1} → statement M
-back-if-spec = tie.close (tie.spec back-requires returns returns-2)
+pub back_if_spec : {M : Type 1} → statement M
+back_if_spec = tie.close (tie.spec back-requires returns returns-2)

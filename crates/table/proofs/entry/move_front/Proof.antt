@@ -6,39 +6,39 @@ use Rattle.table.specs.Store.{move}
 use Rattle.table.proofs.entry.move_front.Statement.{statement}
 use Rattle.table.proofs.entry.move_front.Tie as tie
 
-front-index-requires : tie.Need-front-index-requires
+front-index-requires : tie.Need-front_index-from-requires
 front-index-requires c κs = search rules
 
-add-to : tie.Need-overflow-add-to
+add-to : tie.Need-overflow_add-to
 add-to c = search rules
 
-mul-entry : tie.Need-overflow-mul-entry
+mul-entry : tie.Need-offset_bounds-table-from
 mul-entry c = search rules
 
-slice-read-entry : tie.Need-slice-read-entry
+slice-read-entry : tie.Need-bounds-table-from
 slice-read-entry c = search rules
 
-mul-table : tie.Need-overflow-mul-table
+mul-table : tie.Need-offset_bounds-table-from-2
 mul-table c = search rules
 
-slice-write-table : tie.Need-slice-write-table
+slice-write-table : tie.Need-bounds-table-from-2
 slice-write-table c = search rules
 
-mul-table-2 : tie.Need-overflow-mul-table-2
+mul-table-2 : tie.Need-offset_bounds-table-to
 mul-table-2 c = search rules
 
-slice-write-table-2 : tie.Need-slice-write-table-2
+slice-write-table-2 : tie.Need-bounds-table-to
 slice-write-table-2 c = simp length-set (omega arith)
 
-same_length : tie.Need-same-length
+same_length : tie.Need-shape_of-table
 same_length c = search rules
 
 returns : tie.Need-returns
 unfolding move
-returns c = λ h pool. rw (← c.before.front-index.ensures)
+returns c = λ h pool. rw (← c.before.front_index-from.ensures)
 
-pub move-front-spec : {M : Type 1} → statement M
-move-front-spec =
+pub move_front_spec : {M : Type 1} → statement M
+move_front_spec =
     tie.close
     (tie.spec
     front-index-requires

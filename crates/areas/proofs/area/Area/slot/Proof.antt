@@ -6,20 +6,20 @@ use Rattle.areas.proofs.area.Area.slot.Statement.{statement}
 use Rattle.areas.proofs.area.Area.slot.Tie as tie
 
 -- the way back from where a fact is needed to where it was learned
-abbrev at-attributes : tie.After-page-on → tie.After-attributes
+abbrev at-attributes : tie.After-page_on → tie.After-attributes
 at-attributes c = c.before.before.before
 
 attributes-requires : tie.Need-attributes-requires
 attributes-requires c κs = tt
 
-sub-page-on : tie.Need-overflow-sub-page-on
+sub-page-on : tie.Need-overflow_sub-page
 sub-page-on c = omega arith
 
-page-on-requires : tie.Need-page-on-requires
+page-on-requires : tie.Need-page_on-requires
 page-on-requires c κs = omega (arith, ap (λ t. start_of t.backing) c.before.before.attributes.ensures)
 
 returns : tie.Need-returns
-returns c = c.page-on.ensures ∙ rw (at-attributes c).attributes.ensures
+returns c = c.page_on.ensures ∙ rw (at-attributes c).attributes.ensures
 
-pub slot-spec : {M : Type 1} → statement M
-slot-spec = tie.close (tie.spec attributes-requires sub-page-on page-on-requires returns)
+pub slot_spec : {M : Type 1} → statement M
+slot_spec = tie.close (tie.spec attributes-requires sub-page-on page-on-requires returns)

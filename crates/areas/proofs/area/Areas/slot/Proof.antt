@@ -11,35 +11,35 @@ use Rattle.areas.proofs.SlotLaws.{slot_step, slot-end}
 use Rattle.areas.proofs.area.Areas.slot.Statement.{statement}
 use Rattle.areas.proofs.area.Areas.slot.Tie as tie
 
-abbrev invariant-loop : tie.invariant-loop
+abbrev invariant-loop : tie.invariant-loop-k
 invariant-loop page self k₀ k = (k ≤ 8) × (slots self page.0 ≡ slot_in (drop k self.list) page.0)
 
-abbrev decreases-loop : tie.decreases-loop
+abbrev decreases-loop : tie.decreases-loop-k
 decreases-loop page self k₀ k = 8 - k
 
-eight : (c : tie.Start invariant-loop decreases-loop) → length c.args.t1.list ≡ 8
+eight : (c : tie.Start invariant-loop decreases-loop) → length c.args.self.list ≡ 8
 eight c = search length-mapped
 
-here : (c : tie.In-loop invariant-loop decreases-loop) → c.before.loop.k < length c.before.before.args.t1.list
+here : (c : tie.In-loop-k invariant-loop decreases-loop) → c.before.loop-k.k < length c.before.before.args.self.list
 here c = omega (arith, eight c.before.before)
 
-loop-holds : tie.Need-loop-init invariant-loop decreases-loop
+loop-holds : tie.Need-loop-k-init invariant-loop decreases-loop
 loop-holds c = search rules
 
-mul-area : tie.Need-overflow-mul-area invariant-loop decreases-loop
+mul-area : tie.Need-offset_bounds-self-k invariant-loop decreases-loop
 mul-area c = omega arith
 
-element-copy-out-area : tie.Need-element-copy-out-area invariant-loop decreases-loop
+element-copy-out-area : tie.Need-bounds-self-k invariant-loop decreases-loop
 element-copy-out-area c = omega arith
 
 covers-requires : tie.Need-covers-requires invariant-loop decreases-loop
 covers-requires c κs = tt
 
 -- the way back from where a fact is needed to where it was learned
-abbrev at-loop : tie.After-covers invariant-loop decreases-loop → tie.At-loop invariant-loop decreases-loop
+abbrev at-loop : tie.After-covers invariant-loop decreases-loop → tie.At-loop-k invariant-loop decreases-loop
 at-loop c = c.before.before.before
 
-abbrev turn-of-covers : tie.After-covers invariant-loop decreases-loop → tie.In-loop invariant-loop decreases-loop
+abbrev turn-of-covers : tie.After-covers invariant-loop decreases-loop → tie.In-loop-k invariant-loop decreases-loop
 turn-of-covers c = c.before.before
 
 abbrev at-start : tie.After-covers invariant-loop decreases-loop → tie.Start invariant-loop decreases-loop
@@ -47,37 +47,37 @@ at-start c = c.before.before.before.before
 
 slot-requires : tie.Need-slot-requires invariant-loop decreases-loop
 slot-requires c κs = (
-  (at-start c.before).pre.0.at (at-loop c.before).loop.k (turn-of-covers c.before).loop-test.taken,
-  ((at-start c.before).pre.1, inside-first _ _ _ (sym c.before.covers.ensures ∙ c.if1.true)),
+  (at-start c.before).requires.near.at (at-loop c.before).loop-k.k (turn-of-covers c.before).loop-k-test.taken,
+  ((at-start c.before).requires.page_bound, inside-first _ _ _ (sym c.before.covers.ensures ∙ c.if-covers.true)),
 )
 
-abbrev turn-of-slot : tie.After-slot invariant-loop decreases-loop → tie.In-loop invariant-loop decreases-loop
+abbrev turn-of-slot : tie.After-slot invariant-loop decreases-loop → tie.In-loop-k invariant-loop decreases-loop
 turn-of-slot c = turn-of-covers c.before.before
 
-returns : tie.Need-returns invariant-loop decreases-loop
+returns : tie.Need-returns-then-covers invariant-loop decreases-loop
 returns c =
     c.slot.ensures
     ∙ sym
-    ((turn-of-slot c).before.loop.invariant.1 ∙ slot_step _ _ _ (here (turn-of-slot c))
-    ∙ rw (← c.before.before.covers.ensures, c.before.if1.true))
+    ((turn-of-slot c).before.loop-k.invariant.1 ∙ slot_step _ _ _ (here (turn-of-slot c))
+    ∙ rw (← c.before.before.covers.ensures, c.before.if-covers.true))
 
-add-k : tie.Need-overflow-add-k invariant-loop decreases-loop
+add-k : tie.Need-overflow_step-k invariant-loop decreases-loop
 add-k c = omega arith
 
-loop-less : tie.Need-loop-smaller invariant-loop decreases-loop
+loop-less : tie.Need-loop-k-smaller invariant-loop decreases-loop
 loop-less c = omega arith
 
-loop-again : tie.Need-loop-preserved invariant-loop decreases-loop
+loop-again : tie.Need-loop-k-preserved invariant-loop decreases-loop
 loop-again c = (
   omega arith,
-  (at-loop c.before).loop.inv.1 ∙ slot_step _ _ _ (here (turn-of-covers c.before)) ∙ rw (← c.before.covers.ensures, c.if1.false),
+  (at-loop c.before).loop-k.invariant.1 ∙ slot_step _ _ _ (here (turn-of-covers c.before)) ∙ rw (← c.before.covers.ensures, c.if-covers.false),
 )
 
-returns-2 : tie.Need-returns-2 invariant-loop decreases-loop
-returns-2 c = sym (c.before.loop.invariant.1 ∙ slot-end c.before.before.args.t1.list c.before.loop.k _ (omega (arith, eight c.before.before)))
+returns-2 : tie.Need-returns invariant-loop decreases-loop
+returns-2 c = sym (c.before.loop-k.invariant.1 ∙ slot-end c.before.before.args.self.list c.before.loop-k.k _ (omega (arith, eight c.before.before)))
 
-pub slot-spec : {M : Type 1} → statement M
-slot-spec =
+pub slot_spec : {M : Type 1} → statement M
+slot_spec =
     tie.close
     (tie.spec
     invariant-loop

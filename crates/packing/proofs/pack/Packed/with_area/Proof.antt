@@ -8,8 +8,8 @@ use borrow.Author.Rules.{rules}
 use Rattle.packing.proofs.pack.Packed.with_area.Statement.{statement}
 use Rattle.packing.proofs.pack.Packed.with_area.Tie as tie
 
-returns : tie.Need-returns
-returns c = push-nothing _ _ c.if1.true
+returns : tie.Need-returns-then-area-eq0
+returns c = push-nothing _ _ c.if-area-eq0.true
 
 continues-requires : tie.Need-continues-requires
 continues-requires c κs = search rules
@@ -20,41 +20,32 @@ start-of-continues c = c.before.before.before.before
 
 extended-requires : tie.Need-extended-requires
 extended-requires c κs =
-    let on = sym c.before.continues.ensures ∙ c.if2.true in
-    (continues-some _ _ _ on, ((start-of-continues c.before).requires.0, omega (arith, (continues-last _ _ _ on).end, (start-of-continues c.before).requires.1)))
+    let on = sym c.before.continues.ensures ∙ c.if-continues.true in
+    (continues-some _ _ _ on, ((start-of-continues c.before).requires.count_bound, omega (arith, (continues-last _ _ _ on).end, (start-of-continues c.before).requires.pages_bound)))
 
-returns-2 : tie.Need-returns-2
+returns-2 : tie.Need-returns-then-continues
 returns-2 c =
     let on = c.before.before.continues in
-    push-extends _ _ (ne_eqb _ _ c.before.before.before.before.if1.false) on.result on.ensures c.before.if2.true _ c.extended.ensures
+    push-extends _ _ (ne_eqb _ _ c.before.before.before.before.if-area-eq0.false) on.result on.ensures c.before.if-continues.true _ c.extended.ensures
 
-cast-if3 : tie.Need-overflow-cast-if3
+cast-if3 : tie.Need-overflow_cast-areas
 cast-if3 c = search rules
 
 placed-requires : tie.Need-placed-requires
 placed-requires c κs = search rules
 
-returns-3 : tie.Need-returns-3
+returns-3 : tie.Need-returns-then-areas-lt-MOST
 returns-3 c =
     let on = c.before.before.before.before.continues in
-    push_places _ _ (ne_eqb _ _ c.before.before.before.before.before.before.if1.false) on.result on.ensures
-    c.before.before.before.if2.false (omega (arith, c.before.if3.true)) _ c.placed.ensures
+    push_places _ _ (ne_eqb _ _ c.before.before.before.before.before.before.if-area-eq0.false) on.result on.ensures
+    c.before.before.before.if-continues.false (omega (arith, c.before.if-areas-lt-MOST.true)) _ c.placed.ensures
 
-returns-4 : tie.Need-returns-4
+returns-4 : tie.Need-returns
 returns-4 c =
     let on = c.before.before.before.continues in
-    push-full _ _ (ne_eqb _ _ c.before.before.before.before.before.if1.false) on.result on.ensures c.before.before.if2.false
-    (omega (arith, c.if3.false))
+    push-full _ _ (ne_eqb _ _ c.before.before.before.before.before.if-area-eq0.false) on.result on.ensures c.before.before.if-continues.false
+    (omega (arith, c.if-areas-lt-MOST.false))
 
-pub with-area-spec : {M : Type 1} → statement M
-with-area-spec =
-    tie.close
-    (tie.spec
-    returns
-    continues-requires
-    extended-requires
-    returns-2
-    cast-if3
-    placed-requires
-    returns-3
-    returns-4)
+pub with_area_spec : {M : Type 1} → statement M
+with_area_spec =
+    tie.close (tie.spec returns continues-requires extended-requires returns-2 cast-if3 placed-requires returns-3 returns-4)

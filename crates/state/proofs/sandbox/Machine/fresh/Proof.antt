@@ -7,14 +7,14 @@ use Rattle.state.proofs.sandbox.Machine.fresh.Lts as lts
 use Rattle.frames.proofs.Held.none.Reads as none_reads
 use Rattle.state.proofs.sandbox.Sandbox.closed.Reads as closed-reads
 
-closed-requires : tie.Need-closed-requires
+closed-requires : tie.Need-closed-closed-requires
 closed-requires c κs = search rules
 
-none-requires : tie.Need-none-requires
+none-requires : tie.Need-none-held-requires
 none-requires c κs = search rules
 
 returns : tie.Need-returns
-returns c = rw (c.none.ensures, c.before.closed.ensures)
+returns c = rw (c.none-held.ensures, c.before.closed-closed.ensures)
 
-pub fresh-spec : {M : Type 1} → statement M
-fresh-spec = tie.close (tie.spec closed-requires none-requires returns)
+pub fresh_spec : {M : Type 1} → statement M
+fresh_spec = tie.close (tie.spec closed-requires none-requires returns)
