@@ -21,7 +21,7 @@ use Rattle.interface.specs.declared.request.Request.{Request}
 use Rattle.interface.specs.Requests.{request_of, map_code}
 use Rattle.interface.specs.Slots.{Slots, is_mapped, backing_at, advance, joins, previous, starts_area, areas, mapped_pages, charge_of, all_are, kind_of, start_of}
 use Rattle.interface.specs.Limits.{backing_ok}
-use Rattle.interface.specs.Outcome.{page_on, new_page, first_of, slots_after, copyAfter}
+use Rattle.interface.specs.Outcome.{page_on, new_page, first_of, slots_after, copy_after}
 use Rattle.interface.specs.Refusals.{refusal}
 use Rattle.interface.proofs.SlotLaws.{unmapped, beyond}
 use Rattle.plain.specs.Machine.{Given, Pages, Core, view_of, backing_byte, new_bytes, bytes_after, core_after}
@@ -184,7 +184,7 @@ module _ (g : Given) (s share : ℕ) (row : s < 4) (d : Pages) (h : IsSnapshot g
     map-free = every_of (λ j. same false (is_mapped (mapped_to i j))) i (pages_from f i) (λ j a b. rw (cut-from i (λ j. writable (f j)) (λ j. Unmapped) j a))
 
     map-accepted : refusal (view_of g 0 (built share (mapped_to i) (blank_to i))) q ≡ 0
-    unfolding copyAfter
+    unfolding copy_after
     map-accepted =
         map-taken (view_of g 0 (built share (mapped_to i) (blank_to i))) refl s row refl i (pages_from f i)
         (kind_of (backing_at (f i))) (start_of (backing_at (f i)))
@@ -193,7 +193,7 @@ module _ (g : Given) (s share : ℕ) (row : s < 4) (d : Pages) (h : IsSnapshot g
         (rw map-slots (mapped-charge (i + pages_from f i))) (rw map-slots (mapped-areas (i + pages_from f i)))
 
     map-leaves : core_after g q (built share (mapped_to i) (blank_to i)) ≡ built share (mapped_to (i + pages_from f i)) (blank_to (i + pages_from f i))
-    unfolding copyAfter
+    unfolding copy_after
     map-leaves = ap₂ (built share) map-slots map-bytes
 
     map-goes : Goes g s (q ∷ []) (map_stage i) (map_stage (suc i))

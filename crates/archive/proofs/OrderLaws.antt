@@ -19,7 +19,7 @@ use Rattle.interface.specs.declared.request.Request.{Request}
 use Rattle.interface.specs.Requests.{◌is◌, map_code, protect_code, write_code, snapshot_code, page_of, offset_of}
 use Rattle.interface.specs.Slots.{is_mapped, rights_at, backing_at, advance, with_rights, with_committed, copied}
 use Rattle.interface.specs.Limits.{rights_ok, within, backing_ok, place_ok, pages_ok}
-use Rattle.interface.specs.Outcome.{page_on, new_page, slots_after, copyAfter}
+use Rattle.interface.specs.Outcome.{page_on, new_page, slots_after, copy_after}
 use Rattle.interface.specs.Accepted.{Accepted}
 use Rattle.interface.proofs.KindLaws.{Kind, kind, is_map, is_unmap, is_protect, is_write, is_snapshot, is_rewind, is_other}
 use Rattle.interface.proofs.AcceptedLaws.{accepted}
@@ -120,7 +120,7 @@ module _ (g : Given) (q : Request) (c : Core) (total : ℕ) (a : Accepted (view_
   present-ok (is_other x₁ x₂ x₃ x₄ x₅ x₆) i = rw (x₁, x₂, x₃, x₄, x₅, x₆) (h.present i)
 
   core-ok : CoreOk g.image (core_after g q c)
-  unfolding copyAfter
+  unfolding copy_after
   core-ok = record {
     present = present-ok (kind q);
     copied = when-cases (CopyOk g.image) (q is snapshot_code) (λ _. present-ok (kind q)) (λ _. h.copied);

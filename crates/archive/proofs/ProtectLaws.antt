@@ -17,7 +17,7 @@ use Rattle.interface.specs.declared.request.Request.{Request}
 use Rattle.interface.specs.Requests.{request_of, snapshot_code}
 use Rattle.interface.specs.Slots.{Slots, is_mapped, is_committed, rights_at, with_rights, with_committed, joins, previous, starts_area, areas, mapped_pages}
 use Rattle.interface.specs.Slots.{charge_of, all_are}
-use Rattle.interface.specs.Outcome.{slots_after, copyAfter}
+use Rattle.interface.specs.Outcome.{slots_after, copy_after}
 use Rattle.interface.specs.Refusals.{refusal}
 use Rattle.interface.proofs.ChargeLaws.{snapshot-charge}
 use Rattle.plain.specs.Machine.{Given, Pages, Core, view_of, bytes_after, core_after}
@@ -110,7 +110,7 @@ module _ (g : Given) (s share : ℕ) (row : s < 4) (d : Pages) (h : IsSnapshot g
       protect-mapped = every_of (λ j. same true (is_mapped (protected_to i j))) i (pages_from f i) (λ j a b. mapped-there i j ∙ rw (start-page f i l starts j a b))
 
       protect-accepted : refusal (view_of g 0 (built share (protected_to i) bytes)) q ≡ 0
-      unfolding copyAfter
+      unfolding copy_after
       protect-accepted =
           protect-taken (view_of g 0 (built share (protected_to i) bytes)) refl s row refl i (pages_from f i) l (start-some f i l starts)
           (start-inside f i l starts) protect-mapped
@@ -118,7 +118,7 @@ module _ (g : Given) (s share : ℕ) (row : s < 4) (d : Pages) (h : IsSnapshot g
           (rw protect-slots (protected-areas (i + pages_from f i) (rw (start-next f i l starts) (end-joins (suc i) (omega arith)))))
 
       protect-leaves : core_after g q (built share (protected_to i) bytes) ≡ built share (protected_to (i + pages_from f i)) bytes
-      unfolding copyAfter bytes_after
+      unfolding copy_after bytes_after
       protect-leaves = ap (λ (x : Slots). built share x bytes) protect-slots
 
       protect-goes : Goes g s (q ∷ []) (protect_stage i) (protect_stage (suc i))
@@ -163,14 +163,14 @@ module _ (g : Given) (s share : ℕ) (row : s < 4) (d : Pages) (h : IsSnapshot g
   snapshot-slots = fun_ext λ i. commit-back (f i) (h.marked i)
 
   snapshot-accepted : refusal (view_of g 0 (built share (λ i. unmarked (f i)) bytes)) (request_of snapshot_code s 0 0 0 0 0) ≡ 0
-  unfolding slots_after copyAfter
+  unfolding slots_after copy_after
   snapshot-accepted =
       snapshot-taken (view_of g 0 (built share (λ i. unmarked (f i)) bytes)) refl s row refl refl
       (omega (arith, h.charged, snapshot-charge (λ i. unmarked (f i)), remade-charge f (λ r. r)))
       (rw snapshot-slots h.few)
 
   pub snapshot-goes : Goes g s (closing s) (built share (λ i. unmarked (f i)) bytes) (snapped share rebuilt)
-  unfolding copyAfter bytes_after
+  unfolding copy_after bytes_after
   snapshot-goes =
       goes_one g s (request_of snapshot_code s 0 0 0 0 0) (built share (λ i. unmarked (f i)) bytes) (snapped share rebuilt) refl refl snapshot-accepted
       (ap (λ (x : Slots). snapped share (record { slots = x; bytes = bytes })) snapshot-slots)

@@ -13,7 +13,7 @@ use Rattle.interface.specs.declared.request.Request.{Request}
 use Rattle.interface.specs.declared.page.Slot.TheVariants.{Unmapped}
 use Rattle.interface.specs.Requests.{request_of, open_code}
 use Rattle.interface.specs.Slots.{is_mapped, mapped_pages, uncommitted_pages, charge_of}
-use Rattle.interface.specs.Outcome.{slots_after, copyAfter}
+use Rattle.interface.specs.Outcome.{slots_after, copy_after}
 use Rattle.plain.specs.Machine.{Given, Pages, Core, Kept, fresh, copy_slots, view_of, shares, bytes_after, number_at, answer, after, answers, after_all}
 use Rattle.plain_claims.specs.Lists.{up_to}
 use Rattle.plain_claims.specs.Claims.{Keeps}
@@ -37,13 +37,13 @@ module _ (g : Given) (s share : ℕ) (row : s < 4) (least : 1 ≤ share) (most :
   first = request_of open_code s share 0 0 0 0
 
   pub open-accepted : number_at g fresh first ≡ 0
-  unfolding slots_after copyAfter charge_of sum
+  unfolding slots_after copy_after charge_of sum
   open-accepted =
       open-taken (view_of g (shares fresh) (fresh s).core) refl s row share refl least most (omega arith)
       (omega (arith, mapped-none)) (omega (arith, areas-none))
 
   pub open-leaves : (after g fresh first s).core ≡ built share (λ i. Unmapped) (λ i j. 0)
-  unfolding slots_after copyAfter bytes_after
+  unfolding slots_after copy_after bytes_after
   open-leaves = accepted-core g s fresh first refl open-accepted
 
 -- ---- the segments, and the roll as they come in turn

@@ -13,7 +13,7 @@ use Rattle.interface.specs.declared.page.Slot.{Slot}
 use Rattle.interface.specs.declared.page.Slot.TheVariants.{Unmapped, Mapped}
 use Rattle.interface.specs.declared.request.Request.{Request}
 use Rattle.interface.specs.Slots.{Slots, is_mapped, rights_at, areas, mapped_pages, charge_of}
-use Rattle.interface.specs.Outcome.{slots_after, copyAfter}
+use Rattle.interface.specs.Outcome.{slots_after, copy_after}
 use Rattle.interface.specs.Refusals.{refusal}
 use Rattle.plain.specs.Machine.{Given, Pages, Core, view_of, stored, bytes_after, core_after}
 use Rattle.archive.specs.Archive.{only, differs, write_at, addresses, writes}
@@ -107,7 +107,7 @@ module _ (g : Given) (s share : ℕ) (row : s < 4) (d : Pages) (h : IsSnapshot g
           (λ i j n. rw n (filled_off a i j n))
 
       write-accepted : refusal (view_of g 0 (write_stage a)) q ≡ 0
-      unfolding slots_after copyAfter charge_of
+      unfolding slots_after copy_after charge_of
       write-accepted =
           write-taken (view_of g 0 (write_stage a)) refl s row refl a (d.bytes (a / 256) (a % 256)) (omega (arith, l)) byte
           (rw (mapped-remade (λ r. 3) (f (a / 256))) there)
@@ -115,7 +115,7 @@ module _ (g : Given) (s share : ℕ) (row : s < 4) (d : Pages) (h : IsSnapshot g
           (omega (arith, h.charged, remade-charge f (λ r. 3))) (omega (arith, h.few, remade-areas f (λ r. 3)))
 
       write-leaves : core_after g q (write_stage a) ≡ write_stage (suc a)
-      unfolding slots_after copyAfter bytes_after
+      unfolding slots_after copy_after bytes_after
       write-leaves = ap (built share (λ i. writable (f i))) write_bytes
 
       write_goes : Goes g s (q ∷ []) (write_stage a) (write_stage (suc a))

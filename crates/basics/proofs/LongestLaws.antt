@@ -8,8 +8,8 @@ use native.Mathlib.Decide.{ℕ_discrete, dec_lt}
 use lib.Dec.{leb, ltb, eqb}
 use borrow.Author.Tests.{lt-ltb, le-ltb, ltb-true, ltb-false, leb-true, leb-false, eqb-true, eqb-false, eq-eqb, ne_eqb}
 use Rattle.basics.specs.Ranges.{one, count}
-use Rattle.basics.specs.Rows.{best, no_longer, movedUp, push, Walk, walkTo, walked}
-use Rattle.basics.specs.Longest.{pushAll, byAge, GivesWay, Longest, KeepsLongest, taken_of}
+use Rattle.basics.specs.Rows.{best, no_longer, moved_up, push, Walk, walk_to, walked}
+use Rattle.basics.specs.Longest.{push_all, by_age, GivesWay, Longest, KeepsLongest, taken_of}
 use Rattle.basics.proofs.TestLaws.{by_cases, when-cases}
 use Rattle.basics.proofs.CountLaws.{count-zero}
 use Rattle.basics.proofs.RowLaws.{best-low, shortest-least, push-none}
@@ -27,30 +27,30 @@ shortest-newest l (suc n) i d h =
 -- a row moved up: those below c stay, the others are the next ones, and v is last
 module _ {ℓ} {A : Type ℓ} (n c : ℕ) (v : A) (row : ℕ → A) where
   moved-cases {ℓ'} : (P : A → Type ℓ') (j : ℕ) → (j < c → P (row j)) → (c ≤ j → j + 1 < n → P (row (j + 1))) → (c ≤ j → n ≤ j + 1 → P v)
-      → P (movedUp n c v row j)
-  unfolding movedUp
+      → P (moved_up n c v row j)
+  unfolding moved_up
   moved-cases P j low next last =
       when-cases P (ltb j c) (λ x. low (ltb-true j c x))
       (λ x. when-cases P (ltb (j + 1) n) (λ y. next (ltb-false j c x) (ltb-true (j + 1) n y)) (λ y. last (ltb-false j c x) (ltb-false (j + 1) n y)))
 
-  moved-low : (j : ℕ) → j < c → movedUp n c v row j ≡ row j
-  unfolding movedUp
+  moved-low : (j : ℕ) → j < c → moved_up n c v row j ≡ row j
+  unfolding moved_up
   moved-low j d = rw (lt-ltb j c d)
 
-  moved-next : (j : ℕ) → c ≤ j → j + 1 < n → movedUp n c v row j ≡ row (j + 1)
-  unfolding movedUp
+  moved-next : (j : ℕ) → c ≤ j → j + 1 < n → moved_up n c v row j ≡ row (j + 1)
+  unfolding moved_up
   moved-next j d e = rw (le-ltb j c d, lt-ltb (j + 1) n e)
 
-  moved-last : (j : ℕ) → c ≤ j → n ≤ j + 1 → movedUp n c v row j ≡ v
-  unfolding movedUp
+  moved-last : (j : ℕ) → c ≤ j → n ≤ j + 1 → moved_up n c v row j ≡ v
+  unfolding moved_up
   moved-last j d e = rw (le-ltb j c d, le-ltb (j + 1) n e)
 
 -- ---- one thing more
 
 module _ {ℓ} {A : Type ℓ} (size : A → ℕ) (all : ℕ → A) where
   -- one that is no longer gives way to an older one
-  no_longer : (k j : ℕ) → size (all k) ≤ size (all j) → j < k → GivesWay size all k j
-  no_longer k j h d =
+  no_longer_gives_way : (k j : ℕ) → size (all k) ≤ size (all j) → j < k → GivesWay size all k j
+  no_longer_gives_way k j h d =
       by_cases (ltb (size (all k)) (size (all j))) (λ t. inl (ltb-true _ _ t)) (λ t. inr (omega (arith, h, ltb-false (size (all k)) (size (all j)) t), d))
 
   -- the one that gives way is no longer
@@ -80,16 +80,16 @@ module _ {ℓ} {A : Type ℓ} (size : A → ℕ) (all : ℕ → A) where
       order = L.order;
       rest = λ k d none j e.
           by_cases (eqb k m)
-          (λ t. rw (eqb-true k m t) (no_longer m (L.place j) (omega (arith, h, sized c c-low, least j e)) (L.below j e)))
+          (λ t. rw (eqb-true k m t) (no_longer_gives_way m (L.place j) (omega (arith, h, sized c c-low, least j e)) (L.below j e)))
           (λ t. L.rest k (omega (arith, eqb-false k m t)) none j e);
     }
 
     -- it is longer: the shortest goes, and it comes last
     abbrev places : ℕ → ℕ
-    places = movedUp n c m L.place
+    places = moved_up n c m L.place
 
-    moved-from : (j : ℕ) → j < n → movedUp n c (all m) row j ≡ all (places j)
-    unfolding movedUp
+    moved-from : (j : ℕ) → j < n → moved_up n c (all m) row j ≡ all (places j)
+    unfolding moved_up
     moved-from j d =
         by_cases (ltb j c) (λ x. rw x (L.from j d))
         (λ x. by_cases (ltb (j + 1) n) (λ y. rw (x, y) (L.from (j + 1) (ltb-true (j + 1) n y))) (λ y. rw (x, y)))
@@ -129,7 +129,7 @@ module _ {ℓ} {A : Type ℓ} (size : A → ℕ) (all : ℕ → A) where
       gone e j l =
           rw e
           (moved-cases n c m L.place (GivesWay size all (L.place c)) j
-          (λ h. no_longer (L.place c) (L.place j) (least j l) (L.order j c h c-low))
+          (λ h. no_longer_gives_way (L.place c) (L.place j) (least j l) (L.order j c h c-low))
           (λ h y. inl (omega (arith, sized c c-low, sized (j + 1) y, shortest-newest (λ i. size (row i)) n (j + 1) (omega arith) y)))
           (λ _ _. inl (omega (arith, longer, sized c c-low))))
 
@@ -139,7 +139,7 @@ module _ {ℓ} {A : Type ℓ} (size : A → ℕ) (all : ℕ → A) where
           moved-cases n c m L.place (GivesWay size all k) j (λ _. old j l) (λ _ y. old (j + 1) y)
           (λ _ _. inl (omega (arith, way-le k (L.place c) (old c c-low), sized c c-low, longer)))
 
-    enters : size (row c) < size (all m) → Longest size all (suc m) (movedUp n c (all m) row) n
+    enters : size (row c) < size (all m) → Longest size all (suc m) (moved_up n c (all m) row) n
     enters h = record {
       place = places;
       from = moved-from;
@@ -160,7 +160,7 @@ module _ {ℓ} {A : Type ℓ} (size : A → ℕ) (all : ℕ → A) where
 
 -- one by one, the longest of all are kept
 pub keeps-longest {ℓ} : {A : Type ℓ} (size : A → ℕ) (n : ℕ) → 0 < n → KeepsLongest size n
-unfolding pushAll
+unfolding push_all
 keeps-longest size n some row new zero = record {
   place = λ j. j;
   from = λ j d. rw (lt-ltb j n d);
@@ -169,14 +169,14 @@ keeps-longest size n some row new zero = record {
   rest = λ k d none j e. absurd (none k (omega arith) refl);
 }
 keeps-longest size n some row new (suc m) =
-    let after : byAge n row new (n + m) ≡ new m = let z : n + m - n ≡ m = omega arith in rw (le-ltb (n + m) n (omega arith), z) in
+    let after : by_age n row new (n + m) ≡ new m = let z : n + m - n ≡ m = omega arith in rw (le-ltb (n + m) n (omega arith), z) in
     let next : n + suc m ≡ suc (n + m) = omega arith in
-    rw (← after, next) (longest-push size (byAge n row new) n (n + m) some _ (keeps-longest size n some row new m))
+    rw (← after, next) (longest-push size (by_age n row new) n (n + m) some _ (keeps-longest size n some row new m))
 
 -- a new one of length 0 may be left out
 pub push-all-none {ℓ} : {A : Type ℓ} (size : A → ℕ) (n : ℕ) (row new : ℕ → A) → size (new 0) ≡ 0 → (m : ℕ)
-    → pushAll size n row new (suc m) ≡ pushAll size n row (λ t. new (suc t)) m
-unfolding pushAll
+    → push_all size n row new (suc m) ≡ push_all size n row (λ t. new (suc t)) m
+unfolding push_all
 push-all-none size n row new e zero = push-none size n row (new 0) e
 push-all-none size n row new e (suc m) = rw (← push-all-none size n row new e m)
 
@@ -217,18 +217,18 @@ module _ (starts taken : ℕ → Bool) where
 
   module _ (n : ℕ) (row : ℕ → ℕ) (top : ℕ) where
     abbrev walk : ℕ → Walk ℕ
-    walk m = walkTo (λ x. x) n 0 starts (λ i x. x + one (taken i)) row m
+    walk m = walk_to (λ x. x) n 0 starts (λ i x. x + one (taken i)) row m
 
     abbrev things : ℕ → ℕ
     things t = taken_of starts taken t top
 
     -- the things before the one at hand are pushed
     record Pushed (m : ℕ) : Type 0 where
-      row_is : (walk m).row ≡ pushAll (λ x. x) n row things (count starts m)
+      row_is : (walk m).row ≡ push_all (λ x. x) n row things (count starts m)
       current-is : (walk m).current ≡ taken_of starts taken (count starts m) m
 
     pushed_start : (m : ℕ) → m < top → Pushed m → starts m ≡ true → Pushed (suc m)
-    unfolding walkTo pushAll
+    unfolding walk_to push_all
     pushed_start m h ih e =
         let next : count starts (suc m) ≡ suc (count starts m) = count_next starts m ∙ rw e (omega arith) in
         let whole : (walk m).current ≡ things (count starts m) =
@@ -241,7 +241,7 @@ module _ (starts taken : ℕ → Bool) where
         }
 
     pushed-on : (m : ℕ) → m < top → Pushed m → starts m ≡ false → Pushed (suc m)
-    unfolding walkTo
+    unfolding walk_to
     pushed-on m h ih e =
         let same : count starts (suc m) ≡ count starts m = count_next starts m ∙ rw e (omega arith) in
         record {
@@ -250,12 +250,12 @@ module _ (starts taken : ℕ → Bool) where
         }
 
     pushed : (m : ℕ) → m ≤ top → Pushed m
-    unfolding walkTo pushAll count
+    unfolding walk_to push_all count
     pushed zero h = record { row_is = refl; current-is = refl }
     pushed (suc m) h =
         by_cases (starts m) (pushed_start m (omega arith) (pushed m (omega arith))) (pushed-on m (omega arith) (pushed m (omega arith)))
 
     -- a walk is a pushing of its things one by one
-    pub walked-pushes : walked (λ x. x) n 0 starts (λ i x. x + one (taken i)) row top ≡ pushAll (λ x. x) n row things (suc (count starts top))
-    unfolding walked pushAll
+    pub walked-pushes : walked (λ x. x) n 0 starts (λ i x. x + one (taken i)) row top ≡ push_all (λ x. x) n row things (suc (count starts top))
+    unfolding walked push_all
     walked-pushes = let p = pushed top (omega arith) in rw (p.row_is, p.current-is)

@@ -9,7 +9,7 @@ use lib.Dec.{leb, ltb}
 use borrow.Author.Tests.{lt-ltb, le-ltb, ltb-true, ltb-false, le-leb, leb-true, leb-false}
 use Rattle.basics.specs.Choice.{◌when◌else◌}
 use Rattle.basics.specs.Ranges.{sum}
-use Rattle.basics.specs.Rows.{best, longer, no_longer, fitter, movedUp, push, Walk, walkTo, walked}
+use Rattle.basics.specs.Rows.{best, longer, no_longer, fitter, moved_up, push, Walk, walk_to, walked}
 use Rattle.basics.proofs.TestLaws.{by_cases, when-cases, never, or_left, or_right}
 
 -- ---- the chosen place
@@ -99,8 +99,8 @@ module _ {ℓ} {A : Type ℓ} (F : A → ℕ) (row : ℕ → A) (c : ℕ) where
           rw (b, z) (omega (arith, ih (omega arith)))
 
   -- the row of n with v last, where c is one of its places
-  pub sum_moved : (n : ℕ) (v : A) → c < n → sum (λ i. F (movedUp n c v row i)) n + F (row c) ≡ sum (λ i. F (row i)) n + F v
-  unfolding movedUp sum
+  pub sum_moved : (n : ℕ) (v : A) → c < n → sum (λ i. F (moved_up n c v row i)) n + F (row c) ≡ sum (λ i. F (row i)) n + F v
+  unfolding moved_up sum
   sum_moved zero v h = absurd (omega arith)
   sum_moved (suc n) v h =
       let first : sum (λ i. F (row i when ltb i c else (row (i + 1) when ltb (i + 1) (suc n) else v))) n ≡ sum (λ i. F (without i)) n =
@@ -129,12 +129,12 @@ module _ {ℓ} {A : Type ℓ} (size : A → ℕ) (n : ℕ) where
   -- and so does what is counted along a walk
   module _ (F : A → ℕ) (none : A) (starts : ℕ → Bool) (add : ℕ → A → A) (row : ℕ → A) (some : 0 < n)
       (gain : ℕ → ℕ) (start : F none ≡ 0) (top : ℕ) (more : (i : ℕ) (a : A) → i < top → F (add i a) ≤ F a + gain i) where
-    walk-sum : (m : ℕ) → m ≤ top → sum (λ i. F ((walkTo size n none starts add row m).row i)) n + F (walkTo size n none starts add row m).current
+    walk-sum : (m : ℕ) → m ≤ top → sum (λ i. F ((walk_to size n none starts add row m).row i)) n + F (walk_to size n none starts add row m).current
         ≤ sum (λ i. F (row i)) n + sum gain m
-    unfolding walkTo sum
+    unfolding walk_to sum
     walk-sum zero u = omega arith
     walk-sum (suc m) u =
-        let w : Walk A = walkTo size n none starts add row m in
+        let w : Walk A = walk_to size n none starts add row m in
         by_cases (starts m)
         (λ e. rw e (omega (arith, walk-sum m (omega arith), push-sum F w.row w.current some, more m none u)))
         (λ e. rw e (omega (arith, walk-sum m (omega arith), more m w.current u)))
@@ -142,13 +142,13 @@ module _ {ℓ} {A : Type ℓ} (size : A → ℕ) (n : ℕ) where
     pub walked-sum : (m : ℕ) → m ≤ top → sum (λ i. F (walked size n none starts add row m i)) n ≤ sum (λ i. F (row i)) n + sum gain m
     unfolding walked
     walked-sum m u =
-        let w : Walk A = walkTo size n none starts add row m in
+        let w : Walk A = walk_to size n none starts add row m in
         omega (arith, walk-sum m u, push-sum F w.row w.current some)
 
   -- where no item adds anything, the row stays
   module _ (none : A) (starts : ℕ → Bool) (add : ℕ → A → A) (row : ℕ → A) (empty : size none ≡ 0) where
-    walk-idle : (m : ℕ) → ((i : ℕ) → i < m → add i none ≡ none) → walkTo size n none starts add row m ≡ record { row = row; current = none }
-    unfolding walkTo
+    walk-idle : (m : ℕ) → ((i : ℕ) → i < m → add i none ≡ none) → walk_to size n none starts add row m ≡ record { row = row; current = none }
+    unfolding walk_to
     walk-idle zero idle = refl
     walk-idle (suc m) idle =
         let ih = walk-idle m (λ i d. idle i (omega arith)) in
@@ -167,8 +167,8 @@ module _ {ℓ ℓ'} {A : Type ℓ} {B : Type ℓ'} (size : A → ℕ) (size' : B
   abbrev Alike : (ℕ → A) → (ℕ → B) → Type 0
   Alike row row' = (i : ℕ) → i < n → size (row i) ≡ size' (row' i)
 
-  moved_same : (row : ℕ → A) (row' : ℕ → B) (v : A) (v' : B) (c : ℕ) → Alike row row' → size v ≡ size' v' → Alike (movedUp n c v row) (movedUp n c v' row')
-  unfolding movedUp
+  moved_same : (row : ℕ → A) (row' : ℕ → B) (v : A) (v' : B) (c : ℕ) → Alike row row' → size v ≡ size' v' → Alike (moved_up n c v row) (moved_up n c v' row')
+  unfolding moved_up
   moved_same row row' v v' c e d i l =
       by_cases (ltb i c)
       (λ x. rw x (e i l))
@@ -192,17 +192,17 @@ module _ {ℓ ℓ'} {A : Type ℓ} {B : Type ℓ'} (size : A → ℕ) (size' : B
       (e : Alike row row') where
     -- along two walks that add alike, where I holds of the thing at hand
     record Alongside (m : ℕ) : Type 0 where
-      rows : Alike (walkTo size n none starts add row m).row (walkTo size' n none' starts add' row' m).row
-      current : size (walkTo size n none starts add row m).current ≡ size' (walkTo size' n none' starts add' row' m).current
-      holds : I m (walkTo size n none starts add row m).current
+      rows : Alike (walk_to size n none starts add row m).row (walk_to size' n none' starts add' row' m).row
+      current : size (walk_to size n none starts add row m).current ≡ size' (walk_to size' n none' starts add' row' m).current
+      holds : I m (walk_to size n none starts add row m).current
 
     alongside : (m : ℕ) → m ≤ top → Alongside m
-    unfolding walkTo
+    unfolding walk_to
     alongside zero u = record { rows = e; current = empty; holds = first 0 }
     alongside (suc m) u =
         let ih = alongside m (omega arith) in
-        let w : Walk A = walkTo size n none starts add row m in
-        let w' : Walk B = walkTo size' n none' starts add' row' m in
+        let w : Walk A = walk_to size n none starts add row m in
+        let w' : Walk B = walk_to size' n none' starts add' row' m in
         record {
           rows = λ i l.
               by_cases (starts m) (λ x. rw x (push-same w.row w'.row w.current w'.current ih.rows ih.current i l)) (λ x. rw x (ih.rows i l));
@@ -215,7 +215,7 @@ module _ {ℓ ℓ'} {A : Type ℓ} {B : Type ℓ'} (size : A → ℕ) (size' : B
     unfolding walked
     walked_same m u =
         let a = alongside m u in
-        push-same (walkTo size n none starts add row m).row (walkTo size' n none' starts add' row' m).row _ _ a.rows a.current
+        push-same (walk_to size n none starts add row m).row (walk_to size' n none' starts add' row' m).row _ _ a.rows a.current
 
 -- ---- the shortest that is long enough, else the longest
 

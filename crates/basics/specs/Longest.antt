@@ -5,13 +5,13 @@ use Rattle.basics.specs.Ranges.{count}
 use Rattle.basics.specs.Rows.{push}
 
 -- the row of n after new 0, new 1, .. new (m - 1) were pushed one by one
-unfoldable pub pushAll {ℓ} : {A : Type ℓ} → (A → ℕ) → ℕ → (ℕ → A) → (ℕ → A) → ℕ → ℕ → A
-pushAll size n row new zero = row
-pushAll size n row new (suc m) = push size n (pushAll size n row new m) (new m)
+unfoldable pub push_all {ℓ} : {A : Type ℓ} → (A → ℕ) → ℕ → (ℕ → A) → (ℕ → A) → ℕ → ℕ → A
+push_all size n row new zero = row
+push_all size n row new (suc m) = push size n (push_all size n row new m) (new m)
 
 -- all of them in the order of their ages, the oldest first: the n of the row, then the new ones
-abbrev pub byAge {ℓ} : {A : Type ℓ} → ℕ → (ℕ → A) → (ℕ → A) → ℕ → A
-byAge n row new k = row k when ltb k n else new (k - n)
+abbrev pub by_age {ℓ} : {A : Type ℓ} → ℕ → (ℕ → A) → (ℕ → A) → ℕ → A
+by_age n row new k = row k when ltb k n else new (k - n)
 
 -- thing k gives way to thing j: it is shorter, or as long and newer
 abbrev pub GivesWay {ℓ} : {A : Type ℓ} → (A → ℕ) → (ℕ → A) → ℕ → ℕ → Type 0
@@ -28,7 +28,7 @@ pub record Longest {ℓ} {A : Type ℓ} (size : A → ℕ) (all : ℕ → A) (m 
 
 -- one by one, the longest of all are kept (proved in proofs/LongestLaws)
 abbrev pub KeepsLongest {ℓ} : {A : Type ℓ} → (A → ℕ) → ℕ → Type ℓ
-KeepsLongest size n = (row new : ℕ → _) (m : ℕ) → Longest size (byAge n row new) (n + m) (pushAll size n row new m) n
+KeepsLongest size n = (row new : ℕ → _) (m : ℕ) → Longest size (by_age n row new) (n + m) (push_all size n row new m) n
 
 -- how many of the first m items are taken and belong to thing t, where a new thing starts at each item that `starts`: t have started up to the item
 abbrev pub taken_of : (ℕ → Bool) → (ℕ → Bool) → ℕ → ℕ → ℕ

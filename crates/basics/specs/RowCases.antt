@@ -1,7 +1,7 @@
 -- Rows by example: which place of a row is chosen, and what pushed things leave.
 use Rattle.std.specs.Prelude.{ℕ, List, [], ◌∷◌, get_or}
 use Rattle.basics.specs.Rows.{best, longer, no_longer, fitter}
-use Rattle.basics.specs.Longest.{pushAll}
+use Rattle.basics.specs.Longest.{push_all}
 
 -- five lengths, the oldest first
 abbrev row : ℕ → ℕ
@@ -17,7 +17,7 @@ chosen_places = 1 ∷ 4 ∷ 2 ∷ 0 ∷ 1 ∷ 1 ∷ []
 
 -- what is in the five places after the first m of 1, 2, 2, 4 and 2 came
 abbrev pub pushed_first : ℕ → List ℕ
-pushed_first m = let r = pushAll (λ x. x) 5 row (λ i. get_or (1 ∷ 2 ∷ 2 ∷ 4 ∷ 2 ∷ []) i 0) m in r 0 ∷ r 1 ∷ r 2 ∷ r 3 ∷ r 4 ∷ []
+pushed_first m = let r = push_all (λ x. x) 5 row (λ i. get_or (1 ∷ 2 ∷ 2 ∷ 4 ∷ 2 ∷ []) i 0) m in r 0 ∷ r 1 ∷ r 2 ∷ r 3 ∷ r 4 ∷ []
 
 -- the 1 is no longer than the shortest and changes nothing; for the first 2 the newer 1 goes, for the second the older 1; for the 4 the newest 2; the last 2
 -- changes nothing

@@ -22,18 +22,18 @@ abbrev pub fitter : ℕ → ℕ → ℕ → Bool
 fitter pages new old = (ltb new old || ltb old pages) when leb pages new else ltb old new
 
 -- the row with v in place c
-abbrev pub inPlace {ℓ} : {A : Type ℓ} → ℕ → A → (ℕ → A) → ℕ → A
-inPlace c v row i = v when eqb c i else row i
+abbrev pub in_place {ℓ} : {A : Type ℓ} → ℕ → A → (ℕ → A) → ℕ → A
+in_place c v row i = v when eqb c i else row i
 
 -- the row of n without place c: those after it move up by one, and v comes last
-unfoldable pub movedUp {ℓ} : {A : Type ℓ} → ℕ → ℕ → A → (ℕ → A) → ℕ → A
-movedUp n c v row i = row i when ltb i c else (row (i + 1) when ltb (i + 1) n else v)
+unfoldable pub moved_up {ℓ} : {A : Type ℓ} → ℕ → ℕ → A → (ℕ → A) → ℕ → A
+moved_up n c v row i = row i when ltb i c else (row (i + 1) when ltb (i + 1) n else v)
 
 -- 'At most 8 .. are kept, the longest. All ties go to the older': v, the newest, takes the place of the shortest of n, unless v is no longer than that
 unfoldable pub push {ℓ} : {A : Type ℓ} → (A → ℕ) → ℕ → (ℕ → A) → A → ℕ → A
 push size n row v =
     row when leb (size v) (size (row (best no_longer (λ i. size (row i)) n))) else
-    movedUp n (best no_longer (λ i. size (row i)) n) v row
+    moved_up n (best no_longer (λ i. size (row i)) n) v row
 
 -- a walk along numbered items: a row, and the thing that is being gathered
 pub record Walk {ℓ} (A : Type ℓ) : Type ℓ where
@@ -41,10 +41,10 @@ pub record Walk {ℓ} (A : Type ℓ) : Type ℓ where
   pub current : A
 
 -- Item i starts a new thing where `starts i`: the one before is pushed. `add i` puts item i to the thing at hand.
-unfoldable pub walkTo {ℓ} : {A : Type ℓ} → (A → ℕ) → ℕ → A → (ℕ → Bool) → (ℕ → A → A) → (ℕ → A) → ℕ → Walk A
-walkTo size n none starts add row zero = record { row = row; current = none }
-walkTo size n none starts add row (suc i) =
-    let w = walkTo size n none starts add row i in
+unfoldable pub walk_to {ℓ} : {A : Type ℓ} → (A → ℕ) → ℕ → A → (ℕ → Bool) → (ℕ → A → A) → (ℕ → A) → ℕ → Walk A
+walk_to size n none starts add row zero = record { row = row; current = none }
+walk_to size n none starts add row (suc i) =
+    let w = walk_to size n none starts add row i in
     record {
       row = push size n w.row w.current when starts i else w.row;
       current = add i (none when starts i else w.current);
@@ -53,5 +53,5 @@ walkTo size n none starts add row (suc i) =
 -- the row after m items, the last thing pushed too
 unfoldable pub walked {ℓ} : {A : Type ℓ} → (A → ℕ) → ℕ → A → (ℕ → Bool) → (ℕ → A → A) → (ℕ → A) → ℕ → ℕ → A
 walked size n none starts add row m =
-    let w = walkTo size n none starts add row m in
+    let w = walk_to size n none starts add row m in
     push size n w.row w.current

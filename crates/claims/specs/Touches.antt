@@ -3,7 +3,7 @@
 use Rattle.std.specs.Prelude.{◌≡◌, ◌⊎◌, Bool, true, false, not, ◌&&◌, ◌||◌, List, ℕ, suc, ◌+◌, ◌*◌, ◌≤◌, ◌<◌, eqb, ltb, length, set}
 use Rattle.basics.specs.Choice.{◌when◌else◌}
 use Rattle.basics.specs.Ranges.{inside}
-use Rattle.basics.specs.Rows.{inPlace}
+use Rattle.basics.specs.Rows.{in_place}
 use Rattle.interface.specs.declared.request.Request.{Request}
 use Rattle.interface.specs.Requests.{◌is◌, open_code, map_code, unmap_code, protect_code, read_code, write_code, snapshot_code, rewind_code, report_code, compare_code, page_of, offset_of}
 use Rattle.interface.specs.Outcome.{first_of}
@@ -72,7 +72,7 @@ pub record Grants (w : World) (q : Request) (b : Sandbox) (v : World) : Type 0 w
   pub marks : (f : ℕ) → f < 128
       → held v.store.marks f + held (left_of (run_taken b q) (frames_for q b)) f ≡ held w.store.marks f + held (run_taken b q) f
   -- the other runs stay, and this one stays in its place
-  pub runs : rows_of v q.sandbox ≡ inPlace (place_for q b) (left_of (run_taken b q) (frames_for q b)) (row b.runs)
+  pub runs : rows_of v q.sandbox ≡ in_place (place_for q b) (left_of (run_taken b q) (frames_for q b)) (row b.runs)
 
 -- ---- what is touched
 

@@ -17,7 +17,7 @@ use Rattle.interface.specs.Answers.{Answered}
 use Rattle.interface.specs.Requests.{open_code, is_call}
 use Rattle.interface.specs.Slots.{follows, joins, areas, mapped_pages, uncommitted_pages, lowest_gap, charge_of}
 use Rattle.interface.specs.Limits.{within}
-use Rattle.interface.specs.Outcome.{first_of, slots_after, copyAfter}
+use Rattle.interface.specs.Outcome.{first_of, slots_after, copy_after}
 use Rattle.interface.specs.Refusals.{View, all_mapped, applies, refusal}
 use Rattle.interface.specs.Examples.{refused, requests_of, gets_of, call₁}
 use Rattle.interface.specs.Numbers.{pages_in}
@@ -169,7 +169,7 @@ all-get-lent (c ∷ cs) e =
     (λ pool table image p t i o s. lent-answer pool table image q o s ∙ rw (p, t, i) (same_answer _ _ given.0), all-get-lent cs given.1)
 
 pub lendings-get : AllGetLent lendings
-unfolding lendings_ok lent_answer within all_mapped first_of slots_after copyAfter applies refusal core_value frames_held
+unfolding lendings_ok lent_answer within all_mapped first_of slots_after copy_after applies refusal core_value frames_held
     count sum every lowest inside over follows joins areas mapped_pages uncommitted_pages lowest_gap charge_of
 lendings-get = all-get-lent lendings refl
 

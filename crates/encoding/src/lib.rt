@@ -5,7 +5,7 @@
 
 ghost use Rattle.std.specs.Prelude.{◌≡◌, length};
 ghost use Rattle.layout.specs.Layout.{held_at, state_size, sandbox_bytes, state_bytes, state_from, are_sandboxes, is_state};
-ghost use Rattle.layout.specs.Rows.{rowBytes};
+ghost use Rattle.layout.specs.Rows.{row_bytes};
 ghost use Rattle.state.specs.World.{closed_sandbox};
 
 use fields::held::{decode_marks, encode_marks};
@@ -53,7 +53,7 @@ pub fn is_state(bytes: &[u8]) -> bool
 
 fn encode_sandboxes(sandboxes: [Sandbox; Machine::SANDBOXES], out: &mut [u8])
     requires { length out.old ≡ held_at }
-    ensures { out.new ≡ rowBytes sandbox_bytes closed_sandbox 4 sandboxes }
+    ensures { out.new ≡ row_bytes sandbox_bytes closed_sandbox 4 sandboxes }
 {
     for s in 0..Machine::SANDBOXES {
         let at = s * Size::SANDBOX;

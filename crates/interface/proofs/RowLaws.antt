@@ -11,7 +11,7 @@ use Rattle.interface.specs.declared.page.Slot.TheVariants.{Unmapped}
 use Rattle.interface.specs.declared.request.Request.{Request}
 use Rattle.interface.specs.Requests.{◌is◌, open_code, map_code, unmap_code, protect_code, snapshot_code, rewind_code}
 use Rattle.interface.specs.Slots.{Slots, is_mapped, is_committed, with_rights, areas, charge_of, copied}
-use Rattle.interface.specs.Outcome.{slots_after, copyAfter, share_after}
+use Rattle.interface.specs.Outcome.{slots_after, copy_after, share_after}
 use Rattle.interface.specs.Refusals.{View, is_taken, slots_then, charge_then}
 use Rattle.interface.specs.Settled.{Settled}
 use Rattle.interface.proofs.KindLaws.{Kind, is_map, is_unmap, is_protect, is_write, is_snapshot, is_rewind, is_other}
@@ -26,7 +26,7 @@ module _ (v : View) (S : Settled v) (q : Request) where
   -- only open, map and snapshot can be refused by row 13
   pub row-13 : Kind q → (q is open_code) ≡ false → (q is map_code) ≡ false → (q is snapshot_code) ≡ false → ((q is rewind_code) ≡ true → is_taken v.copy ≡ true)
       → ltb (share_after q v.share) (charge_then v q) ≡ false
-  unfolding slots_after copyAfter
+  unfolding slots_after copy_after
   row-13 (is_map e) o m n t = absurd (false≢true (sym (rw e at m)))
   row-13 (is_unmap e) o m n t =
       let less : charge_of (over q.p1 q.p2 (λ i. Unmapped) v.slots) v.copy ≤ v.share =

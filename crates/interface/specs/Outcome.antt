@@ -35,8 +35,8 @@ slots_after q f c =
     f
 
 -- "snapshot_code .. copies all pages": the pages as it leaves them
-unfoldable pub copyAfter {ℓ} : {A : Type ℓ} → Request → A → Option A → Option A
-copyAfter q now c = some now when q is snapshot_code else c
+unfoldable pub copy_after {ℓ} : {A : Type ℓ} → Request → A → Option A → Option A
+copy_after q now c = some now when q is snapshot_code else c
 
 -- "open_code .. stores the share"
 abbrev pub share_after : Request → ℕ → ℕ

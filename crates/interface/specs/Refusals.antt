@@ -12,7 +12,7 @@ use Rattle.interface.specs.Answers.{refusal_number}
 use Rattle.interface.specs.Requests.{◌is◌, open_code, map_code, protect_code, read_code, write_code, snapshot_code, is_call, page_of, needs_snapshot}
 use Rattle.interface.specs.Slots.{Slots, is_mapped, rights_at, areas, all_are, lowest_gap, charge_of}
 use Rattle.interface.specs.Limits.{within}
-use Rattle.interface.specs.Outcome.{slots_after, copyAfter, share_after}
+use Rattle.interface.specs.Outcome.{slots_after, copy_after, share_after}
 
 -- what a refusal is decided from
 pub record View : Type 0 where
@@ -45,7 +45,7 @@ abbrev pub slots_then : View → Request → Slots
 slots_then v q = slots_after q v.slots v.copy
 
 abbrev pub charge_then : View → Request → ℕ
-charge_then v q = charge_of (slots_then v q) (copyAfter q (slots_then v q) v.copy)
+charge_then v q = charge_of (slots_then v q) (copy_after q (slots_then v q) v.copy)
 
 -- the table, a clause a row: whether the row applies
 unfoldable pub applies : View → Request → Refusal → Bool

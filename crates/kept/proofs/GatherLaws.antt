@@ -5,7 +5,7 @@ use native.Mathlib.Omega.{arith}
 use lib.Dec.{ltb, leb}
 use lib.ListN.{length}
 use borrow.Author.Tests.{ltb-true}
-use Rattle.basics.specs.Rows.{best, no_longer, movedUp, push, Walk, walkTo, walked}
+use Rattle.basics.specs.Rows.{best, no_longer, moved_up, push, Walk, walk_to, walked}
 use Rattle.basics.proofs.TestLaws.{by_cases}
 use Rattle.basics.proofs.RowLaws.{best-low, best-same}
 use Rattle.interface.specs.Slots.{Slots, starts_area}
@@ -19,8 +19,8 @@ use Rattle.kept.specs.Spare.{Row, gather, row_rewound}
 use Rattle.kept.specs.Gather.{Gathering, gather_to, gathered}
 
 -- rows that agree in 8 places agree after a push
-moved_same : (c : ℕ) (a b : Row) (v : Held) → ((i : ℕ) → i < 8 → a i ≡ b i) → (i : ℕ) → i < 8 → movedUp 8 c v a i ≡ movedUp 8 c v b i
-unfolding movedUp
+moved_same : (c : ℕ) (a b : Row) (v : Held) → ((i : ℕ) → i < 8 → a i ≡ b i) → (i : ℕ) → i < 8 → moved_up 8 c v a i ≡ moved_up 8 c v b i
+unfolding moved_up
 moved_same c a b v e i l =
     by_cases (ltb i c) (λ x. rw x (e i l)) (λ x. by_cases (ltb (i + 1) 8) (λ y. rw (x, y) (e (i + 1) (ltb-true _ _ y))) (λ y. rw (x, y)))
 
@@ -39,16 +39,16 @@ push-same a b v e i l =
 module _ (st : Store) (s : ℕ) (f : Slots) (r : Runs) (eight : length r.list ≡ 8) where
   record Along (m : ℕ) : Type 0 where
     whole : length (gather_to st s f r m).runs.list ≡ 8
-    rows : (i : ℕ) → i < 8 → row (gather_to st s f r m).runs i ≡ (walkTo count_held 8 none_held (starts_area f) (gather st s f) (row r) m).row i
-    hand : (gather_to st s f r m).current ≡ (walkTo count_held 8 none_held (starts_area f) (gather st s f) (row r) m).current
+    rows : (i : ℕ) → i < 8 → row (gather_to st s f r m).runs i ≡ (walk_to count_held 8 none_held (starts_area f) (gather st s f) (row r) m).row i
+    hand : (gather_to st s f r m).current ≡ (walk_to count_held 8 none_held (starts_area f) (gather st s f) (row r) m).current
 
   along : (m : ℕ) → Along m
-  unfolding gather_to walkTo
+  unfolding gather_to walk_to
   along zero = record { whole = eight; rows = λ i l. refl; hand = refl }
   along (suc m) =
       let ih = along m in
       let w : Gathering = gather_to st s f r m in
-      let v : Walk Held = walkTo count_held 8 none_held (starts_area f) (gather st s f) (row r) m in
+      let v : Walk Held = walk_to count_held 8 none_held (starts_area f) (gather st s f) (row r) m in
       by_cases (starts_area f m)
       (λ e. record {
         whole = rw e (pushed-length w.runs w.current ih.whole);
@@ -64,7 +64,7 @@ module _ (st : Store) (s : ℕ) (f : Slots) (r : Runs) (eight : length r.list �
   gathered-is =
       let a = along 64 in
       let w : Gathering = gather_to st s f r 64 in
-      let v : Walk Held = walkTo count_held 8 none_held (starts_area f) (gather st s f) (row r) 64 in
+      let v : Walk Held = walk_to count_held 8 none_held (starts_area f) (gather st s f) (row r) 64 in
       same_runs (pushed w.runs w.current) (tabled (row_rewound st s f (row r))) (pushed-length w.runs w.current a.whole)
       (tabled-length (row_rewound st s f (row r)))
       (λ i l. pushed_row w.runs w.current a.whole i l ∙ push-same (row w.runs) v.row w.current a.rows i l

@@ -5,7 +5,7 @@ use mathlib.Core.Option.{none, some}
 use Prim.Native.Nat.{ℕ, zero, suc, ◌+◌, ◌-◌, ◌≤◌, ◌<◌}
 use native.Mathlib.Omega.{arith}
 use lib.Dec.{eqb}
-use Rattle.basics.specs.Rows.{inPlace}
+use Rattle.basics.specs.Rows.{in_place}
 use Rattle.basics.proofs.TestLaws.{by_cases}
 use Rattle.run_choice.specs.Runs.{run_places}
 use Rattle.frames.specs.declared.Held.{Held}
@@ -118,6 +118,6 @@ module _ (size n first : ℕ) (st : Store) (rows : Rows) (s c m : ℕ) (row : s 
 
 -- the lengths of the runs are those of the plain machine: one run has so many fewer
 pub lengths-less : (row : ℕ → Held) (c m i : ℕ) → m ≤ count_held (row c)
-    → lengths (inPlace c (left_of (row c) m) row) i ≡ inPlace c (lengths row c - m) (lengths row) i
+    → lengths (in_place c (left_of (row c) m) row) i ≡ in_place c (lengths row c - m) (lengths row) i
 lengths-less row c m i h =
     by_cases (eqb c i) (λ e. rw e (omega (arith, left-count (row c) m h))) (λ e. rw e)

@@ -4,7 +4,7 @@ use mathlib.Core.List.{List}
 use Prim.Native.Nat.{ℕ, zero, ◌+◌, ◌-◌, ◌≤◌, ◌<◌}
 use native.Mathlib.Omega.{arith}
 use Rattle.basics.specs.Ranges.{sum}
-use Rattle.basics.specs.Rows.{inPlace}
+use Rattle.basics.specs.Rows.{in_place}
 use Rattle.basics.proofs.CountLaws.{sum-put, sum-swap, sum-plus, sum-hole, part-le}
 use Rattle.run_choice.specs.Runs.{run_places}
 use Rattle.frames.specs.declared.Held.{Held}
@@ -25,12 +25,12 @@ pub kept-with : (rows : Rows) (s c : ℕ) (run : Held) (f : ℕ) → s < 4 → c
     → kept_at (with_run s c run rows) f + held (rows s c) f ≡ kept_at rows f + held run f
 unfolding kept_at kept_in
 kept-with rows s c run f l d =
-    let outer = sum-put (λ (row : Row). sum (λ i. held (row i) f) run_places) rows s (inPlace c run (rows s)) 4 l in
+    let outer = sum-put (λ (row : Row). sum (λ i. held (row i) f) run_places) rows s (in_place c run (rows s)) 4 l in
     let inner = sum-put (λ (h : Held). held h f) (rows s) c run run_places d in
     omega (arith, outer, inner)
 
 -- the runs of one sandbox replaced
-pub kept_row : (rows : Rows) (s : ℕ) (row : Row) (f : ℕ) → s < 4 → kept_at (inPlace s row rows) f + kept_in (rows s) f ≡ kept_at rows f + kept_in row f
+pub kept_row : (rows : Rows) (s : ℕ) (row : Row) (f : ℕ) → s < 4 → kept_at (in_place s row rows) f + kept_in (rows s) f ≡ kept_at rows f + kept_in row f
 unfolding kept_at
 kept_row rows s row f l = sum-put (λ (r : Row). kept_in r f) rows s row 4 l
 

@@ -8,7 +8,7 @@ use lib.Dec.{eqb, ltb, leb}
 use lib.Seq.{get_or-set_other}
 use borrow.Author.Tests.{ltb-true}
 use Rattle.basics.specs.Ranges.{sum}
-use Rattle.basics.specs.Rows.{best, no_longer, movedUp, push, Walk, walkTo, walked}
+use Rattle.basics.specs.Rows.{best, no_longer, moved_up, push, Walk, walk_to, walked}
 use Rattle.basics.proofs.TestLaws.{by_cases, when-cases}
 use Rattle.interface.specs.Slots.{Slots, starts_area}
 use Rattle.run_choice.specs.Runs.{run_places}
@@ -90,8 +90,8 @@ module _ {A : Type 0} (P : A → Type 0) (size : A → ℕ) (n : ℕ) where
   abbrev All : (ℕ → A) → Type 0
   All row = (i : ℕ) → i < n → P (row i)
 
-  moved_all : (c : ℕ) (v : A) (row : ℕ → A) → P v → All row → All (movedUp n c v row)
-  unfolding movedUp
+  moved_all : (c : ℕ) (v : A) (row : ℕ → A) → P v → All row → All (moved_up n c v row)
+  unfolding moved_up
   moved_all c v row p all i l =
       by_cases (ltb i c) (λ x. rw x (all i l)) (λ x. by_cases (ltb (i + 1) n) (λ y. rw (x, y) (all (i + 1) (ltb-true _ _ y))) (λ y. rw (x, y) p))
 
@@ -102,19 +102,19 @@ module _ {A : Type 0} (P : A → Type 0) (size : A → ℕ) (n : ℕ) where
       (λ _. moved_all (best no_longer (λ i. size (row i)) n) v row p all i l)
 
   module _ (none : A) (starts : ℕ → Bool) (add : ℕ → A → A) (row : ℕ → A) (empty : P none) (more : (i : ℕ) (a : A) → P a → P (add i a)) (all : All row) where
-    walk-all : (m : ℕ) → All (walkTo size n none starts add row m).row × P (walkTo size n none starts add row m).current
-    unfolding walkTo
+    walk-all : (m : ℕ) → All (walk_to size n none starts add row m).row × P (walk_to size n none starts add row m).current
+    unfolding walk_to
     walk-all zero = (all, empty)
     walk-all (suc m) =
         let ih = walk-all m in
-        let w : Walk A = walkTo size n none starts add row m in
+        let w : Walk A = walk_to size n none starts add row m in
         by_cases (starts m)
         (λ e. rw e (push-all w.row w.current ih.1 ih.0, more m none empty))
         (λ e. rw e (ih.0, more m w.current ih.1))
 
     pub walked_all : (m : ℕ) → All (walked size n none starts add row m)
     unfolding walked
-    walked_all m = let w = walk-all m in push-all (walkTo size n none starts add row m).row (walkTo size n none starts add row m).current w.1 w.0
+    walked_all m = let w = walk-all m in push-all (walk_to size n none starts add row m).row (walk_to size n none starts add row m).current w.1 w.0
 
 -- an entry names a frame below 128
 frame-low : (size n : ℕ) (st : Store) → Filed size n st → (k : ℕ) → entry st k - 1 < 128

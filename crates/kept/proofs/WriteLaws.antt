@@ -6,7 +6,7 @@ use Prim.Native.Nat.{ℕ, suc, ◌-◌, ◌≤◌, ◌<◌}
 use native.Mathlib.Omega.{arith}
 use lib.Dec.{eqb}
 use lib.ListN.{length}
-use Rattle.basics.specs.Rows.{inPlace}
+use Rattle.basics.specs.Rows.{in_place}
 use Rattle.basics.proofs.TestLaws.{by_cases}
 use Rattle.run_choice.specs.Runs.{run_places}
 use Rattle.frames.specs.declared.Held.{Held}
@@ -42,7 +42,7 @@ module _ (size n : ℕ) (st : Store) (rows : Rows) (s c g : ℕ) (row : s < 4) (
 
 -- the lengths are the plain machine's: the run has one fewer
 pub given-lengths : (row : ℕ → Held) (c g i : ℕ) → g < 128 → held (row c) g ≡ 1
-    → lengths (inPlace c (mark (row c) g 0) row) i ≡ inPlace c (lengths row c - 1) (lengths row) i
+    → lengths (in_place c (mark (row c) g 0) row) i ≡ in_place c (lengths row c - 1) (lengths row) i
 given-lengths row c g i l e = by_cases (eqb c i) (λ d. rw d (omega (arith, count-without (row c) g l e))) (λ d. rw d)
 
 -- ---- a frame that is not held is taken

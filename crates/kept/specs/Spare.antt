@@ -3,7 +3,7 @@
 use Rattle.std.specs.Prelude.{◌≡◌, Bool, not, ◌&&◌, ℕ, zero, suc, ◌+◌, ◌-◌, ◌^◌, ◌≤◌, ◌<◌, eqb, set}
 use Rattle.basics.specs.Choice.{◌when◌else◌}
 use Rattle.basics.specs.Ranges.{sum}
-use Rattle.basics.specs.Rows.{inPlace, walked}
+use Rattle.basics.specs.Rows.{in_place, walked}
 use Rattle.interface.specs.Slots.{Slots, starts_area}
 use Rattle.run_choice.specs.Runs.{run_places, is_spared}
 use Rattle.frames.specs.declared.Held.{Held}
@@ -75,7 +75,7 @@ grant_to size first run st (suc j) = take size (first + j) (least_held (left_of 
 
 -- the rows with another run in place c of sandbox s
 abbrev pub with_run : ℕ → ℕ → Held → Rows → Rows
-with_run s c run rows = inPlace s (inPlace c run (rows s)) rows
+with_run s c run rows = in_place s (in_place c run (rows s)) rows
 
 -- the same, as the code does it: the frames are zero already, so that entries and marks change and no byte does (proofs/AdoptLaws)
 unfoldable pub adopt_to : ℕ → Held → Store → ℕ → Store

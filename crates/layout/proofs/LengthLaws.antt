@@ -11,7 +11,7 @@ use Rattle.areas.specs.Areas.{none}
 use Rattle.state.specs.declared.sandbox.Sandbox.{Sandbox}
 use Rattle.state.specs.declared.sandbox.Machine.{Machine}
 use Rattle.state.specs.World.{closed_sandbox}
-use Rattle.layout.specs.Rows.{rowBytes}
+use Rattle.layout.specs.Rows.{row_bytes}
 use Rattle.layout.specs.Layout.{area_size, places_size, areas_size, word_size, marks_size, runs_size, sandbox_size, held_at}
 use Rattle.layout.specs.Layout.{area_bytes, areas_parts, areas_bytes, marks_parts, marks_bytes, runs_bytes}
 use Rattle.layout.specs.Layout.{sandbox_parts, sandbox_bytes, state_parts, state_bytes}
@@ -23,7 +23,7 @@ pub length-area : (a : Area) → length (area_bytes a) ≡ area_size
 unfolding area_bytes
 length-area a = refl
 
-pub length-places : (l : List Area) → length (rowBytes area_bytes none 8 l) ≡ places_size
+pub length-places : (l : List Area) → length (row_bytes area_bytes none 8 l) ≡ places_size
 length-places = length-row area_bytes none area_size length-area 8
 
 pub sized-areas : (s : Areas) → Sized (areas_parts s)
@@ -51,7 +51,7 @@ pub length-sandbox : (b : Sandbox) → length (sandbox_bytes b) ≡ sandbox_size
 unfolding sandbox_bytes
 length-sandbox b = length-flat (sandbox_parts b) (sized-sandbox b)
 
-pub length-sandboxes : (l : List Sandbox) → length (rowBytes sandbox_bytes closed_sandbox 4 l) ≡ held_at
+pub length-sandboxes : (l : List Sandbox) → length (row_bytes sandbox_bytes closed_sandbox 4 l) ≡ held_at
 length-sandboxes = length-row sandbox_bytes closed_sandbox sandbox_size length-sandbox 4
 
 pub sized-state : (m : Machine) → Sized (state_parts m)

@@ -12,7 +12,7 @@ use borrow.Author.Tests.{eqb-true, eqb-false}
 use Rattle.basics.proofs.TestLaws.{by_cases}
 use Rattle.basics.proofs.LoopLaws.{every_of}
 use Rattle.pages.specs.Parts.{part_at}
-use Rattle.layout.specs.Rows.{digits, spelled, joined, firsts, Bytes, part_in, rowBytes, rowFrom, is_row}
+use Rattle.layout.specs.Rows.{digits, spelled, joined, firsts, Bytes, part_in, row_bytes, row_from, is_row}
 
 -- ---- numbers in bytes
 
@@ -99,19 +99,19 @@ module _ {A : Type 0} (f : ℕ → A) where
 -- ---- a row of parts, one for each element
 
 module _ {A : Type 0} (bytes : A → List ℕ) (d : A) (w : ℕ) where
-  pub length-row : ((x : A) → length (bytes x) ≡ w) → (n : ℕ) (l : List A) → length (rowBytes bytes d n l) ≡ n * w
+  pub length-row : ((x : A) → length (bytes x) ≡ w) → (n : ℕ) (l : List A) → length (row_bytes bytes d n l) ≡ n * w
   length-row each n l = length-joined (λ k. bytes (get_or l k d)) w (λ k. each (get_or l k d)) n
 
   -- what each element gives again, the row gives
   pub row-again : (from : List ℕ → A) → ((x : A) → length (bytes x) ≡ w) → (n : ℕ) (l : List A) (rest : List ℕ) → length l ≡ n
-      → ((k : ℕ) → k < n → from (bytes (get_or l k d)) ≡ get_or l k d) → rowFrom from w n (rowBytes bytes d n l ++ rest) ≡ l
+      → ((k : ℕ) → k < n → from (bytes (get_or l k d)) ≡ get_or l k d) → row_from from w n (row_bytes bytes d n l ++ rest) ≡ l
   row-again from each n l rest e h =
       let f : ℕ → List ℕ = λ k. bytes (get_or l k d) in
       firsts-of (λ k. from (part_in w (joined f n ++ rest) k)) d l n e
       (λ k b. ap from (part-joined f w (λ j. each (get_or l j d)) n rest k b) ∙ h k b)
 
   pub row-passes : (test : List ℕ → Bool) → ((x : A) → length (bytes x) ≡ w) → ((x : A) → test (bytes x) ≡ true) → (n : ℕ) (l : List A) (rest : List ℕ)
-      → is_row test w n (rowBytes bytes d n l ++ rest) ≡ true
+      → is_row test w n (row_bytes bytes d n l ++ rest) ≡ true
   row-passes test each h n l rest =
       let f : ℕ → List ℕ = λ k. bytes (get_or l k d) in
       every_of (λ k. test (part_in w (joined f n ++ rest) k)) 0 n
@@ -119,7 +119,7 @@ module _ {A : Type 0} (bytes : A → List ℕ) (d : A) (w : ℕ) where
 
   -- parts that are those of what they give make a row that is that of what it gives
   pub row-bytes-again : (from : List ℕ → A) (n : ℕ) (b : List ℕ) → ((k : ℕ) → k < n → bytes (from (part_in w b k)) ≡ part_in w b k)
-      → rowBytes bytes d n (rowFrom from w n b) ≡ take (n * w) b
+      → row_bytes bytes d n (row_from from w n b) ≡ take (n * w) b
   row-bytes-again from n b h =
       let f : ℕ → A = λ k. from (part_in w b k) in
       joined_same (λ k. bytes (get_or (firsts f n) k d)) (part_in w b) n (λ k l. ap bytes (get_or-firsts f n k d l) ∙ h k l) ∙ joined-parts w n b

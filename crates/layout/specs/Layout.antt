@@ -17,7 +17,7 @@ use Rattle.areas.specs.Areas.{none}
 use Rattle.state.specs.declared.sandbox.Sandbox.{Sandbox}
 use Rattle.state.specs.declared.sandbox.Machine.{Machine}
 use Rattle.state.specs.World.{closed_sandbox}
-use Rattle.layout.specs.Rows.{digits, spelled, Part, part, byte, flat, rowBytes, rowFrom, is_row}
+use Rattle.layout.specs.Rows.{digits, spelled, Part, part, byte, flat, row_bytes, row_from, is_row}
 
 -- ---- how many bytes each part has, and where it stands
 
@@ -81,7 +81,7 @@ area_bytes a = flat (area_parts a)
 abbrev pub areas_parts : Areas → List Part
 areas_parts s =
     byte s.count
-    ∷ part places_size (rowBytes area_bytes none 8 s.list)
+    ∷ part places_size (row_bytes area_bytes none 8 s.list)
     ∷ []
 
 unfoldable pub areas_bytes : Areas → List ℕ
@@ -99,7 +99,7 @@ marks_bytes h = flat (marks_parts h)
 
 -- the runs of a sandbox: all eight places, the oldest first
 unfoldable pub runs_bytes : Runs → List ℕ
-runs_bytes r = rowBytes marks_bytes none_held 8 r.list
+runs_bytes r = row_bytes marks_bytes none_held 8 r.list
 
 -- a sandbox: 1 when open, the share, 1 when a snapshot was taken, its areas, the snapshot's areas, its runs
 abbrev pub sandbox_parts : Sandbox → List Part
@@ -118,7 +118,7 @@ sandbox_bytes b = flat (sandbox_parts b)
 -- the state: the four sandboxes, then the held marks
 abbrev pub state_parts : Machine → List Part
 state_parts m =
-    part held_at (rowBytes sandbox_bytes closed_sandbox 4 m.sandboxes)
+    part held_at (row_bytes sandbox_bytes closed_sandbox 4 m.sandboxes)
     ∷ part marks_size (marks_bytes m.held)
     ∷ []
 
@@ -140,13 +140,13 @@ area_from b = record {
 }
 
 unfoldable pub areas_from : List ℕ → Areas
-areas_from b = record { count = get_or b 0 0; list = rowFrom area_from area_size 8 (drop 1 b) }
+areas_from b = record { count = get_or b 0 0; list = row_from area_from area_size 8 (drop 1 b) }
 
 unfoldable pub marks_from : List ℕ → Held
 marks_from b = record { low = spelled (part_at b 0 word_size); high = spelled (part_at b word_size word_size) }
 
 unfoldable pub runs_from : List ℕ → Runs
-runs_from b = record { list = rowFrom marks_from marks_size 8 b }
+runs_from b = record { list = row_from marks_from marks_size 8 b }
 
 unfoldable pub sandbox_from : List ℕ → Sandbox
 sandbox_from b = record {
@@ -162,7 +162,7 @@ sandbox_from b = record {
 
 unfoldable pub state_from : List ℕ → Machine
 state_from b = record {
-  sandboxes = rowFrom sandbox_from sandbox_size 4 b;
+  sandboxes = row_from sandbox_from sandbox_size 4 b;
   held = marks_from (part_at b held_at marks_size);
 }
 

@@ -59,12 +59,12 @@ abbrev pub part_in : ℕ → List ℕ → ℕ → List ℕ
 part_in w b k = part_at b (k * w) w
 
 -- the first n elements of a list, each in bytes (d where there is none)
-abbrev pub rowBytes {ℓ} : {A : Type ℓ} → (A → List ℕ) → A → ℕ → List A → List ℕ
-rowBytes bytes d n l = joined (λ k. bytes (get_or l k d)) n
+abbrev pub row_bytes {ℓ} : {A : Type ℓ} → (A → List ℕ) → A → ℕ → List A → List ℕ
+row_bytes bytes d n l = joined (λ k. bytes (get_or l k d)) n
 
 -- the n elements that the parts of a row give
-abbrev pub rowFrom {ℓ} : {A : Type ℓ} → (List ℕ → A) → ℕ → ℕ → List ℕ → List A
-rowFrom from w n b = firsts (λ k. from (part_in w b k)) n
+abbrev pub row_from {ℓ} : {A : Type ℓ} → (List ℕ → A) → ℕ → ℕ → List ℕ → List A
+row_from from w n b = firsts (λ k. from (part_in w b k)) n
 
 -- each of the n parts of a row passes
 abbrev pub is_row : (List ℕ → Bool) → ℕ → ℕ → List ℕ → Bool

@@ -7,7 +7,7 @@ use Prim.Native.Nat.{ℕ, zero, suc, ◌+◌, ◌*◌, ◌≤◌, ◌<◌}
 use native.Mathlib.Omega.{arith}
 use lib.ListN.{length}
 use Rattle.basics.specs.Ranges.{count}
-use Rattle.basics.specs.Rows.{inPlace}
+use Rattle.basics.specs.Rows.{in_place}
 use Rattle.basics.proofs.TestLaws.{by_cases}
 use Rattle.basics.proofs.CountLaws.{count-zero, count-once}
 use Rattle.interface.specs.declared.page.Backing.{Backing}
@@ -87,9 +87,9 @@ module _ (n : ℕ) (st : Store) (F : Filed 256 n st) (s : ℕ) (f : Slots) (imag
           omega (arith, F.names.marked k.0 g before)
 
   -- 'Kept frames are held and zero, belong to one run and no entry', after the rewind too
-  pub rewind-spare : (rows : Rows) → s < 4 → Spare 256 n st rows → Spare 256 n after (inPlace s (row_rewound st s f (rows s)) rows)
+  pub rewind-spare : (rows : Rows) → s < 4 → Spare 256 n st rows → Spare 256 n after (in_place s (row_rewound st s f (rows s)) rows)
   rewind-spare rows row S =
-      spare-step 256 n st after rows (inPlace s (row_rewound st s f (rows s)) rows) F S
+      spare-step 256 n st after rows (in_place s (row_rewound st s f (rows s)) rows) F S
       (λ g T. rewind_to-tidy n image (s * 128) keep backing fit st T 64)
       (λ g l. omega (arith, kept_row rows s (row_rewound st s f (rows s)) g row, runs-gain 256 n st F s f (rows s) g, moved g l, S.once g l))
       (λ g l. omega (arith, kept_row rows s (row_rewound st s f (rows s)) g row, runs-gain 256 n st F s f (rows s) g, moved g l))

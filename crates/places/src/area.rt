@@ -2,7 +2,7 @@
 ghost use Rattle.std.specs.Prelude.{◌≡◌, length};
 ghost use Rattle.areas.specs.Areas.{none};
 ghost use Rattle.layout.specs.Layout.{places_size, areas_size, area_bytes, areas_bytes, areas_from, is_areas};
-ghost use Rattle.layout.specs.Rows.{rowBytes};
+ghost use Rattle.layout.specs.Rows.{row_bytes};
 
 use areas::area::{Area, Areas};
 use fields::area::{decode_area, encode_area, is_area};
@@ -47,7 +47,7 @@ pub fn is_areas(bytes: &[u8]) -> bool
 // The eight places, behind the count.
 fn encode_places(areas: Areas, out: &mut [u8])
     requires { length out.old ≡ places_size }
-    ensures { out.new ≡ rowBytes area_bytes none 8 areas.list }
+    ensures { out.new ≡ row_bytes area_bytes none 8 areas.list }
 {
     for k in 0..Area::MOST {
         let at = k * Size::AREA;

@@ -4,11 +4,11 @@ use mathlib.Core.Path.{◌≡◌, refl}
 use mathlib.Core.Bool.{true}
 use mathlib.Core.List.{List, [], ◌∷◌}
 use Rattle.basics.specs.Ranges.{count, sum, every, lowest, inside, over, alike}
-use Rattle.basics.specs.Rows.{best, movedUp, push, walkTo, walked}
+use Rattle.basics.specs.Rows.{best, moved_up, push, walk_to, walked}
 use Rattle.interface.specs.Slots.{follows, joins, areas, mapped_pages, uncommitted_pages, lowest_gap, charge_of}
 use Rattle.comparison.specs.Compare.{agree, lowest_difference, changed_pages}
 use Rattle.interface.specs.Limits.{within}
-use Rattle.interface.specs.Outcome.{first_of, slots_after, copyAfter}
+use Rattle.interface.specs.Outcome.{first_of, slots_after, copy_after}
 use Rattle.interface.specs.Refusals.{all_mapped, applies, refusal}
 use Rattle.interface.specs.Requests.{open_code}
 use Rattle.run_choice.specs.Runs.{run_for, granted, longest_run, runs_rewound}
@@ -51,8 +51,8 @@ all-computed :
     × (all_played no_image kept_runs_rolls ≡ true)
     × (all_played last_seven put_back_rolls ≡ true)
 unfolding played all_played reached each_played count sum every lowest inside over alike follows joins areas mapped_pages uncommitted_pages lowest_gap charge_of agree
-    lowest_difference changed_pages within first_of slots_after copyAfter all_mapped applies refusal bytes_after front_after back_after copied_back_after
-    best movedUp push walkTo walked run_for granted longest_run runs_rewound runs_after frames_held differing changed core_value answer
+    lowest_difference changed_pages within first_of slots_after copy_after all_mapped applies refusal bytes_after front_after back_after copied_back_after
+    best moved_up push walk_to walked run_for granted longest_run runs_rewound runs_after frames_held differing changed core_value answer
 all-computed = (refl, refl, refl, refl, refl, refl, refl, refl, refl, refl, refl, refl, refl, refl, refl, refl, refl)
 
 pub starred-cases : all_given (cases_over no_image cases) ≡ true

@@ -3,7 +3,7 @@ use Rattle.std.specs.Prelude.{ℕ, ◌+◌, ◌-◌, ◌*◌, ◌/◌, Bool, tru
 use Rattle.std.proofs.Math.Option.{Option, some, none, map}
 use Rattle.basics.specs.Choice.{◌when◌else◌}
 use Rattle.basics.specs.Ranges.{count, sum, over, alike}
-use Rattle.basics.specs.Rows.{inPlace}
+use Rattle.basics.specs.Rows.{in_place}
 use Rattle.interface.specs.Numbers.{sandbox_count, page_count, page_bytes}
 use Rattle.interface.specs.declared.page.Backing.{Backing}
 use Rattle.interface.specs.declared.page.Backing.TheVariants.{Anonymous, Image}
@@ -13,7 +13,7 @@ use Rattle.interface.specs.Answers.{Answered}
 use Rattle.interface.specs.Requests.{◌is◌, map_code, unmap_code, read_code, write_code, snapshot_code, rewind_code, report_code, compare_code, page_of, offset_of, backing_of}
 use Rattle.interface.specs.Slots.{Slots, is_committed, advance, mapped_pages, copied}
 use Rattle.comparison.specs.compare_code.{lowest_difference, changed_pages}
-use Rattle.interface.specs.Outcome.{first_of, slots_after, copyAfter, share_after}
+use Rattle.interface.specs.Outcome.{first_of, slots_after, copy_after, share_after}
 use Rattle.interface.specs.Refusals.{View, refusal}
 use Rattle.run_choice.specs.Runs.{run_places, takes_run, run_for, granted, longest_run, gives_up, runs_rewound}
 
@@ -103,7 +103,7 @@ core_after g q c = record {
   opened = true;
   share = share_after q c.share;
   pages = pages_after g q c;
-  copy = copyAfter q (pages_after g q c) c.copy;
+  copy = copy_after q (pages_after g q c) c.copy;
 }
 
 -- the frames held: "report counts front and back marks", and kept frames "count in call 9"
@@ -138,7 +138,7 @@ copied_back_after q t = t.front when q is snapshot_code else t.copied_back
 
 -- a run without some of its frames
 abbrev pub less_by : ℕ → ℕ → (ℕ → ℕ) → ℕ → ℕ
-less_by place frames runs = inPlace place (runs place - frames) runs
+less_by place frames runs = in_place place (runs place - frames) runs
 
 -- A map that takes a run takes so many of its frames, "a surplus stays kept with its age"; a write above the share: "one frame of the longest run is given up"
 unfoldable pub runs_after : Request → Slots → ℕ → Traces → ℕ → ℕ

@@ -15,7 +15,7 @@ use Rattle.interface.specs.Answers.{Answered}
 use Rattle.interface.specs.Requests.{◌is◌, read_code, snapshot_code, page_of, offset_of}
 use Rattle.interface.specs.Slots.{is_mapped, areas, charge_of, copied}
 use Rattle.interface.specs.Limits.{within}
-use Rattle.interface.specs.Outcome.{slots_after, copyAfter}
+use Rattle.interface.specs.Outcome.{slots_after, copy_after}
 use Rattle.interface.specs.Refusals.{View, all_mapped, applies, refusal}
 use Rattle.interface.specs.Accepted.{Accepted}
 use Rattle.interface.specs.Examples.{ok}
@@ -38,7 +38,7 @@ restored-clean c e =
 
 -- call 10 of such a sandbox
 clean-answer : (g : Given) (p : Plain) (s : ℕ) → s < 4 → (p s).core.opened ≡ true → Keeps (p s) → Restored (p s).core → answer g p (compare_of s) ≡ ok 64
-unfolding answer core_value applies refusal within all_mapped slots_after copyAfter
+unfolding answer core_value applies refusal within all_mapped slots_after copy_after
 clean-answer g p s row o k e =
     let charged = le-ltb _ _ k.charged in
     let number : number_at g p (compare_of s) ≡ 0 = rw (lt-ltb s 4 row, o, e, rw e at charged, le-ltb 8 _ k.in_areas) in
@@ -67,7 +67,7 @@ clean-while-rewound g s qs k r =
 -- a read within its limits where another call is accepted: refused by row 9 or by none
 read_number : (v : View) (q : Request) → q.code ≡ read_code → v.sound ≡ true → q.sandbox < 4 → v.opened ≡ true → within v.images q ≡ true
     → charge_of v.slots v.copy ≤ v.share → areas v.slots ≤ 8 → refusal v q ≡ 0 when is_mapped (v.slots (page_of q)) else 9
-unfolding applies refusal all_mapped slots_after copyAfter
+unfolding applies refusal all_mapped slots_after copy_after
 read_number v q e sound row o limits charged few =
     by_cases (is_mapped (v.slots (page_of q)))
     (λ m. rw (limits, e, sound, lt-ltb q.sandbox 4 row, o, m, le-ltb _ _ charged, le-ltb 8 _ few))
@@ -100,7 +100,7 @@ clean-byte c e i j l k m =
 
 read-clean : (g : Given) (p : Plain) (q : Request) → answer g p (compare_of q.sandbox) ≡ ok 64 → (q is read_code) ≡ true
     → within (length g.image / 256) q ≡ true → answer g p q ≡ copy_answer (p q.sandbox).core q
-unfolding answer core_value slots_after copyAfter
+unfolding answer core_value slots_after copy_after
 read-clean g p q e r w =
     let core : Core = (p q.sandbox).core in
     let ten = accepted-compare g p q.sandbox e in

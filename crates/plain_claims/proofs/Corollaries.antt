@@ -8,7 +8,7 @@ use Rattle.basics.proofs.TestLaws.{by_cases, when-cases, never, both_ways, and_l
 use Rattle.interface.specs.declared.request.Request.{Request}
 use Rattle.interface.specs.Requests.{◌is◌, open_code, read_code, rewind_code, report_code, compare_code}
 use Rattle.interface.specs.Slots.{is_committed, copied}
-use Rattle.interface.specs.Outcome.{slots_after, copyAfter}
+use Rattle.interface.specs.Outcome.{slots_after, copy_after}
 use Rattle.interface.specs.Refusals.{applies, refusal}
 use Rattle.run_choice.specs.Runs.{is_spared, runs_rewound}
 use Rattle.interface.proofs.AcceptedLaws.{accepted}
@@ -42,7 +42,7 @@ idle-call : (g : Given) (p : Plain) (q : Request) (c : ℕ) → q.code ≡ c →
 idle-call g p q c e n h = idle g p q (λ t. h (sym ((accepted _ q t).opened (rw e n))))
 
 pub reads-change-nothing : (g : Given) → ReadsChangeNothing g
-unfolding slots_after bytes_after copyAfter front_after back_after copied_back_after runs_after
+unfolding slots_after bytes_after copy_after front_after back_after copied_back_after runs_after
 reads-change-nothing g p q e =
     by_cases (q is read_code) (λ r. let c = eqb-true q.code read_code r in idle-call g p q read_code c refl (λ o. rw (c, o)))
     (λ r. by_cases (q is report_code) (λ t. let c = eqb-true q.code report_code t in idle-call g p q report_code c refl (λ o. rw (c, o)))
@@ -83,7 +83,7 @@ rewound-runs : (g : Given) (k : Kept) → Keeps k → Reads g k
 rewound-runs g k h r = runs-idle (copied (copy_slots k.core)) _ _ (λ i l. none-spared g k h r i)
 
 rewound-kept : (g : Given) (q : Request) (k : Kept) → Keeps k → Reads g k → q.code ≡ rewind_code → kept_after g q (kept_after g q k) ≡ kept_after g q k
-unfolding slots_after bytes_after copyAfter front_after back_after copied_back_after runs_after
+unfolding slots_after bytes_after copy_after front_after back_after copied_back_after runs_after
 rewound-kept g q k h r e =
     let two : ℕ → Bool = λ i. k.traces.front i && is_committed (k.core.pages.slots i) && is_committed (copied (copy_slots k.core) i) in
     let one : ℕ → Bool = λ i. k.traces.front i && is_committed (k.core.pages.slots i) in

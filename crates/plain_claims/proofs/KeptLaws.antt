@@ -16,7 +16,7 @@ use Rattle.interface.specs.declared.request.Request.{Request}
 use Rattle.interface.specs.Requests.{◌is◌, open_code, map_code, unmap_code, write_code, snapshot_code, rewind_code, page_of}
 use Rattle.interface.specs.Slots.{Slots, is_mapped, is_committed, with_committed, areas, mapped_pages, charge_of, copied}
 use Rattle.interface.specs.Limits.{within}
-use Rattle.interface.specs.Outcome.{first_of, new_page, page_on, slots_after, copyAfter, share_after}
+use Rattle.interface.specs.Outcome.{first_of, new_page, page_on, slots_after, copy_after, share_after}
 use Rattle.interface.specs.Refusals.{is_taken, all_mapped, applies, refusal}
 use Rattle.interface.specs.Accepted.{Accepted}
 use Rattle.interface.proofs.SlotLaws.{mapped-rights, committed-rights, mapped-commit, committed-mapped}
@@ -30,8 +30,8 @@ use Rattle.plain_claims.proofs.RunLaws.{map-front-new, held-map, held-unmap, hel
 
 -- the slots of the copy that an accepted request leaves
 pub copy-slots : (g : Given) (q : Request) (k : Kept)
-    → copy_slots (kept_after g q k).core ≡ copyAfter q (kept_after g q k).core.pages.slots (copy_slots k.core)
-unfolding copyAfter
+    → copy_slots (kept_after g q k).core ≡ copy_after q (kept_after g q k).core.pages.slots (copy_slots k.core)
+unfolding copy_after
 copy-slots g q k = by_cases (q is snapshot_code) (λ e. rw e) (λ e. rw e)
 
 -- nothing is mapped in no copy
@@ -51,16 +51,16 @@ none-areas : areas (copied none) ≤ 8
 none-areas = omega (arith, areas-none)
 
 -- the copy keeps the limits: it is the old one, or the slots that a snapshot leaves
-copy-charged : (q : Request) (now : Slots) (c : Option Slots) (share : ℕ) → charge_of now (copyAfter q now c) ≤ share_after q share
-    → ((q is open_code) ≡ true → c ≡ none) → charge_of (copied c) c ≤ share → charge_of (copied (copyAfter q now c)) (copyAfter q now c) ≤ share_after q share
-unfolding copyAfter
+copy-charged : (q : Request) (now : Slots) (c : Option Slots) (share : ℕ) → charge_of now (copy_after q now c) ≤ share_after q share
+    → ((q is open_code) ≡ true → c ≡ none) → charge_of (copied c) c ≤ share → charge_of (copied (copy_after q now c)) (copy_after q now c) ≤ share_after q share
+unfolding copy_after
 copy-charged q now none share new closed old = by_cases (q is snapshot_code) (λ e. rw e (rw e at new)) (λ e. rw e (none-charged now _))
 copy-charged q now (some d) share new closed old =
     by_cases (q is snapshot_code) (λ e. rw e (rw e at new))
     (λ e. rw e (by_cases (q is open_code) (λ o. absurd (some-ne-none d (closed o))) (λ o. rw o old)))
 
-copy-areas : (q : Request) (now : Slots) (c : Option Slots) → areas now ≤ 8 → areas (copied c) ≤ 8 → areas (copied (copyAfter q now c)) ≤ 8
-unfolding copyAfter
+copy-areas : (q : Request) (now : Slots) (c : Option Slots) → areas now ≤ 8 → areas (copied c) ≤ 8 → areas (copied (copy_after q now c)) ≤ 8
+unfolding copy_after
 copy-areas q now c new old = by_cases (q is snapshot_code) (λ e. rw e new) (λ e. rw e old)
 
 -- mapped pages and backs together are at most the share
@@ -108,7 +108,7 @@ module _ (g : Given) (q : Request) (k : Kept) (total : ℕ) (a : Accepted (view_
   front-mapped (is_other x₁ x₂ x₃ x₄ x₅ x₆) i = rw (x₁, x₂, x₃, x₄, x₅, x₆) (h.front_mapped i)
 
   committed-in : Kind q → (i : ℕ) → is_committed ((kept_after g q k).core.pages.slots i) ≡ true → is_mapped (copied (copy_slots (kept_after g q k).core) i) ≡ true
-  unfolding slots_after copyAfter
+  unfolding slots_after copy_after
   committed-in (is_map e) i =
       rw e
       (over-cases (λ x. is_committed x ≡ true → is_mapped (copied (copy_slots k.core) i) ≡ true) _ _ _ _ i (λ _ f. cc) (h.committed_in i))
@@ -125,7 +125,7 @@ module _ (g : Given) (q : Request) (k : Kept) (total : ℕ) (a : Accepted (view_
   committed-in (is_other x₁ x₂ x₃ x₄ x₅ x₆) i = rw (x₁, x₂, x₃, x₅, x₆) (h.committed_in i)
 
   back-in : Kind q → (i : ℕ) → (kept_after g q k).traces.back i ≡ true → is_mapped (copied (copy_slots (kept_after g q k).core) i) ≡ true
-  unfolding slots_after copyAfter back_after
+  unfolding slots_after copy_after back_after
   back-in (is_snapshot e) i = rw e (λ f. rw mapped-commit (h.front_mapped i f))
   back-in (is_rewind e) i = rw (e, ← h.back_copied) (h.back_in i)
   back-in (is_map e) i = rw e (h.back_in i)
@@ -177,7 +177,7 @@ module _ (g : Given) (q : Request) (k : Kept) (total : ℕ) (a : Accepted (view_
   page-inside (is_other x₁ x₂ x₃ x₄ x₅ x₆) i = rw (x₁, x₂, x₃, x₅, x₆) (h.inside i)
 
   copy-inside : (i : ℕ) → is_mapped (copied (copy_slots (kept_after g q k).core) i) ≡ true → i < 64
-  unfolding slots_after copyAfter
+  unfolding slots_after copy_after
   copy-inside i =
       by_cases (q is snapshot_code)
       (λ e. rw (eqb-true q.code snapshot_code e, mapped-commit) (h.inside i))
@@ -259,7 +259,7 @@ holds_after g p q h = when-cases (Holds g) (eqb (number_at g p q) 0) (λ e. hold
 
 -- a next write is accepted and leaves the page with a front
 pub next-write : (g : Given) (p : Plain) → Holds g p → NextWrite g p
-unfolding applies refusal all_mapped slots_after copyAfter after front_after
+unfolding applies refusal all_mapped slots_after copy_after after front_after
 next-write g p h q e row o limits there right =
     let own = h.each q.sandbox in
     let number : number_at g p q ≡ 0 = rw (limits, e, lt-ltb q.sandbox 4 row, there, right, le-ltb _ _ own.charged, le-ltb 8 _ own.in_areas, o) in
@@ -272,7 +272,7 @@ taken-open k h t =
     (λ e. never (is_taken (copy_slots k.core)) t (ap (λ (x : Kept). is_taken (copy_slots x.core)) (h.closed_empty e)))
 
 pub next-rewind : (g : Given) (p : Plain) → Holds g p → NextRewind g p
-unfolding applies refusal all_mapped slots_after copyAfter
+unfolding applies refusal all_mapped slots_after copy_after
 next-rewind g p h q e row limits taken =
     let own = h.each q.sandbox in
     rw (limits, e, lt-ltb q.sandbox 4 row, taken, le-ltb _ _ own.copy_charged, le-ltb 8 _ own.copy_areas, taken-open (p q.sandbox) own taken)

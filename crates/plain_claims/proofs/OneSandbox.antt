@@ -11,7 +11,7 @@ use Rattle.basics.proofs.TestLaws.{by_cases, when-cases}
 use Rattle.interface.specs.declared.request.Request.{Request}
 use Rattle.interface.specs.Answers.{Answered}
 use Rattle.interface.specs.Requests.{◌is◌, open_code, snapshot_code, rewind_code}
-use Rattle.interface.specs.Outcome.{slots_after, copyAfter}
+use Rattle.interface.specs.Outcome.{slots_after, copy_after}
 use Rattle.interface.specs.Refusals.{applies, refusal}
 use Rattle.interface.specs.Accepted.{Accepted}
 use Rattle.interface.proofs.AcceptedLaws.{accepted}
@@ -69,11 +69,11 @@ pub record Since (share : ℕ) (d : Pages) (c : Core) : Type 0 where
 
 module _ (g : Given) (total : ℕ) (q : Request) (c : Core) where
   pub since-taken : (q is snapshot_code) ≡ true → Since (core_after g q c).share (core_after g q c).pages (core_after g q c)
-  unfolding copyAfter
+  unfolding copy_after
   since-taken e = record { opened = refl; shared = refl; copied = rw e }
 
   since-accepted : {sh : ℕ} {d : Pages} → Since sh d c → Accepted (view_of g total c) q → Since sh d (core_after g q c)
-  unfolding copyAfter
+  unfolding copy_after
   since-accepted h a = record {
     opened = refl;
     shared = by_cases (q is open_code) (λ e. cc (a.closed e, h.opened)) (λ e. rw e h.shared);
@@ -87,7 +87,7 @@ module _ (g : Given) (total : ℕ) (q : Request) (c : Core) where
 
   -- an accepted rewind puts the whole copy in place
   pub rewound : {sh : ℕ} {d : Pages} → Since sh d c → (q is rewind_code) ≡ true → core_after g q c ≡ record { opened = true; share = sh; pages = d; copy = some d }
-  unfolding slots_after bytes_after copyAfter
+  unfolding slots_after bytes_after copy_after
   rewound h e = rw (eqb-true q.code rewind_code e, h.copied, h.shared)
 
   -- an open sandbox stays open

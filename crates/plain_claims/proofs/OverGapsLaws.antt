@@ -12,7 +12,7 @@ use Rattle.interface.specs.declared.page.Slot.TheVariants.{Unmapped}
 use Rattle.interface.specs.declared.request.Request.{Request}
 use Rattle.interface.specs.Answers.{Answered}
 use Rattle.interface.specs.Slots.{Slots, is_mapped, areas}
-use Rattle.interface.specs.Outcome.{slots_after, copyAfter}
+use Rattle.interface.specs.Outcome.{slots_after, copy_after}
 use Rattle.interface.specs.Settled.{Settled}
 use Rattle.interface.specs.Examples.{ok}
 use Rattle.gaps.specs.Gaps.{unmap_of, all_ok}
@@ -36,7 +36,7 @@ module _ (g : Given) (s : ℕ) where
 
   kept-none : (k : Kept) → Keeps k → k.core.opened ≡ true → (a n : ℕ) → ((i : ℕ) → inside a n i ≡ true → is_mapped (k.core.pages.slots i) ≡ false)
       → without-kept k a n ≡ k
-  unfolding slots_after bytes_after copyAfter front_after back_after copied_back_after runs_after
+  unfolding slots_after bytes_after copy_after front_after back_after copied_back_after runs_after
   kept-none k h o a n u =
       let no_front : over a n (λ i. false) k.traces.front ≡ k.traces.front =
       fun_ext λ i. by_cases (inside a n i)
@@ -46,7 +46,7 @@ module _ (g : Given) (s : ℕ) where
       rw (without-none k.core.pages.slots a n u, no_front, ← o)
 
   kept-join : (k : Kept) (a n m : ℕ) → without-kept (without-kept k a n) (a + n) m ≡ without-kept k a (n + m)
-  unfolding slots_after bytes_after copyAfter front_after back_after copied_back_after runs_after
+  unfolding slots_after bytes_after copy_after front_after back_after copied_back_after runs_after
   kept-join k a n m = rw (over-join a n m (λ i. Unmapped) k.core.pages.slots, over-join a n m (λ i. false) k.traces.front)
 
 -- ---- the machine
@@ -145,7 +145,7 @@ module _ (g : Given) (qs : List Request) (q : Request) (u : UnmapsAfter g qs q) 
 
   -- the request is that of its sandbox, range and code
   same_kept : (k : Kept) → kept_after g q k ≡ without-kept g q.sandbox k q.p1 q.p2
-  unfolding slots_after bytes_after copyAfter front_after back_after copied_back_after runs_after
+  unfolding slots_after bytes_after copy_after front_after back_after copied_back_after runs_after
   same_kept k = rw u.called
 
   accepted-after : number_at g (up_to g qs) q ≡ 0

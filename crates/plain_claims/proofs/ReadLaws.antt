@@ -9,7 +9,7 @@ use Rattle.basics.proofs.RangeLaws.{over-cases, over-both}
 use Rattle.interface.specs.declared.request.Request.{Request}
 use Rattle.interface.specs.Requests.{◌is◌, map_code, snapshot_code, page_of}
 use Rattle.interface.specs.Slots.{is_mapped, is_committed, is_uncommitted, backing_at, copied}
-use Rattle.interface.specs.Outcome.{slots_after, copyAfter}
+use Rattle.interface.specs.Outcome.{slots_after, copy_after}
 use Rattle.interface.specs.Refusals.{is_taken}
 use Rattle.interface.specs.Accepted.{Accepted}
 use Rattle.interface.proofs.SlotLaws.{committed-rights, uncommitted-rights, backing-rights, mapped-commit, committed-commit, uncommitted-commit, backing-commit}
@@ -33,7 +33,7 @@ module _ (g : Given) (q : Request) (k : Kept) (total : ℕ) (a : Accepted (view_
   -- a map: of a page that had no front before
   old-map : q.code ≡ map_code → (i : ℕ) → is_committed ((kept_after g q k).core.pages.slots i) ≡ true → k.traces.front i ≡ false
       → (kept_after g q k).core.pages.bytes i ≡ copy_bytes (kept_after g q k).core.copy i
-  unfolding slots_after bytes_after copyAfter
+  unfolding slots_after bytes_after copy_after
   old-map e i =
       rw e
       (over-both (λ x y. is_committed x ≡ true → k.traces.front i ≡ false → y ≡ copy_bytes k.core.copy i) _ _ _ _ _ _ i
@@ -48,7 +48,7 @@ module _ (g : Given) (q : Request) (k : Kept) (total : ℕ) (a : Accepted (view_
 
   old' : Kind q → (i : ℕ) → is_committed ((kept_after g q k).core.pages.slots i) ≡ true → (kept_after g q k).traces.front i ≡ false
       → (kept_after g q k).core.pages.bytes i ≡ copy_bytes (kept_after g q k).core.copy i
-  unfolding slots_after bytes_after front_after copyAfter
+  unfolding slots_after bytes_after front_after copy_after
   old' (is_map e) i = λ c f. old-map e i c (map-front-old q k.core.pages.slots k.traces e i f)
   old' (is_unmap e) i =
       rw e
@@ -83,7 +83,7 @@ module _ (g : Given) (q : Request) (k : Kept) (total : ℕ) (a : Accepted (view_
 
   unbacked' : Kind q → (i : ℕ) → is_mapped (copied (copy_slots (kept_after g q k).core) i) ≡ true → (kept_after g q k).traces.back i ≡ false
       → copy_bytes (kept_after g q k).core.copy i ≡ backing_byte g.image (backing_at (copied (copy_slots (kept_after g q k).core) i))
-  unfolding slots_after bytes_after copyAfter back_after
+  unfolding slots_after bytes_after copy_after back_after
   unbacked' (is_snapshot e) i =
       let none-taken = none_old i (a.untaken (rw e)) in
       rw (e, mapped-commit, backing-commit) (λ m f. r.new i (uncommitted-of (k.core.pages.slots i) m none-taken) f)
@@ -96,7 +96,7 @@ module _ (g : Given) (q : Request) (k : Kept) (total : ℕ) (a : Accepted (view_
 
   backing' : Kind q → (i : ℕ) → is_committed ((kept_after g q k).core.pages.slots i) ≡ true
       → backing_at ((kept_after g q k).core.pages.slots i) ≡ backing_at (copied (copy_slots (kept_after g q k).core) i)
-  unfolding slots_after copyAfter
+  unfolding slots_after copy_after
   backing' (is_map e) i =
       rw e
       (over-cases (λ x. is_committed x ≡ true → backing_at x ≡ backing_at (copied (copy_slots k.core) i)) _ _ _ _ i
@@ -115,7 +115,7 @@ module _ (g : Given) (q : Request) (k : Kept) (total : ℕ) (a : Accepted (view_
   backing' (is_other x₁ x₂ x₃ x₄ x₅ x₆) i = rw (x₁, x₂, x₃, x₅, x₆) (r.backing i)
 
   marked' : (i : ℕ) → is_mapped (copied (copy_slots (kept_after g q k).core) i) ≡ true → is_committed (copied (copy_slots (kept_after g q k).core) i) ≡ true
-  unfolding slots_after copyAfter
+  unfolding slots_after copy_after
   marked' i =
       by_cases (q is snapshot_code)
       (λ e. rw (eqb-true q.code snapshot_code e, mapped-commit, committed-commit) (λ m. m))

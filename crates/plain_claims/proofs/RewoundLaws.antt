@@ -7,7 +7,7 @@ use mathlib.Core.Option.{Option, some, none, map}
 use borrow.Author.Tests.{eqb-true}
 use Rattle.interface.specs.declared.request.Request.{Request}
 use Rattle.interface.specs.Requests.{◌is◌, rewind_code}
-use Rattle.interface.specs.Outcome.{slots_after, copyAfter}
+use Rattle.interface.specs.Outcome.{slots_after, copy_after}
 use Rattle.interface.specs.Refusals.{is_taken}
 use Rattle.interface.proofs.AcceptedLaws.{accepted}
 use Rattle.plain.specs.Machine.{Given, Pages, Core, bytes_after, core_after, copy_slots}
@@ -23,7 +23,7 @@ taken-copy c h = go c.copy h
     go (some d) e = (d, refl)
 
 pub restored : (g : Given) (q : Request) (c : Core) → (q is rewind_code) ≡ true → is_taken (copy_slots c) ≡ true → Restored (core_after g q c)
-unfolding slots_after copyAfter bytes_after
+unfolding slots_after copy_after bytes_after
 restored g q c e h = let t = taken-copy c h in rw (eqb-true q.code rewind_code e, t.1)
 
 pub rewound-restored : (g : Given) (s : ℕ) (qs : List Request) → Rewound g s qs → Restored (up_to g qs s).core

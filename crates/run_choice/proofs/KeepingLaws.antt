@@ -8,7 +8,7 @@ use borrow.Author.Tests.{eqb-true, eqb-false, eq-eqb, ne_eqb, leb-true, leb-fals
 use Rattle.basics.specs.Choice.{same}
 use Rattle.basics.specs.Ranges.{count}
 use Rattle.basics.specs.Rows.{best, longer, fitter}
-use Rattle.basics.specs.Longest.{pushAll, taken_of}
+use Rattle.basics.specs.Longest.{push_all, taken_of}
 use Rattle.basics.proofs.TestLaws.{by_cases, and_left, and_right, and_both, and-of, same_true}
 use Rattle.basics.proofs.CountLaws.{count-equal, count-zero}
 use Rattle.basics.proofs.RowLaws.{best-low, longest-top, longest-oldest, fit-shortest, fit-longest, fit-oldest}
@@ -170,5 +170,5 @@ keeps-the-longest f front lengths =
     fun_ext (λ a. count-equal _ _ 64 (λ i l. spared-mapped (f i) (eqb (count (starts_area f) (suc i)) (suc a)) (front i))) in
     let walk = walked-pushes (starts_area f) taken run_places lengths 64
     ∙ push-all-none (λ x. x) run_places lengths things (none_first f front) (count (starts_area f) 64)
-    ∙ ap (λ (new : ℕ → ℕ). pushAll (λ x. x) run_places lengths new (count (starts_area f) 64)) runs in
+    ∙ ap (λ (new : ℕ → ℕ). push_all (λ x. x) run_places lengths new (count (starts_area f) 64)) runs in
     rw walk (keeps-longest (λ x. x) run_places (omega arith) lengths (run_of f front) (count (starts_area f) 64))

@@ -6,7 +6,7 @@ use native.Mathlib.Omega.{arith}
 use lib.Dec.{leb}
 use borrow.Author.Tests.{leb-true, leb-false}
 use Rattle.basics.specs.Ranges.{sum}
-use Rattle.basics.specs.Rows.{best, longer, fitter, inPlace}
+use Rattle.basics.specs.Rows.{best, longer, fitter, in_place}
 use Rattle.basics.proofs.TestLaws.{by_cases}
 use Rattle.basics.proofs.CountLaws.{sum-put, sum-some}
 use Rattle.basics.proofs.RowLaws.{best-low, best-same, longest-top}
@@ -59,7 +59,7 @@ unfolding longest_run
 longest-some l h = sum-some l run_places (l (best longer l run_places)) (longest-top l run_places) h
 
 -- a run with fewer frames
-pub sum_less : (l : ℕ → ℕ) (c frames : ℕ) → c < run_places → frames ≤ l c → sum (λ i. inPlace c (l c - frames) l i) run_places + frames ≡ sum l run_places
+pub sum_less : (l : ℕ → ℕ) (c frames : ℕ) → c < run_places → frames ≤ l c → sum (λ i. in_place c (l c - frames) l i) run_places + frames ≡ sum l run_places
 sum_less l c frames low h = omega (arith, sum-put (λ x. x) l c (l c - frames) run_places low)
 
 -- a committed page's front is in no run

@@ -2,7 +2,7 @@
 -- length 0 is no run.
 use Rattle.std.specs.Prelude.{ℕ, suc, ◌+◌, ◌≤◌, ◌<◌, ◌≡◌, Bool, true, false, ◌&&◌, eqb}
 use Rattle.basics.specs.Ranges.{count}
-use Rattle.basics.specs.Longest.{byAge, Longest}
+use Rattle.basics.specs.Longest.{by_age, Longest}
 use Rattle.interface.specs.Numbers.{page_count}
 use Rattle.interface.specs.declared.page.Backing.TheVariants.{Anonymous}
 use Rattle.interface.specs.declared.page.Slot.{Slot}
@@ -38,7 +38,7 @@ run_of f front a = count (λ i. is_of_area f a i && (front i && is_spared (f i))
 abbrev pub KeepsTheLongest : Type 0
 KeepsTheLongest =
     (f : Slots) (front : ℕ → Bool) (lengths : ℕ → ℕ)
-    → Longest (λ length. length) (byAge 8 lengths (run_of f front)) (8 + areas f) (runs_rewound f front lengths) 8
+    → Longest (λ length. length) (by_age 8 lengths (run_of f front)) (8 + areas f) (runs_rewound f front lengths) 8
 
 -- ---- which run is chosen, and when
 

@@ -10,7 +10,7 @@ use borrow.Author.Tests.{eqb-true, eqb-false, lt-ltb, le-ltb, ltb-true, ltb-fals
 use lib.ListN.{length, get_or, length-set, replicate}
 use lib.Seq.{get_or-set_same, get_or-set_other}
 use Rattle.basics.specs.Choice.{◌when◌else◌}
-use Rattle.basics.specs.Rows.{best, no_longer, inPlace, movedUp, push}
+use Rattle.basics.specs.Rows.{best, no_longer, in_place, moved_up, push}
 use Rattle.basics.proofs.RowLaws.{best-low}
 use Rattle.basics.proofs.TestLaws.{by_cases, when-cases}
 use Rattle.frames.specs.declared.Held.{Held}
@@ -41,7 +41,7 @@ tabled-row f i l = to_at 8 f i l
 pub with-length : (c : ℕ) (h : Held) (r : Runs) → length r.list ≡ 8 → length (with_run_at c h r).list ≡ 8
 with-length c h r e = length-set r.list c h ∙ e
 
-pub with_row : (c : ℕ) (h : Held) (r : Runs) → c < length r.list → (i : ℕ) → row (with_run_at c h r) i ≡ inPlace c h (row r) i
+pub with_row : (c : ℕ) (h : Held) (r : Runs) → c < length r.list → (i : ℕ) → row (with_run_at c h r) i ≡ in_place c h (row r) i
 with_row c h r l i =
     by_cases (eqb c i)
     (λ e. rw (e, ← eqb-true c i e) (get_or-set_same r.list c h none_held l))
@@ -107,8 +107,8 @@ shift-row c r e (suc j) l i =
       length-set (shift_to c r j).list (c + j) (row (shift_to c r j) (c + j + 1)) ∙ ih.1,
     )
 
-moved_row : (c : ℕ) (run : Held) (r : Runs) → length r.list ≡ 8 → c < 8 → (i : ℕ) → i < 8 → row (moved_runs c run r) i ≡ movedUp 8 c run (row r) i
-unfolding moved_runs movedUp
+moved_row : (c : ℕ) (run : Held) (r : Runs) → length r.list ≡ 8 → c < 8 → (i : ℕ) → i < 8 → row (moved_runs c run r) i ≡ moved_up 8 c run (row r) i
+unfolding moved_runs moved_up
 moved_row c run r e l i d =
     let s = shift-row c r e (7 - c) (omega arith) i in
     let w : c + (7 - c) ≡ 7 = omega arith in

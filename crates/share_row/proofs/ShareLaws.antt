@@ -13,7 +13,7 @@ use Rattle.interface.specs.declared.answer.Refusal.TheVariants.{ShareExceeded}
 use Rattle.interface.specs.declared.request.Request.{Request}
 use Rattle.interface.specs.Requests.{◌is◌, open_code, map_code, snapshot_code}
 use Rattle.interface.specs.Slots.{is_mapped, mapped_pages, charge_of}
-use Rattle.interface.specs.Outcome.{first_of, new_page, slots_after, copyAfter, share_after}
+use Rattle.interface.specs.Outcome.{first_of, new_page, slots_after, copy_after, share_after}
 use Rattle.interface.specs.Refusals.{View, charge_then, applies}
 use Rattle.interface.specs.Settled.{Settled}
 use Rattle.interface.proofs.KindLaws.{kind}
@@ -34,7 +34,7 @@ module _ (frames images shares : ℕ) (b : Record) (q : Request) where
 
   -- a closed sandbox is charged nothing
   open-charge : {n : ℕ} → Ready n b → Passed view q → q.code ≡ open_code → ltb (share_after q b.share) (charge_then view q) ≡ false
-  unfolding slots_after copyAfter
+  unfolding slots_after copy_after
   open-charge r p e =
       let none : b.share ≡ 0 = ap (λ (x : Record). x.share) (r.sound.closed (p.closed e)) in
       let less : charge_of (slots b.present) (copy_of b) ≤ q.p1 = omega (arith, r.sound.charged, none) in
@@ -42,7 +42,7 @@ module _ (frames images shares : ℕ) (b : Record) (q : Request) where
 
   -- the pages of a map are unmapped before it
   map-then : Passed view q → q.code ≡ map_code → charge_then view q ≡ charge_of (slots b.present) (copy_of b) + q.p2
-  unfolding slots_after copyAfter
+  unfolding slots_after copy_after
   map-then p e =
       let first : ℕ = first_of (slots b.present) q in
       let m : (q is map_code) ≡ true = rw e in
@@ -55,7 +55,7 @@ module _ (frames images shares : ℕ) (b : Record) (q : Request) where
       not-true (is_mapped (slots b.present i)) (every-at (λ j. same false (is_mapped (slots b.present j))) first q.p2 (p.free e) i from below)))
 
   snapshot-then : q.code ≡ snapshot_code → charge_then view q ≡ 2 * mapped_pages (slots b.present)
-  unfolding slots_after copyAfter
+  unfolding slots_after copy_after
   snapshot-then e = rw e (snapshot-charge (slots b.present))
 
   pub exceeds-open : {n : ℕ} → Ready n b → Passed view q → q.code ≡ open_code → ltb frames (shares + q.p1) ≡ exceeded

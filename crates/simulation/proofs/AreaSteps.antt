@@ -11,7 +11,7 @@ use Rattle.interface.specs.declared.request.Request.{Request}
 use Rattle.interface.specs.Requests.{◌is◌, map_code, unmap_code, protect_code, snapshot_code, rewind_code}
 use Rattle.interface.specs.Slots.{Slots, backing_at, copied}
 use Rattle.interface.specs.Limits.{rights_ok, pages_ok, place_ok, backing_ok, uses_three, within}
-use Rattle.interface.specs.Outcome.{first_of, slots_after, copyAfter, new_page}
+use Rattle.interface.specs.Outcome.{first_of, slots_after, copy_after, new_page}
 use Rattle.interface.specs.Refusals.{View, is_taken, slots_then}
 use Rattle.interface.specs.Accepted.{Accepted}
 use Rattle.interface.proofs.SlotLaws.{beyond}
@@ -150,7 +150,7 @@ module _ (g : Given) (q : Request) (st : Store) (b : Sandbox) (k : Kept) (total 
 
   -- the snapshot's
   pub copy-after : slots (snapshot_after q (present_after q b.rec) b.rec.snapshot) ≡ copied (copy_slots (kept_after g q k).core)
-  unfolding snapshot_after copyAfter
+  unfolding snapshot_after copy_after
   copy-after = by_cases (q is snapshot_code) (λ e. rw e (slots-after (is_snapshot (eqb-true q.code snapshot_code e)))) (λ e. rw e A.copy)
 
   pub formed-copy-after : WellFormed (pages_in (length g.image)) (snapshot_after q (present_after q b.rec) b.rec.snapshot)
@@ -158,7 +158,7 @@ module _ (g : Given) (q : Request) (st : Store) (b : Sandbox) (k : Kept) (total 
   formed-copy-after = by_cases (q is snapshot_code) (λ e. rw e (formed-after (is_snapshot (eqb-true q.code snapshot_code e)))) (λ e. rw e A.formed_copy)
 
   pub taken-after : taken_after q b.rec.taken ≡ is_taken (kept_after g q k).core.copy
-  unfolding taken_after copyAfter
+  unfolding taken_after copy_after
   taken-after = by_cases (q is snapshot_code) (λ e. rw e) (λ e. rw e A.taken)
 
   pub untaken-after : taken_after q b.rec.taken ≡ false → snapshot_after q (present_after q b.rec) b.rec.snapshot ≡ empty

@@ -15,7 +15,7 @@ use Rattle.interface.specs.declared.page.Backing.TheVariants.{Anonymous, Image}
 use Rattle.interface.specs.declared.request.Request.{Request}
 use Rattle.interface.specs.Requests.{map_code}
 use Rattle.interface.specs.Slots.{is_mapped, advance}
-use Rattle.interface.specs.Outcome.{first_of, copyAfter}
+use Rattle.interface.specs.Outcome.{first_of, copy_after}
 use Rattle.interface.specs.Refusals.{View}
 use Rattle.interface.specs.Accepted.{Accepted}
 use Rattle.interface.proofs.AcceptedLaws.{map-fits, map-unmapped}
@@ -61,7 +61,7 @@ module _ {C : ℕ → Type 0} (g : Given) (L : Lent g) (q : Request) (st : Store
   module _ (total : ℕ) (a : Accepted (view_of g total k.core) q) (f : ℕ) where
     -- a map that takes no run
     stored-plain : q.code ≡ map_code → (eqb q.p1 64 && eqb q.p3 0) ≡ false → Stored C g st (store_after g.image f q b st) q.sandbox (kept_after g q k)
-    unfolding store_after front_after back_after bytes_after copyAfter
+    unfolding store_after front_after back_after bytes_after copy_after
     stored-plain e y =
         let free : (i : ℕ) → inside (first_of k.core.pages.slots q) q.p2 i ≡ true → is_mapped (k.core.pages.slots i) ≡ false =
         map-free (view_of g total k.core) q a e in
@@ -106,7 +106,7 @@ module _ {C : ℕ → Type 0} (g : Given) (L : Lent g) (q : Request) (st : Store
       run-bytes i = rw e
 
       run-copy : (kept_after g q k).core.copy ≡ k.core.copy
-      unfolding copyAfter
+      unfolding copy_after
       run-copy = rw e
 
       run-back : (kept_after g q k).traces.back ≡ k.traces.back

@@ -9,14 +9,14 @@ use Rattle.interface.specs.declared.request.Request.{Request}
 use Rattle.interface.specs.Answers.{Answered}
 use Rattle.interface.specs.Slots.{follows, joins, areas, mapped_pages, uncommitted_pages, lowest_gap, charge_of}
 use Rattle.interface.specs.Limits.{within}
-use Rattle.interface.specs.Outcome.{first_of, slots_after, copyAfter}
+use Rattle.interface.specs.Outcome.{first_of, slots_after, copy_after}
 use Rattle.interface.specs.Refusals.{all_mapped, applies, refusal}
 use Rattle.words.specs.Word.{bit, put_bit}
 use Rattle.frames.specs.Frames.{held, mark, count_held, least_held, both_held, apart_held}
 use Rattle.free_frames.specs.declared.Free.{Free}
 use Rattle.free_frames.specs.declared.Free.TheVariants.{Frame, None}
 use Rattle.free_frames.specs.Greatest.{greatest}
-use Rattle.basics.specs.Rows.{best, movedUp, walkTo, walked}
+use Rattle.basics.specs.Rows.{best, moved_up, walk_to, walked}
 use Rattle.basics.specs.Rows as rows
 use Rattle.run_choice.specs.Runs.{run_for, granted, longest_run}
 use Rattle.marks.specs.Named.{used_below}
@@ -63,8 +63,8 @@ roll-played : played (started 8) (requests_of roll) ≡ gets_of roll
 unfolding chosen played roll
     count sum every lowest inside over alike
     follows joins areas mapped_pages uncommitted_pages lowest_gap charge_of
-    within first_of slots_after copyAfter all_mapped applies refusal
-    best movedUp rows.push walkTo walked run_for granted longest_run
+    within first_of slots_after copy_after all_mapped applies refusal
+    best moved_up rows.push walk_to walked run_for granted longest_run
     bit put_bit held mark count_held greatest least_held both_held apart_held
     part_at set_part zeros frame set_frame same_bytes changed_pages
     add_entry marks_to marksb used_below

@@ -8,7 +8,7 @@ use native.Mathlib.Omega.{arith}
 use lib.Dec.{eqb}
 use lib.ListN.{length}
 use borrow.Author.Tests.{eqb-true}
-use Rattle.basics.specs.Rows.{inPlace}
+use Rattle.basics.specs.Rows.{in_place}
 use Rattle.basics.proofs.TestLaws.{by_cases, never}
 use Rattle.interface.specs.declared.request.Request.{Request}
 use Rattle.interface.specs.Requests.{◌is◌, map_code, write_code, snapshot_code, page_of, offset_of}
@@ -55,10 +55,10 @@ pub record Runned (n : ℕ) (r : Store) (rows : Rows) (s : ℕ) (u : Runs) (afte
   pub places : length u.list ≡ 8
   pub lengths_are : (i : ℕ) → i < 8 → lengths_of u i ≡ after i
   pub words : Words (row u)
-  pub spare : Spare 256 n r (inPlace s (row u) rows)
+  pub spare : Spare 256 n r (in_place s (row u) rows)
 
 -- nothing changes in the rows
-same_rows : (rows : Rows) (s : ℕ) → inPlace s (rows s) rows ≡ rows
+same_rows : (rows : Rows) (s : ℕ) → in_place s (rows s) rows ≡ rows
 same_rows rows s = fun_ext λ t. by_cases (eqb s t) (λ e. rw (e, eqb-true s t e)) (λ e. rw e)
 
 module _ {C : ℕ → Type 0} (g : Given) (L : Lent g) (q : Request) (st : Store) (T : Tidy C 256 g.frames st) (b : Sandbox) (k : Kept)
@@ -106,7 +106,7 @@ module _ {C : ℕ → Type 0} (g : Given) (L : Lent g) (q : Request) (st : Store
     abbrev rest : Runs
     rest = with_run_at c (left_of (row b.runs c) m) b.runs
 
-    rest-row : row rest ≡ inPlace c (left_of (row b.runs c) m) (row b.runs)
+    rest-row : row rest ≡ in_place c (left_of (row b.runs c) m) (row b.runs)
     rest-row = fun_ext (with_row c (left_of (row b.runs c) m) b.runs (omega (arith, A.places, here)))
 
     rest-length : (i : ℕ) → i < 8 → lengths_of rest i ≡ less_by (run_for q.p2 k.traces.runs) (granted q.p2 k.traces.runs) k.traces.runs i
@@ -125,7 +125,7 @@ module _ {C : ℕ → Type 0} (g : Given) (L : Lent g) (q : Request) (st : Store
           high = λ i l. by_cases (eqb c i) (λ z. rw z left.1) (λ z. rw z (W.high i l));
         })
 
-    rest-spare : Spare 256 n (store_after g.image f q b st) (inPlace s (row rest) rows)
+    rest-spare : Spare 256 n (store_after g.image f q b st) (in_place s (row rest) rows)
     rest-spare =
         let place : ℕ = front_of s (first_of k.core.pages.slots q) in
         let x = run-empty g L q st T b k in_row h r A total a f rows S own e y in
@@ -157,7 +157,7 @@ module _ {C : ℕ → Type 0} (g : Given) (L : Lent g) (q : Request) (st : Store
         };
         spare =
             spare-rows 256 n (rewind_to g.image (s * 128) (keeps_front b.rec) (copy_backing b.rec) st 64)
-            (inPlace s (row_rewound st s f' (row b.runs)) rows) (inPlace s (row made) rows)
+            (in_place s (row_rewound st s f' (row b.runs)) rows) (in_place s (row made) rows)
             (λ t i l d. by_cases (eqb s t) (λ z. rw z (sym (tabled-row (row_rewound st s f' (row b.runs)) i d))) (λ z. rw z))
             (rw own at (rewind-spare n st T.filed s f' g.image (keeps_front b.rec) (copy_backing b.rec) (copy-there g L st s b k h r A)
             (λ i z. spared-uncommitted (slots b.rec.present i) z) rows low S));
@@ -216,13 +216,13 @@ module _ {C : ℕ → Type 0} (g : Given) (L : Lent g) (q : Request) (st : Store
       mine : held (rows s l) given ≡ 1
       mine = rw own (gave y).1
 
-      less-row : row less ≡ inPlace l (mark (row b.runs l) given 0) (row b.runs)
+      less-row : row less ≡ in_place l (mark (row b.runs l) given 0) (row b.runs)
       less-row = fun_ext (with_row l (mark (row b.runs l) given 0) b.runs (omega (arith, A.places, here')))
 
-      less-rows : inPlace s (row less) rows ≡ with_run s l (mark (rows s l) given 0) rows
+      less-rows : in_place s (row less) rows ≡ with_run s l (mark (rows s l) given 0) rows
       less-rows = rw (less-row, own)
 
-      less-spare : Spare 256 n (store_byte 256 place (offset_of q) q.p2 (touched g.image f b.rec s (page_of q) st)) (inPlace s (row less) rows)
+      less-spare : Spare 256 n (store_byte 256 place (offset_of q) q.p2 (touched g.image f b.rec s (page_of q) st)) (in_place s (row less) rows)
       less-spare =
           rw less-rows
           (written (with_run s l (mark (rows s l) given 0) rows) (given-spare 256 n st rows s l given low here' mine T.filed.few S)

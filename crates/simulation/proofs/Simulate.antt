@@ -8,7 +8,7 @@ use lib.Dec.{ltb, eqb}
 use lib.ListN.{length-set}
 use lib.Seq.{get_or-set_same, get_or-set_other}
 use borrow.Author.Tests.{eq-eqb, eqb-true, eqb-false, ltb-true}
-use Rattle.basics.specs.Rows.{inPlace}
+use Rattle.basics.specs.Rows.{in_place}
 use Rattle.basics.specs.Choice.{◌when◌else◌}
 use Rattle.basics.proofs.TestLaws.{by_cases}
 use Rattle.interface.specs.declared.request.Request.{Request}
@@ -163,7 +163,7 @@ module _ {C : ℕ → Type 0} (g : Given) (L : Lent g) (w : World) (p : Plain) (
     elsewhere : (t : ℕ) → (q.sandbox ≡ t → ⊥) → sandbox_at (world_after g.image f given w q) t ≡ sandbox_at w t
     elsewhere t apart = get_or-set_other w.sandboxes q.sandbox t (sandbox_then given w q) closed_sandbox (λ z. apart (sym z))
 
-    rows_then : (t : ℕ) → rows_of (world_after g.image f given w q) t ≡ inPlace q.sandbox (row runs_then) (rows_of w) t
+    rows_then : (t : ℕ) → rows_of (world_after g.image f given w q) t ≡ in_place q.sandbox (row runs_then) (rows_of w) t
     rows_then t =
         by_cases (eqb q.sandbox t)
         (λ e. rw e (ap (λ (x : Sandbox). row x.runs) (ap (sandbox_at (world_after g.image f given w q)) (sym (eqb-true q.sandbox t e)) ∙ here)))

@@ -15,7 +15,7 @@ use Rattle.interface.specs.declared.request.Request.{Request}
 use Rattle.interface.specs.Requests.{◌is◌, map_code, unmap_code, write_code, snapshot_code, rewind_code, page_of, offset_of}
 use Rattle.interface.specs.Slots.{is_mapped, is_committed}
 use Rattle.interface.specs.Limits.{pages_ok, uses_two, within}
-use Rattle.interface.specs.Outcome.{copyAfter}
+use Rattle.interface.specs.Outcome.{copy_after}
 use Rattle.interface.specs.Refusals.{all_mapped}
 use Rattle.interface.specs.Accepted.{Accepted}
 use Rattle.interface.proofs.SlotLaws.{untaken-copied}
@@ -69,7 +69,7 @@ module _ {C : ℕ → Type 0} (g : Given) (L : Lent g) (q : Request) (st : Store
 
   module _ (total : ℕ) (a : Accepted (view_of g total k.core) q) (f : ℕ) where
     stored-unmap : q.code ≡ unmap_code → Stored C g st (store_after g.image f q b st) q.sandbox (kept_after g q k)
-    unfolding store_after front_after back_after bytes_after copyAfter over within
+    unfolding store_after front_after back_after bytes_after copy_after over within
     stored-unmap e =
         let limits : (pages_ok q.p1 q.p2 && uses_two q) ≡ true = rw e at a.in_limits in
         let fits : q.p1 + q.p2 ≤ 64 = leb-true (q.p1 + q.p2) 64 (search (and_left, and_right)) in
@@ -90,7 +90,7 @@ module _ {C : ℕ → Type 0} (g : Given) (L : Lent g) (q : Request) (st : Store
         }
 
     stored-snapshot : q.code ≡ snapshot_code → Stored C g st (store_after g.image f q b st) q.sandbox (kept_after g q k)
-    unfolding store_after front_after back_after bytes_after copyAfter
+    unfolding store_after front_after back_after bytes_after copy_after
     stored-snapshot e =
         let none-back : (i : ℕ) → k.traces.back i ≡ false =
         λ i. by_cases (k.traces.back i) (λ m. absurd (untaken-copied (copy_slots k.core) i (a.untaken (rw e)) (h.back_in i m))) (λ m. m) in
@@ -107,7 +107,7 @@ module _ {C : ℕ → Type 0} (g : Given) (L : Lent g) (q : Request) (st : Store
         }
 
     stored-rewind : q.code ≡ rewind_code → Stored C g st (store_after g.image f q b st) q.sandbox (kept_after g q k)
-    unfolding store_after front_after back_after bytes_after copyAfter
+    unfolding store_after front_after back_after bytes_after copy_after
     stored-rewind e =
         let first : ℕ = q.sandbox * 128 in
         let there = copy-there g L st q.sandbox b k h r A in
@@ -125,7 +125,7 @@ module _ {C : ℕ → Type 0} (g : Given) (L : Lent g) (q : Request) (st : Store
 
     stored_other : (q is map_code) ≡ false → (q is unmap_code) ≡ false → (q is write_code) ≡ false → (q is snapshot_code) ≡ false → (q is rewind_code) ≡ false
         → Stored C g st (store_after g.image f q b st) q.sandbox (kept_after g q k)
-    unfolding store_after front_after back_after bytes_after copyAfter
+    unfolding store_after front_after back_after bytes_after copy_after
     stored_other x₁ x₂ x₄ x₅ x₆ =
         record {
           tidy = rw (x₁, x₂, x₄, x₅, x₆) T;
@@ -179,7 +179,7 @@ module _ {C : ℕ → Type 0} (g : Given) (L : Lent g) (q : Request) (st : Store
           ∙ ap (λ (x : ℕ → ℕ). some (listed 256 x)) (fun_ext (λ j. rw (eq-eqb (page_of q) (page_of q) refl)))
 
       stored-write : Stored C g st (store_after g.image f q b st) q.sandbox (kept_after g q k)
-      unfolding store_after front_after back_after bytes_after copyAfter
+      unfolding store_after front_after back_after bytes_after copy_after
       stored-write =
           let s : Store = touched g.image f b.rec q.sandbox (page_of q) st in
           let n : ℕ = g.frames in

@@ -1,7 +1,7 @@
 -- The count and the places behind it are the bytes of the areas.
 use mathlib.Core.List.{[], ◌∷◌}
 use Rattle.areas.specs.Areas.{none}
-use Rattle.layout.specs.Rows.{part, rowBytes}
+use Rattle.layout.specs.Rows.{part, row_bytes}
 use Rattle.layout.specs.Layout.{places_size, area_bytes, areas_bytes}
 use Rattle.layout.proofs.LengthLaws.{length-places}
 use Rattle.layout.proofs.PartsLaws.{laid_out}
@@ -34,7 +34,7 @@ returns c =
     let first = written.before.before.before in
     let s = first.args.areas in
     rw written.encode_places.ensures
-    (laid_out (s.count ∷ []) (part places_size (rowBytes area_bytes none 8 s.list) ∷ []) first.args.out.now first.requires (length-places s.list, tt))
+    (laid_out (s.count ∷ []) (part places_size (row_bytes area_bytes none 8 s.list) ∷ []) first.args.out.now first.requires (length-places s.list, tt))
 
 pub encode_areas_spec : {M : Type 1} → statement M
 encode_areas_spec =
