@@ -23,13 +23,13 @@ abbrev behind_mapped : tie.Else-not-is_mapped → tie.Start
 behind_mapped c = c.before.before.before.before
 
 mapped : (c : tie.Else-not-is_mapped) → is_mapped (behind_mapped c).args.present ≡ true
-mapped c = sym c.before.is_mapped.ensures ∙ not-false c.before.is_mapped.result c.if-not-is_mapped.false-raw
+mapped c = sym c.is_mapped.ensures ∙ not-false c.is_mapped.result c.if-not-is_mapped.false-raw
 
 abbrev behind_copied : tie.Else-not-is_mapped-2 → tie.Start
 behind_copied c = behind_mapped c.before.before
 
 copied : (c : tie.Else-not-is_mapped-2) → is_mapped (behind_copied c).args.snapshot ≡ true
-copied c = sym c.before.is_mapped-2.ensures ∙ not-false c.before.is_mapped-2.result c.if-not-is_mapped-2.false-raw
+copied c = sym c.is_mapped-2.ensures ∙ not-false c.is_mapped-2.result c.if-not-is_mapped-2.false-raw
 
 -- behind the rights of both
 abbrev untested : tie.Else-rights_at → tie.Else-not-is_mapped-2
@@ -43,7 +43,7 @@ decided : (c : tie.Else-rights_at) → let s = behind_rights c in same_in s ≡ 
 decided c =
     let a = (behind_rights c).args in
     bytes-decide a.present a.snapshot (same_in (behind_rights c)) (mapped (untested c).before.before) (copied (untested c))
-    (sym c.before.before.rights_at.ensures ∙ c.if-rights_at.false ∙ c.before.rights_at-2.ensures)
+    (sym c.rights_at.ensures ∙ c.if-rights_at.false ∙ c.rights_at-2.ensures)
 
 abbrev behind_passed : tie.Else-is_committed-front → tie.Start
 behind_passed c = behind_rights c.before.before
@@ -65,7 +65,7 @@ returns c =
     let here = c.before.before in
     let s = here.before.before.before in
     ap not c.is_mapped-then-not-is_mapped.ensures
-    ∙ absent s.args.present s.args.snapshot (same_in s) (sym here.is_mapped.ensures ∙ not-true here.is_mapped.result c.before.if-not-is_mapped.true-raw)
+    ∙ absent s.args.present s.args.snapshot (same_in s) (sym here.is_mapped.ensures ∙ not-true here.is_mapped.result c.if-not-is_mapped.true-raw)
 
 is-mapped-requires-3 : tie.Need-is_mapped-requires-2
 is-mapped-requires-3 c κs = search rules
@@ -73,7 +73,7 @@ is-mapped-requires-3 c κs = search rules
 returns-2 : tie.Need-returns-then-not-is_mapped-2
 returns-2 c =
     let s = behind_mapped c.before.before in
-    let there = c.before.is_mapped-2 in
+    let there = c.is_mapped-2 in
     lost s.args.present s.args.snapshot (same_in s) (mapped c.before.before) (sym there.ensures ∙ not-true there.result c.if-not-is_mapped-2.true-raw)
 
 rights-at-requires : tie.Need-rights_at-requires
@@ -87,7 +87,7 @@ returns-3 c =
     let mappings = c.before.before.before in
     let s = behind_copied mappings in
     other-rights s.args.present s.args.snapshot (same_in s) (mapped mappings.before.before) (copied mappings)
-    (λ e. c.if-rights_at.true (c.before.before.rights_at.ensures ∙ e ∙ sym c.before.rights_at-2.ensures))
+    (λ e. c.if-rights_at.true (c.rights_at.ensures ∙ e ∙ sym c.rights_at-2.ensures))
 
 is-committed-requires : tie.Need-is_committed-requires
 is-committed-requires c κs = search rules
@@ -97,7 +97,7 @@ returns-4 c =
     let s = behind_rights c.before.before in
     let a = s.args in
     sym (passed_over a.image.now a.pool.now a.present a.snapshot a.front a.back
-    (rw c.before.is_committed.ensures at c.if-is_committed-front.true) s.requires.present_value)
+    (rw c.is_committed.ensures at c.if-is_committed-front.true) s.requires.1.1.1.1.1.1)
     ∙ decided c.before.before
 
 backing-at-requires : tie.Need-backing_at-requires
@@ -109,18 +109,18 @@ backing-at-requires-2 c κs = search rules
 same-pages-requires : tie.Need-same_pages-requires
 same-pages-requires c κs =
     let s = behind_passed (backings c) in
-    let mine = c.before.backing_at.ensures in
+    let mine = c.backing_at.ensures in
     let theirs = c.backing_at-2.ensures in
-    (s.requires.front_bound, (s.requires.front_in_bounds, (rw mine s.requires.present_in_bounds, (s.requires.back_bound, (s.requires.back_in_bounds, rw theirs s.requires.snapshot_in_bounds)))))
+    (s.requires.0, (s.requires.1.0, (rw mine s.requires.1.1.1.1.0, (s.requires.1.1.0, (s.requires.1.1.1.0, rw theirs s.requires.1.1.1.1.1.0)))))
 
 returns-5 : tie.Need-returns
 returns-5 c =
     let committed = backings c.before in
     let a = (behind_passed committed).args in
-    let mine = c.before.before.backing_at.ensures in
-    let theirs = c.before.backing_at-2.ensures in
+    let mine = c.backing_at.ensures in
+    let theirs = c.backing_at-2.ensures in
     let compared = looked-at a.image.now a.pool.now a.present a.snapshot a.front a.back
-    (rw c.before.before.before.before.is_committed.ensures at c.before.before.before.if-is_committed-front.false) in
+    (rw c.is_committed.ensures at c.if-is_committed-front.false) in
     (rw (mine, theirs) at c.same_pages.ensures) ∙ compared ∙ decided committed.before.before
 
 pub agrees_spec : {M : Type 1} → statement M

@@ -51,7 +51,7 @@ same-length-3 c = search rules
 
 returns : tie.Need-returns
 returns c =
-    let put = c.before.before.write_archive in
+    let put = c.write_archive in
     let playing = played c.before.before in
     let left = playing.play_input-machine in
     let starting = started (accepting playing.before) in

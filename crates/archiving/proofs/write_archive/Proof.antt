@@ -46,13 +46,13 @@ abbrev behind_no : tie.Then-not-sound → tie.Start
 behind_no c = c.before.before.before.before.before.before
 
 fails : (c : tie.Then-not-sound) → let start = behind_no c in soundb (image_in start) (world_in start) ≡ false
-fails c = sym c.before.sound.ensures ∙ not-true c.before.sound.result c.if-not-sound.true-raw
+fails c = sym c.sound.ensures ∙ not-true c.sound.result c.if-not-sound.true-raw
 
 abbrev behind_state : tie.Else-not-sound → tie.Start
 behind_state c = c.before.before.before.before.before.before
 
 passes : (c : tie.Else-not-sound) → soundb (image_in (behind_state c)) (world_in (behind_state c)) ≡ true
-passes c = sym c.before.sound.ensures ∙ not-false c.before.sound.result c.if-not-sound.false-raw
+passes c = sym c.sound.ensures ∙ not-false c.sound.result c.if-not-sound.false-raw
 
 abbrev behind_row : tie.Else-k-ge-SANDBOXES → tie.Start
 behind_row c = behind_state c.before
@@ -119,7 +119,7 @@ returns-5 c =
     let taken = c.before.before.before.before.before in
     let row = behind_open (behind_taken taken) in
     let start = behind_row row in
-    let fitting = c.before.before.put_fitting in
+    let fitting = c.put_fitting in
     filed (image_in start) (world_in start) start.args.sandbox (out_in start) (passes row.before) (in-row row) (is_open (behind_taken taken))
     (has-snapshot taken) fitting.result fitting.new.0 _
     (rw (same row) (roll-here (image_in start) (world_in start) start.args.sandbox (passes row.before) (in-row row))) fitting.ensures

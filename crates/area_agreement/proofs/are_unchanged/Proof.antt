@@ -50,15 +50,15 @@ loop-less c = omega arith
 loop-again : tie.Need-loop-k-preserved invariant-loop decreases-loop
 loop-again c =
     let turn = c.before.before.before in
-    let l = turn.before.loop-k in
-    let a = turn.before.before.args in
+    let l = turn.loop-k in
+    let a = turn.args in
     (omega arith, rw (c.stays-same.ensures, l.invariant.1) (sym (every-last (of a.present a.snapshot) l.k)))
 
 returns : tie.Need-returns invariant-loop decreases-loop
 unfolding unchanged
 returns c =
-    let a = c.before.before.args in
-    let l = c.before.loop-k in
+    let a = c.args in
+    let l = c.loop-k in
     l.invariant.1 ∙ ap (every (of a.present a.snapshot) 0) (omega (arith, c.loop-k-test.false, l.invariant.0))
 
 pub are_unchanged_spec : {M : Type 1} → statement M

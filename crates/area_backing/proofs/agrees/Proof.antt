@@ -35,18 +35,18 @@ add-result-2 c = search rules
 
 returns : tie.Need-returns-in-Anonymous
 returns c = λ page x y.
-    let a = c.before.before.before.args in
-    c.is_anonymous.ensures ∙ agree-none a.mine a.other (page - a.first) (page - a.start) c.before.enum_told-1.given.1
+    let a = c.args in
+    c.is_anonymous.ensures ∙ agree-none a.mine a.other (page - a.first) (page - a.start) c.in-Anonymous.is
 
 returns-2 : tie.Need-returns-in-Anonymous-other
-returns-2 c = λ page x y. agree-not _ _ _ _ _ c.before.before.before.mine-1.given.1 c.enum_told-in-Anonymous-other-1.given.1
+returns-2 c = λ page x y. agree-not _ _ _ _ _ c.in-Image.is c.in-Anonymous-other.is
 
 -- the way back from where a fact is needed to where it was learned
 abbrev at_other : tie.After-struct_known-in-Image-other-1 → tie.In-Image-other-2
-at_other c = c.before.before.before
+at_other c = c.before.before
 
 abbrev at-mine : tie.After-struct_known-in-Image-other-1 → tie.In-Image-2
-at-mine c = c.before.before.before.before.before.before
+at-mine c = c.before.before.before
 
 returns-3 : tie.Need-returns-in-Image-other
 returns-3 c = λ page x y. agree-both _ _ _ _ _ _ page (at-mine c).mine-1.given.1 (at_other c).other-1.given.1 x y

@@ -25,7 +25,7 @@ reached-requires c κs = search rules
 returns-2 : tie.Need-returns
 returns-2 c =
     let p = c.before.before.before in
-    let a = p.before.before.args.area in
+    let a = p.args.area in
     rw (not-false a.committed p.if-not-area.false) (ap (leb (a.first.0 + a.pages)) c.reached.ensures)
 
 pub lies_in_spec : {M : Type 1} → statement M

@@ -16,10 +16,10 @@ add-end : tie.Need-overflow_add-end
 add-end c = search rules
 
 returns : tie.Need-returns-then-page-start
-returns c = let a = c.before.before.before.args in reach-below a.area a.copy a.page c.if-page-start.true
+returns c = let a = c.args in reach-below a.area a.copy a.page c.if-page-start.true
 
 returns-2 : tie.Need-returns-then-end-page
-returns-2 c = let a = c.before.before.before.before.args in reach-past a.area a.copy a.page c.if-end-page.true
+returns-2 c = let a = c.args in reach-past a.area a.copy a.page c.if-end-page.true
 
 agrees-requires : tie.Need-agrees-requires
 agrees-requires c κs = search rules
@@ -33,16 +33,16 @@ returns-3 c =
     let p = c.before.before in
     let s = start-of-else2 p in
     let a = s.args in
-    reach-not a.area a.copy a.page p.before.if-page-start.false p.if-end-page.false
-    (sym (c.before.agrees.ensures a.page s.requires p.before.if-page-start.false) ∙ not-true _ c.if-not-agrees.true-raw)
+    reach-not a.area a.copy a.page p.if-page-start.false p.if-end-page.false
+    (sym (c.agrees.ensures a.page s.requires p.if-page-start.false) ∙ not-true _ c.if-not-agrees.true-raw)
 
 returns-4 : tie.Need-returns
 returns-4 c =
     let p = c.before.before in
     let s = start-of-else2 p in
     let a = s.args in
-    reach-end a.area a.copy a.page p.before.if-page-start.false p.if-end-page.false
-    (sym (c.before.agrees.ensures a.page s.requires p.before.if-page-start.false) ∙ not-false _ c.if-not-agrees.false-raw)
+    reach-end a.area a.copy a.page p.if-page-start.false p.if-end-page.false
+    (sym (c.agrees.ensures a.page s.requires p.if-page-start.false) ∙ not-false _ c.if-not-agrees.false-raw)
 
 pub reached_spec : {M : Type 1} → statement M
 reached_spec =

@@ -10,13 +10,13 @@ mapped-in-requires c κs = c.requires
 
 returns : tie.Need-returns-then-mapped
 returns c =
-    let a = c.before.before.args in
-    rw (c.before.mapped_in-pages.ensures, c.if-mapped.true) (all-counted true (slots a.areas) a.first.0 a.n)
+    let a = c.args in
+    rw (c.mapped_in-pages.ensures, c.if-mapped.true) (all-counted true (slots a.areas) a.first.0 a.n)
 
 returns-2 : tie.Need-returns-else-mapped
 returns-2 c =
-    let a = c.before.before.args in
-    rw (c.before.mapped_in-pages.ensures, c.if-mapped.false) (all-counted false (slots a.areas) a.first.0 a.n)
+    let a = c.args in
+    rw (c.mapped_in-pages.ensures, c.if-mapped.false) (all-counted false (slots a.areas) a.first.0 a.n)
 
 pub all_are_spec : {M : Type 1} → statement M
 all_are_spec = tie.close (tie.spec mapped-in-requires returns returns-2)

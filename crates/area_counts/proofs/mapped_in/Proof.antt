@@ -30,10 +30,10 @@ next c =
     let a = s.args in
     let l = (at-loop c).loop-k in
     subst⁻¹ (λ (x : ℕ). Covered a.areas a.first.0 a.n (l.k + 1) (l.pages + x)) c.overlap-pages.ensures
-    (covered_next a.areas s.requires.formed a.first.0 a.n s.requires.n_bound l.k l.pages c.before.before.loop-k-test.true l.invariant.1)
+    (covered_next a.areas s.requires.0 a.first.0 a.n s.requires.1 l.k l.pages c.loop-k-test.true l.invariant.1)
 
 loop-holds : tie.Need-loop-k-init invariant-loop decreases-loop
-loop-holds c = (omega arith, covered_start c.args.areas c.requires.formed c.args.first.0 c.args.n c.requires.n_bound)
+loop-holds c = (omega arith, covered_start c.args.areas c.requires.0 c.args.first.0 c.args.n c.requires.1)
 
 cast-area : tie.Need-overflow_cast-area invariant-loop decreases-loop
 cast-area c = omega arith
@@ -42,17 +42,17 @@ mul-area : tie.Need-offset_bounds-areas-k invariant-loop decreases-loop
 mul-area c = omega arith
 
 element-copy-out-area : tie.Need-bounds-areas-k invariant-loop decreases-loop
-element-copy-out-area c = omega (arith, c.before.before.requires.formed.formed.few)
+element-copy-out-area c = omega (arith, c.requires.0.formed.few)
 
 overlap-requires : tie.Need-overlap-pages-requires invariant-loop decreases-loop
 overlap-requires c κs =
     let s = c.before.before.before in
-    (end-small s.args.areas s.requires.formed c.before.before.loop-k.k, s.requires.n_bound)
+    (end-small s.args.areas s.requires.0 c.loop-k.k, s.requires.1)
 
 add-pages : tie.Need-overflow_add-pages invariant-loop decreases-loop
 add-pages c =
     let s = at-start c in
-    record { fits = omega (arith, covered-small s.args.areas s.requires.formed s.args.first.0 s.args.n s.requires.n_bound _ _ (next c)) }
+    record { fits = omega (arith, covered-small s.args.areas s.requires.0 s.args.first.0 s.args.n s.requires.1 _ _ (next c)) }
 
 add-k : tie.Need-overflow_step-k invariant-loop decreases-loop
 add-k c = omega arith
@@ -66,8 +66,8 @@ loop-again c = (omega arith, next c)
 returns : tie.Need-returns invariant-loop decreases-loop
 returns c =
     let s = c.before.before in
-    let l = c.before.loop-k in
-    covered-all s.args.areas s.requires.formed s.args.first.0 s.args.n s.requires.n_bound l.k l.pages c.loop-k-test.false l.invariant.1
+    let l = c.loop-k in
+    covered-all s.args.areas s.requires.0 s.args.first.0 s.args.n s.requires.1 l.k l.pages c.loop-k-test.false l.invariant.1
 
 pub mapped_in_spec : {M : Type 1} → statement M
 mapped_in_spec =

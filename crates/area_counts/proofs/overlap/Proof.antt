@@ -20,11 +20,11 @@ clamped-requires-2 c κs = search rules
 
 sub-result : tie.Need-overflow_sub-result
 sub-result c =
-    let a = c.before.before.before.before.args in
+    let a = c.args in
     omega (
       arith,
       c.clamped-2.ensures,
-      c.before.clamped.ensures,
+      c.clamped.ensures,
       clamped-le a.first.0 (a.first.0 + a.n) (omega arith) a.area.first.0 (a.area.first.0 + a.area.pages) (omega arith),
     )
 

@@ -60,7 +60,7 @@ loop-again c = (omega arith, next c)
 returns : tie.Need-returns invariant-loop decreases-loop
 returns c =
     let s = c.before.before in
-    let l = c.before.loop-k in
+    let l = c.loop-k in
     counted-all s.args.areas s.requires s.args.committed l.k l.n c.loop-k-test.false l.invariant.1
 
 pub pages_spec : {M : Type 1} → statement M

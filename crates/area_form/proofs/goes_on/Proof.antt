@@ -12,7 +12,7 @@ goes-on-requires : tie.Need-goes_on-requires
 goes-on-requires c κs = search rules
 
 returns : tie.Need-returns
-returns c = let a = c.before.before.before.args in c.goes_on.ensures ∙ ap (goes_on a.area a.other.first.0) c.before.attributes.ensures
+returns c = let a = c.args in c.goes_on.ensures ∙ ap (goes_on a.area a.other.first.0) c.attributes.ensures
 
 pub goes_on_spec : {M : Type 1} → statement M
 goes_on_spec = tie.close (tie.spec attributes-requires goes-on-requires returns)

@@ -5,10 +5,10 @@ use Rattle.area_form.proofs.images_exist.Statement.{statement}
 use Rattle.area_form.proofs.images_exist.Tie as tie
 
 enum_told : tie.Need-enum_told-1
-enum_told c = c.in-Anonymous.keys1
+enum_told c = c.in-Anonymous-1.keys1
 
 enum-known-backing : tie.Need-enum_known-backing
-enum-known-backing c = c.in-Image.keys2
+enum-known-backing c = c.in-Image-1.keys2
 
 cast-result : tie.Need-overflow_cast-result
 cast-result c = omega arith
@@ -20,7 +20,7 @@ returns : tie.Need-returns-in-Anonymous
 returns c = search rules
 
 returns-2 : tie.Need-returns-in-Image
-returns-2 c = rw c.before.before.backing-1.given.1
+returns-2 c = rw c.in-Image.is
 
 pub images_exist_spec : {M : Type 1} → statement M
 images_exist_spec =

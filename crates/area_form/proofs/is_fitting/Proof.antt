@@ -13,7 +13,7 @@ cast-result : tie.Need-overflow_cast-result
 cast-result c = search rules
 
 returns : tie.Need-returns
-returns c = let a = c.before.before.args in ap (λ (x : Bool). x && leb a.end a.area.first.0) c.before.is_proper.ensures
+returns c = let a = c.args in ap (λ (x : Bool). x && leb a.end a.area.first.0) c.is_proper.ensures
 
 pub is_fitting_spec : {M : Type 1} → statement M
 is_fitting_spec = tie.close (tie.spec is-proper-requires cast-result returns)

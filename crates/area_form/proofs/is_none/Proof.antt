@@ -28,7 +28,7 @@ returns : tie.Need-returns
 unfolding is_none
 returns c =
     let a = (at-start c).args.area in
-    (λ i. ((eqb a.first.0 0 && eqb a.pages 0) && (eqb a.rights 0 && c.before.is_anonymous.ensures i)) && not a.committed)
+    (λ i. ((eqb a.first.0 0 && eqb a.pages 0) && (eqb a.rights 0 && c.is_anonymous.ensures i)) && not a.committed)
     ∙ none-order (eqb a.first.0 0) (eqb a.pages 0) (eqb a.rights 0) (not a.committed) (is_anonymous a.backing)
 
 pub is_none_spec : {M : Type 1} → statement M

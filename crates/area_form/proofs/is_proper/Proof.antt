@@ -32,7 +32,7 @@ add-inside c = omega arith
 returns : tie.Need-returns
 unfolding proper
 returns c =
-    let a = (at-rights-ok c).before.args.area in
+    let a = (at-rights-ok c).args.area in
     let rights = (at-rights-ok c).rights_ok.ensures in
     let image = (at-images-exist c).images_exist.ensures in
     λ i. not (eqb a.pages 0) && (leb (a.first.0 + a.pages) 64 && (rights i && image i))

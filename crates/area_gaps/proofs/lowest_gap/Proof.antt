@@ -26,24 +26,24 @@ mul-area : tie.Need-offset_bounds-areas-k invariant-loop decreases-loop
 mul-area c = omega arith
 
 element-copy-out-area : tie.Need-bounds-areas-k invariant-loop decreases-loop
-element-copy-out-area c = omega (arith, c.before.before.requires.formed.few)
+element-copy-out-area c = omega (arith, c.requires.formed.few)
 
 sub-if1 : tie.Need-overflow_sub-area invariant-loop decreases-loop
 sub-if1 c =
-    let l = c.before.before.before.loop-k in
-    l.invariant.1.there.ahead l.k (omega arith) c.before.before.loop-k-test.true
+    let l = c.loop-k in
+    l.invariant.1.there.ahead l.k (omega arith) c.loop-k-test.true
 
 returns : tie.Need-returns-then-n-area invariant-loop decreases-loop
 returns c =
     let turn = c.before.before.before in
-    let l = turn.before.loop-k in
+    let l = turn.loop-k in
     let s = turn.before.before in
     gap-before s.args.areas s.requires s.args.n l.k l.page l.invariant.1 turn.loop-k-test.true c.if-n-area.true
 
 add-page : tie.Need-overflow_add-page invariant-loop decreases-loop
 add-page c =
     let s = (at-area c).before.before in
-    record { fits = omega (arith, end-small s.args.areas s.requires (at-area c).before.loop-k.k) }
+    record { fits = omega (arith, end-small s.args.areas s.requires (at-area c).loop-k.k) }
 
 add-k : tie.Need-overflow_step-k invariant-loop decreases-loop
 add-k c = omega arith
@@ -54,24 +54,24 @@ loop-less c = omega arith
 loop-again : tie.Need-loop-k-preserved invariant-loop decreases-loop
 loop-again c =
     let turn = at-area c in
-    let l = turn.before.loop-k in
+    let l = turn.loop-k in
     let s = turn.before.before in
-    (omega arith, gap-behind s.args.areas s.requires s.args.n l.k l.page l.invariant.1 turn.loop-k-test.taken c.before.if-n-area.false)
+    (omega arith, gap-behind s.args.areas s.requires s.args.n l.k l.page l.invariant.1 turn.loop-k-test.taken c.if-n-area.false)
 
 sub-if2 : tie.Need-overflow_sub-page invariant-loop decreases-loop
-sub-if2 c = c.before.loop-k.invariant.1.there.small
+sub-if2 c = c.loop-k.invariant.1.there.small
 
 returns-2 : tie.Need-returns-then-n-page invariant-loop decreases-loop
 returns-2 c =
-    let l = c.before.before.loop-k in
+    let l = c.loop-k in
     let s = c.before.before.before in
-    gap-last s.args.areas s.requires s.args.n l.k l.page l.invariant.1 c.before.loop-k-test.false c.if-n-page.true
+    gap-last s.args.areas s.requires s.args.n l.k l.page l.invariant.1 c.loop-k-test.false c.if-n-page.true
 
 returns-3 : tie.Need-returns invariant-loop decreases-loop
 returns-3 c =
-    let l = c.before.before.loop-k in
+    let l = c.loop-k in
     let s = c.before.before.before in
-    gap-none s.args.areas s.requires s.args.n l.k l.page l.invariant.1 c.before.loop-k-test.false c.if-n-page.false
+    gap-none s.args.areas s.requires s.args.n l.k l.page l.invariant.1 c.loop-k-test.false c.if-n-page.false
 
 pub lowest_gap_spec : {M : Type 1} → statement M
 lowest_gap_spec =

@@ -20,7 +20,7 @@ sub-page-on : tie.Need-overflow_sub-first
 sub-page-on c = search rules
 
 page-on-requires : tie.Need-page_on-requires
-page-on-requires c κs = rw c.attributes.ensures (omega (arith, c.before.before.before.most-first.ensures))
+page-on-requires c κs = rw c.attributes.ensures (omega (arith, c.most-first.ensures))
 
 backing-at-requires : tie.Need-backing_at-backing-requires
 backing-at-requires c κs = search rules
@@ -30,13 +30,13 @@ less-requires c κs = search rules
 
 returns : tie.Need-returns
 returns c =
-    let least = c.before.before.before.before.least-end in
-    let most = c.before.before.before.before.before.before.most-first in
+    let least = c.least-end in
+    let most = c.most-first in
     rw (
       c.less.ensures,
-      c.before.backing_at-backing.ensures,
-      c.before.before.page_on.ensures,
-      c.before.before.before.attributes.ensures,
+      c.backing_at-backing.ensures,
+      c.page_on.ensures,
+      c.attributes.ensures,
       least.ensures,
       most.ensures,
     )

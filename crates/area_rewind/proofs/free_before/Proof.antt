@@ -10,7 +10,7 @@ use Rattle.area_rewind.proofs.free_before.Tie as tie
 returns : tie.Need-returns-then-first-end
 unfolding free_to
 returns c =
-    let a = c.before.before.before.before.before.before.args in
+    let a = c.args in
     let none : a.end - a.done.page.0 ≡ 0 = omega (arith, c.if-first-end.true) in
     rw none
 
@@ -20,7 +20,7 @@ sub-free-range c = search rules
 free-range-requires : tie.Need-free_range-requires
 free-range-requires c κs =
     let s = c.before.before.before.before.before.before.before.before.before in
-    (s.requires.s_bound, (omega (arith, s.requires.page_le_end, s.requires.end_bound), s.requires.ranged))
+    (s.requires.0, (omega (arith, s.requires.1.0, s.requires.1.1.0), s.requires.1.1.1))
 
 same_length : tie.Need-shape_of-pool
 same_length c = search rules

@@ -49,14 +49,14 @@ between c = let f = (placed c).free_before-held in kept f.result f.last.1.0 f.la
 
 returns : tie.Need-returns-then-not-area
 returns c =
-    let a = c.before.before.before.before.before.args in
+    let a = c.args in
     let e : a.area.committed ≡ false = not-true _ c.if-not-area.true in
     (rw e, (rw e, rw e))
 
 free-before-requires : tie.Need-free_before-held-requires
 free-before-requires c κs =
     let s = tested c.before.before.before in
-    (s.requires.s_bound, (omega (arith, s.requires.page_le_first, s.requires.pages_bound), (omega (arith, s.requires.pages_bound), s.requires.ranged)))
+    (s.requires.0, (omega (arith, s.requires.1.0, s.requires.1.1.0), (omega (arith, s.requires.1.1.0), s.requires.1.1.1.1.0)))
 
 front-index-requires : tie.Need-front_index-at-requires
 front-index-requires c κs = search rules
@@ -68,13 +68,13 @@ restore-pages-requires c κs =
     let a = s.args in
     let st : Store = kept a.done.held a.pool.now a.table.now in
     let n : ℕ = a.area.first.0 - a.done.page.0 in
-    let k = free_to-kept-as 256 (front_of a.s a.done.page.0) st (between at) n (placed at).free_before-held.ensures s.requires.ranged in (
-      omega (arith, at.front-index.ensures, s.requires.s_bound, s.requires.pages_bound),
-      (k.ranged, (s.requires.backed, omega (arith, s.requires.pages_bound))),
+    let k = free_to-kept-as 256 (front_of a.s a.done.page.0) st (between at) n (placed at).free_before-held.ensures s.requires.1.1.1.1.0 in (
+      omega (arith, at.front-index.ensures, s.requires.0, s.requires.1.1.0),
+      (k.ranged, (s.requires.1.1.1.1.1.0, omega (arith, s.requires.1.1.0))),
     )
 
 add-t22 : tie.Need-overflow_add-result
-add-t22 c = let s = behind c.before.before.before.before.before.before.before in omega (arith, s.requires.pages_bound)
+add-t22 c = let s = behind c.before.before.before.before.before.before.before in omega (arith, s.requires.1.1.0)
 
 add-t24 : tie.Need-overflow_add-result-2
 add-t24 c =
@@ -83,7 +83,7 @@ add-t24 c =
     let s = behind at in
     let a = s.args in
     let few = changed-few a.image.now at.front-index.result (λ i. true) (advance a.area.backing) (between at) a.area.pages in
-    omega (arith, (restored.restore_pages-changed.ensures (placed at).free_before-held.result).told, few, s.requires.page_le_first, s.requires.pages_bound, s.requires.changed_le_page)
+    omega (arith, (restored.restore_pages-changed.ensures (placed at).free_before-held.result).told, few, s.requires.1.0, s.requires.1.1.0, s.requires.1.1.1.1.1.1)
 
 same_length : tie.Need-shape_of-pool
 same_length c = search rules

@@ -37,7 +37,7 @@ abbrev start-of-loop : tie.At-loop-k invariant-loop decreases-loop invariant-loo
 start-of-loop c = c.before.before
 
 abbrev few : (c : tie.At-loop-k invariant-loop decreases-loop invariant-loop2 decreases-loop2) → (start-of-loop c).args.areas.count ≤ 8
-few c = c.before.if-areas-gt-MOST.false
+few c = c.if-areas-gt-MOST.false
 
 abbrev at_turn : tie.After-is_fitting invariant-loop decreases-loop invariant-loop2 decreases-loop2 → tie.In-loop-k invariant-loop decreases-loop invariant-loop2 decreases-loop2
 at_turn c = c.before.before
@@ -78,7 +78,7 @@ cast-if1 : tie.Need-overflow_cast-areas invariant-loop decreases-loop invariant-
 cast-if1 c = search rules
 
 returns : tie.Need-returns-then-areas-gt-MOST invariant-loop decreases-loop invariant-loop2 decreases-loop2
-returns c = let a = c.before.args in (many a.images a.areas (eight c.before) c.if-areas-gt-MOST.true, eight c.before)
+returns c = let a = c.args in (many a.images a.areas (eight c.before) c.if-areas-gt-MOST.true, eight c.before)
 
 cast-count : tie.Need-overflow_cast-count invariant-loop decreases-loop invariant-loop2 decreases-loop2
 cast-count c = search rules
@@ -151,7 +151,7 @@ in_place c =
     let l = (at-loop n).loop-k in
     let start : ℕ = (get_or a.areas.list l.k none).first.0 in
     holds a.images a.areas l.k l.end (at_turn n).loop-k-test.true l.invariant.1 l.invariant.2 _ n.is_fitting.ensures
-    (not-false _ c.before.before.if-not-is_fitting.false-raw)
+    (not-false _ c.if-not-is_fitting.false-raw)
     (λ t. ⊎_elim (λ w. sym w.2.ensures ∙ w.3.left) (λ w. never (eqb start l.end && not (eqb l.k 0)) t w.left) c.if-start-end.branch)
 
 loop-again : tie.Need-loop-k-preserved invariant-loop decreases-loop invariant-loop2 decreases-loop2
@@ -197,7 +197,7 @@ returns-4 : tie.Need-returns-then-not-is_none invariant-loop decreases-loop inva
 returns-4 c =
     let m = at-loop2 c.before in
     let s = start-of-loop (first-loop m) in (
-      fails s.args.images s.args.areas (eight s) (few (first-loop m)) m.loop-k-2.k c.before.before.before.loop-k-2-test.true
+      fails s.args.images s.args.areas (eight s) (few (first-loop m)) m.loop-k-2.k c.loop-k-2-test.true
           m.loop-k-2.invariant.2 _ (in-place2 c.before) (not-true _ c.if-not-is_none.true-raw),
       eight s,
     )
@@ -212,7 +212,7 @@ loop2-again : tie.Need-loop-k-2-preserved invariant-loop decreases-loop invarian
 loop2-again c =
     let m = at-loop2 c.before in
     let a = (start-of-loop (first-loop m)).args in
-    let low = c.before.before.before.loop-k-2-test.true in (
+    let low = c.loop-k-2-test.true in (
       omega (arith, m.loop-k-2.invariant.0),
       omega (arith, low),
       rest-next a.images a.areas m.loop-k-2.k low m.loop-k-2.invariant.2 _ (in-place2 c.before) (not-false _ c.if-not-is_none.false-raw),

@@ -63,11 +63,11 @@ shared-slice-read-result c = search rules
 
 returns : tie.Need-returns
 returns c =
-    let fourth = c.before.wide-4 in
-    let third = c.before.before.before.wide-3 in
-    let second = c.before.before.before.before.before.wide-2 in
-    let first = c.before.before.before.before.before.before.before.wide in
-    let a = c.before.before.before.before.before.before.before.before.before.before.args in
+    let fourth = c.wide-4 in
+    let third = c.wide-3 in
+    let second = c.wide-2 in
+    let first = c.wide in
+    let a = c.args in
     five-blanks a.text.now a.at first.result second.result third.result fourth.result first.ensures second.ensures third.ensures
     fourth.ensures
 

@@ -17,7 +17,7 @@ read-byte-requires : tie.Need-read_byte-requires
 read-byte-requires c κs = search rules
 
 returns : tie.Need-returns
-returns c h = c.read_byte.ensures h ∙ rw (c.before.before.before.page_of-number.ensures, c.before.offset_of.ensures)
+returns c h = c.read_byte.ensures h ∙ rw (c.page_of-number.ensures, c.offset_of.ensures)
 
 pub read_spec : {M : Type 1} → statement M
 read_spec = tie.close (tie.spec page-of-requires cast-read-byte offset-of-requires read-byte-requires returns)

@@ -47,7 +47,7 @@ cast-store-byte c = search rules
 store-byte-requires : tie.Need-store_byte-requires
 store-byte-requires c κs =
     let s = behind (fronted c) in
-    (s.requires.sandbox_bound, (rw (fronted c).before.page_of-page.ensures (page-small s.args.q.p1 s.requires.p1_bound), s.requires.ranged))
+    (s.requires.0, (rw (fronted c).page_of-page.ensures (page-small s.args.q.p1 s.requires.1.0), s.requires.1.1.1))
 
 same_length : tie.Need-shape_of-pool
 same_length c = search rules
@@ -59,11 +59,11 @@ returns-2 c =
     let s = behind found in
     record {
       front = λ t z.
-          stored.before.before.before.before.if-front-eq0.false
-          (found.front.ensures ∙ ap (λ (i : ℕ). get_or s.args.table.now (front_of s.args.q.sandbox i) 0) found.before.page_of-page.ensures ∙ z);
+          stored.if-front-eq0.false
+          (found.front.ensures ∙ ap (λ (i : ℕ). get_or s.args.table.now (front_of s.args.q.sandbox i) 0) found.page_of-page.ensures ∙ z);
       byte = λ t h.
           put-at s.args.q (kept h s.args.pool.now s.args.table.now) _ _ _
-          found.before.page_of-page.ensures stored.before.before.offset_of.ensures (stored.IsStore-byte.ensures h);
+          found.page_of-page.ensures stored.offset_of.ensures (stored.IsStore-byte.ensures h);
       none = λ t. absurd (false≢true (sym t));
     }
 

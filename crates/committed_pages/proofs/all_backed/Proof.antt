@@ -59,7 +59,7 @@ abbrev start-of-test : tie.After-lies_in invariant-loop decreases-loop → tie.S
 start-of-test c = (at-loop c).before
 
 is-backed-requires : tie.Need-is_backed-requires invariant-loop decreases-loop
-is-backed-requires c κs = (start-of-test c.before).requires.formed_2
+is-backed-requires c κs = (start-of-test c.before).requires.1
 
 returns : tie.Need-returns-then-not-is_backed invariant-loop decreases-loop
 returns c =
@@ -67,9 +67,9 @@ returns c =
     let s = start-of-test n in
     let a = s.args in
     let m = at-loop n in
-    sym (sym (backed-areas a.present s.requires.formed a.snapshot) ∙ m.loop-k.invariant.1
+    sym (sym (backed-areas a.present s.requires.0 a.snapshot) ∙ m.loop-k.invariant.1
     ∙ every-stop (of a.present a.snapshot) a.present.count m.loop-k.k (at_turn n).loop-k-test.true
-    (sym c.before.is_backed.ensures ∙ not-true _ c.if-not-is_backed.true-raw))
+    (sym c.is_backed.ensures ∙ not-true _ c.if-not-is_backed.true-raw))
 
 add-k : tie.Need-overflow_step-k invariant-loop decreases-loop
 add-k c = search rules
@@ -86,12 +86,12 @@ in-snapshot c =
     let a = s.args in
     let k = (at-loop c.before).loop-k.k in
     ⊎_elim (λ w. sym w.1.ensures ∙ not-false _ w.2.left)
-    (λ w. lies-passes a.snapshot s.requires.formed_2 (get_or a.present.list k none) k (sym c.before.lies_in.ensures ∙ not-false _ w.left)) c.if-not-lies_in.branch
+    (λ w. lies-passes a.snapshot s.requires.1 (get_or a.present.list k none) k (sym c.lies_in.ensures ∙ not-false _ w.left)) c.if-not-lies_in.branch
 
 loop-again : tie.Need-loop-k-preserved invariant-loop decreases-loop
 loop-again c =
     let m = at-loop c.before in
-    let a = m.before.args in
+    let a = m.args in
     let low = (at_turn c.before).loop-k-test.taken in
     (omega (arith, low), m.loop-k.invariant.1 ∙ every-next (of a.present a.snapshot) a.present.count m.loop-k.k low (in-snapshot c))
 
@@ -100,7 +100,7 @@ returns-2 c =
     let m = c.before in
     let s = m.before in
     let a = s.args in
-    sym (sym (backed-areas a.present s.requires.formed a.snapshot) ∙ m.loop-k.invariant.1 ∙ every-end (of a.present a.snapshot) a.present.count m.loop-k.k c.loop-k-test.false)
+    sym (sym (backed-areas a.present s.requires.0 a.snapshot) ∙ m.loop-k.invariant.1 ∙ every-end (of a.present a.snapshot) a.present.count m.loop-k.k c.loop-k-test.false)
 
 pub all_backed_spec : {M : Type 1} → statement M
 all_backed_spec =

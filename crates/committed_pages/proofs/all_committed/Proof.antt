@@ -45,7 +45,7 @@ returns c =
     let m = at-loop c.before in
     let s = m.before in
     sym (sym (committed-areas s.args.areas s.requires) ∙ m.loop-k.invariant.1
-    ∙ every-stop (marks s.args.areas) s.args.areas.count m.loop-k.k c.before.before.before.loop-k-test.true (not-true _ c.if-not-area.true))
+    ∙ every-stop (marks s.args.areas) s.args.areas.count m.loop-k.k c.loop-k-test.true (not-true _ c.if-not-area.true))
 
 add-k : tie.Need-overflow_step-k invariant-loop decreases-loop
 add-k c = search rules
@@ -56,8 +56,8 @@ loop-less c = search rules
 loop-again : tie.Need-loop-k-preserved invariant-loop decreases-loop
 loop-again c =
     let m = at-loop c.before in
-    let a = m.before.args.areas in
-    let low = c.before.before.before.loop-k-test.true in
+    let a = m.args.areas in
+    let low = c.loop-k-test.true in
     (omega (arith, low), m.loop-k.invariant.1 ∙ every-next (marks a) a.count m.loop-k.k low (not-false _ c.if-not-area.false))
 
 returns-2 : tie.Need-returns invariant-loop decreases-loop

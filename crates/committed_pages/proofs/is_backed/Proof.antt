@@ -16,7 +16,7 @@ abbrev decreases-loop : tie.decreases-loop-k
 decreases-loop area snapshot count page₀ k₀ page k = count - k
 
 returns : tie.Need-returns-then-not-area invariant-loop decreases-loop
-returns c = let a = c.before.before.args in uncommitted-passes a.area (slots a.snapshot) (not-true _ c.if-not-area.true)
+returns c = let a = c.args in uncommitted-passes a.area (slots a.snapshot) (not-true _ c.if-not-area.true)
 
 cast-count : tie.Need-overflow_cast-count invariant-loop decreases-loop
 cast-count c = search rules
@@ -25,7 +25,7 @@ cast-page : tie.Need-overflow_cast-page invariant-loop decreases-loop
 cast-page c = search rules
 
 loop-holds : tie.Need-loop-k-init invariant-loop decreases-loop
-loop-holds c = let a = c.before.before.before.args in (omega arith, come-start a.snapshot a.area)
+loop-holds c = let a = c.args in (omega arith, come-start a.snapshot a.area)
 
 mul-copy : tie.Need-offset_bounds-snapshot-k invariant-loop decreases-loop
 mul-copy c = search rules
@@ -34,7 +34,7 @@ element-copy-out-copy : tie.Need-bounds-snapshot-k invariant-loop decreases-loop
 element-copy-out-copy c = search rules
 
 reached-requires : tie.Need-reached-page-requires invariant-loop decreases-loop
-reached-requires c κs = c.before.before.loop-k.invariant.1.started
+reached-requires c κs = c.loop-k.invariant.1.started
 
 add-k : tie.Need-overflow_step-k invariant-loop decreases-loop
 add-k c = search rules
@@ -57,7 +57,7 @@ loop-again c =
     let s = start-of-loop (at-loop c) in
     let a = s.args in
     let l = (at-loop c).loop-k in
-    let low = c.before.before.loop-k-test.true in (
+    let low = c.loop-k-test.true in (
       omega (arith, low),
       subst⁻¹ (Come a.snapshot a.area (l.k + 1)) c.reached-page.ensures
           (come-next a.snapshot a.area s.requires l.k l.page low l.invariant.1),
@@ -81,7 +81,7 @@ returns-2 c =
     let s = start-of-loop m in
     let a = s.args in
     let l = m.loop-k in
-    let end : l.k ≡ a.snapshot.count = omega (arith, l.invariant.0, c.before.before.loop-k-test.false) in
+    let end : l.k ≡ a.snapshot.count = omega (arith, l.invariant.0, c.loop-k-test.false) in
     come-all a.snapshot a.area s.requires l.page (subst (λ (k : ℕ). Come a.snapshot a.area k l.page) end l.invariant.1)
     ∙ committed-is a.area (slots a.snapshot) (not-false _ (else1-of-loop m).if-not-area.left)
 

@@ -17,10 +17,10 @@ use Rattle.content.proofs.read.Tie as tie
 -- the present areas, and the page of the address
 near-present : (s : tie.Start) → Near s.args.b.present.list
 near-present s =
-    let ready = s.requires.ready in near (pages_in (length s.args.image.now)) s.args.b.present ready.sound.present ready.few
+    let ready = s.requires.1.1.1.0 in near (pages_in (length s.args.image.now)) s.args.b.present ready.sound.present ready.few
 
 small : (s : tie.Start) → s.args.q.p1 / 256 < 64
-small s = page-small s.args.q.p1 (s.requires.fit.read s.requires.code_value)
+small s = page-small s.args.q.p1 (s.requires.1.1.0.read s.requires.0)
 
 abbrev behind : tie.After-slot-slot → tie.Start
 behind c = c.before.before.before.before.before.before
@@ -57,8 +57,8 @@ read-byte-requires : tie.Need-read_byte-requires
 read-byte-requires c κs =
     let found = c.before.before in
     let s = behind found in
-    let there = backing-there s.args.image.now s.args.b.present s.requires.ready.sound.present (s.args.q.p1 / 256) in
-    (record { row = s.requires.sandbox_bound; inside = small s; backed = rw found.slot-slot.ensures there }, s.requires.ranged)
+    let there = backing-there s.args.image.now s.args.b.present s.requires.1.1.1.0.sound.present (s.args.q.p1 / 256) in
+    (record { row = s.requires.1.0; inside = small s; backed = rw found.slot-slot.ensures there }, s.requires.1.1.1.1)
 
 returns : tie.Need-returns
 returns c = λ h.

@@ -29,7 +29,7 @@ abbrev Row : Refusal → tie.Start → Bool
 Row row s = applies (view s) (request s) row
 
 past3 : (s : tie.Start) → Past NotOpen s
-past3 s = sound-call (view s) (request s) refl s.requires.q_value
+past3 s = sound-call (view s) (request s) refl s.requires.0
 
 -- ---- what each test says of its row: the state at the test, the rows passed, the row's outcome
 
@@ -91,7 +91,7 @@ returns c =
     let test = c.before.before in
     let s = at4 test in
     refused (view s) (request s) s.args.b NotOpen c.refuse.result c.refuse.ensures
-    (past3 s) (sym (row4 test) ∙ c.before.if-not_open.true)
+    (past3 s) (sym (row4 test) ∙ c.if-not_open.true)
 
 already-open-requires : tie.Need-already_open-requires
 already-open-requires c κs = search rules
@@ -104,7 +104,7 @@ returns-2 c =
     let test = c.before.before in
     let s = at5 test in
     refused (view s) (request s) s.args.b AlreadyOpen c.refuse-then-already_open.result c.refuse-then-already_open.ensures
-    (past4 test.before) (sym (row5 test) ∙ c.before.if-already_open.true)
+    (past4 test.before) (sym (row5 test) ∙ c.if-already_open.true)
 
 within-limits-requires : tie.Need-within_limits-requires
 within-limits-requires c κs = search rules
@@ -117,7 +117,7 @@ returns-3 c =
     let test = c.before.before in
     let s = at6 test in
     refused (view s) (request s) s.args.b OutsideLimits c.refuse-then-not-within_limits.result c.refuse-then-not-within_limits.ensures
-    (past5 test.before) (sym (row6 test) ∙ c.before.if-not-within_limits.true-raw)
+    (past5 test.before) (sym (row6 test) ∙ c.if-not-within_limits.true-raw)
 
 snapshot-taken-requires : tie.Need-snapshot_taken-requires
 snapshot-taken-requires c κs = search rules
@@ -130,7 +130,7 @@ returns-4 c =
     let test = c.before.before in
     let s = at7 test in
     refused (view s) (request s) s.args.b SnapshotTaken c.refuse-then-snapshot_taken.result c.refuse-then-snapshot_taken.ensures
-    (past6 test.before) (sym (row7 test) ∙ c.before.if-snapshot_taken.true)
+    (past6 test.before) (sym (row7 test) ∙ c.if-snapshot_taken.true)
 
 no-snapshot-requires : tie.Need-no_snapshot-requires
 no-snapshot-requires c κs = search rules
@@ -143,12 +143,12 @@ returns-5 c =
     let test = c.before.before in
     let s = at8 test in
     refused (view s) (request s) s.args.b NoSnapshot c.refuse-then-no_snapshot.result c.refuse-then-no_snapshot.ensures
-    (past7 test.before) (sym (row8 test) ∙ c.before.if-no_snapshot.true)
+    (past7 test.before) (sym (row8 test) ∙ c.if-no_snapshot.true)
 
 decide-pages-requires : tie.Need-decide_pages-requires
 decide-pages-requires c κs =
     let s = at8 c.before in
-    (none-before-9 (view s) (request s) (past8 c), s.requires.ready)
+    (none-before-9 (view s) (request s) (past8 c), s.requires.1.1)
 
 returns-6 : tie.Need-returns
 returns-6 c = c.decide_pages.ensures

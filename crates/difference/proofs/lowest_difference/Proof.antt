@@ -49,10 +49,10 @@ abbrev Start : Type 0
 Start = tie.Start invariant-loop decreases-loop
 
 formed : (s : Start) → Formed s.args.b.present
-formed s = settled (pages_in (length s.args.image.now)) s.args.b.present s.requires.ready.sound.present s.requires.ready.few
+formed s = settled (pages_in (length s.args.image.now)) s.args.b.present s.requires.1.0.sound.present s.requires.1.0.few
 
 formed-copy : (s : Start) → Formed s.args.b.snapshot
-formed-copy s = settled (pages_in (length s.args.image.now)) s.args.b.snapshot s.requires.ready.sound.snapshot s.requires.ready.few
+formed-copy s = settled (pages_in (length s.args.image.now)) s.args.b.snapshot s.requires.1.0.sound.snapshot s.requires.1.0.few
 
 -- what page i is tested by
 abbrev of_in : Start → ℕ → Bool
@@ -62,7 +62,7 @@ abbrev behind : tie.In-loop-i invariant-loop decreases-loop → Start
 behind c = c.before.before.before.before.before.before.before.before
 
 abbrev page_in : tie.In-loop-i invariant-loop decreases-loop → ℕ
-page_in c = c.before.loop-i.i
+page_in c = c.loop-i.i
 
 -- the turn in which a page was found, and where the page that is compared was
 abbrev turn_of : tie.After-slot-slot invariant-loop decreases-loop → tie.In-loop-i invariant-loop decreases-loop
@@ -82,7 +82,7 @@ entries : (s : Start) (i : ℕ) → let at : ℕ → ℕ = λ k. get_or s.args.t
     (at (front_of s.args.s i) ≤ 128) × (at (front_of s.args.s i) * 256 ≤ room) × (at (back_of s.args.s i) ≤ 128)
     × (at (back_of s.args.s i) * 256 ≤ room)
 entries s i =
-    let ranged = s.requires.ranged in
+    let ranged = s.requires.1.1 in
     (ranged.few (front_of s.args.s i), ranged.room (front_of s.args.s i), ranged.few (back_of s.args.s i), ranged.room (back_of s.args.s i))
 
 -- a page without a front, where every area stays
@@ -91,14 +91,14 @@ passed c =
     let turn = c.before.before in
     let s = behind turn in
     let i = page_in turn in
-    let all = turn.before.before.are_unchanged-same in
+    let all = turn.are_unchanged-same in
     let both = not-false _ c.if-not-same-front.false-raw in
     let still = sym all.ensures ∙ and_left all.result _ both in
-    let none = rw c.before.front-front.ensures at (and_right all.result _ both) in
+    let none = rw c.front-front.ensures at (and_right all.result _ both) in
     let entry : ℕ → ℕ = λ k. get_or s.args.table.now k 0 in
     stays-alike s.args.b.present s.args.b.snapshot (formed s) (formed-copy s) still i _
     (λ m. passed_over s.args.image.now s.args.pool.now (slots s.args.b.present i) (slots s.args.b.snapshot i)
-    (entry (front_of s.args.s i)) (entry (back_of s.args.s i)) (and-of m none) (s.requires.ready.sound.backing i))
+    (entry (front_of s.args.s i)) (entry (back_of s.args.s i)) (and-of m none) (s.requires.1.0.sound.backing i))
 
 -- where every area stays, a page with a front is compared with what stands there itself
 itself : (s : Start) (i : ℕ) → unchanged s.args.b.present s.args.b.snapshot ≡ true
@@ -109,18 +109,18 @@ itself : (s : Start) (i : ℕ) → unchanged s.args.b.present s.args.b.snapshot 
     (same_bytes 256 (reads_now s.args.image.now s.args.pool.now mine mine front back)
     (reads_copied s.args.image.now s.args.pool.now mine mine front back))
     ≡ of_in s i
-itself s i u = alike-slots s.args.b.present s.args.b.snapshot (formed s) (formed-copy s) u i _ _ (λ m. rw (s.requires.ready.sound.backing i m))
+itself s i u = alike-slots s.args.b.present s.args.b.snapshot (formed s) (formed-copy s) u i _ _ (λ m. rw (s.requires.1.0.sound.backing i m))
 
 compared-itself : (c : tie.After-agrees invariant-loop decreases-loop) → let turn = turn_of (found_same c) in c.agrees.result ≡ of_in (behind turn) (page_in turn)
 compared-itself c =
     let found = found_same c in
     let turn = turn_of found in
     let a = (behind turn).args in
-    let all = turn.before.before.are_unchanged-same in
+    let all = turn.are_unchanged-same in
     let slot = found.slot-slot.ensures in
     c.agrees.ensures
-    ∙ agree-as a.image.now a.pool.now _ _ _ _ _ _ _ _ slot slot found.before.before.before.front-front.ensures found.before.back-back.ensures
-    ∙ itself (behind turn) (page_in turn) (sym all.ensures ∙ c.before.if-same.true)
+    ∙ agree-as a.image.now a.pool.now _ _ _ _ _ _ _ _ slot slot found.front-front.ensures found.back-back.ensures
+    ∙ itself (behind turn) (page_in turn) (sym all.ensures ∙ c.if-same.true)
 
 -- else with the snapshot's
 compared : (c : tie.After-agrees-else-same invariant-loop decreases-loop) → let turn = turn_of (found_other c) in c.agrees-else-same.result ≡ of_in (behind turn) (page_in turn)
@@ -128,8 +128,8 @@ compared c =
     let found = found_other c in
     let a = (behind (turn_of found)).args in
     c.agrees-else-same.ensures
-    ∙ agree-as a.image.now a.pool.now _ _ _ _ _ _ _ _ found.slot-slot.ensures c.before.slot-copied.ensures
-    found.before.before.before.front-front.ensures found.before.back-back.ensures
+    ∙ agree-as a.image.now a.pool.now _ _ _ _ _ _ _ _ found.slot-slot.ensures c.slot-copied.ensures
+    found.front-front.ensures found.back-back.ensures
 
 -- any way the page agrees
 agreed : (c : tie.Joined-not-same-front invariant-loop decreases-loop) → let turn = c.before.before in of_in (behind turn) (page_in turn) ≡ true
@@ -151,7 +151,7 @@ agreed c =
 -- where it does not, the loop stops there
 stops : (turn : tie.In-loop-i invariant-loop decreases-loop) → not (of_in (behind turn) (page_in turn)) ≡ true
     → page_in turn ≡ lowest (λ k. not (of_in (behind turn) k)) 0 64
-stops turn h = sym (turn.before.loop-i.invariant.1 ∙ lowest-stop (λ k. not (of_in (behind turn) k)) 64 (page_in turn) turn.loop-i-test.true h)
+stops turn h = sym (turn.loop-i.invariant.1 ∙ lowest-stop (λ k. not (of_in (behind turn) k)) 64 (page_in turn) turn.loop-i-test.true h)
 
 -- ---- the needs
 
@@ -162,10 +162,10 @@ loop-holds : tie.Need-loop-i-init invariant-loop decreases-loop
 loop-holds c = (omega arith, refl)
 
 front-requires : tie.Need-front-front-requires invariant-loop decreases-loop
-front-requires c κs = let s = behind c in (s.requires.s_bound, (c.loop-i-test.true, s.requires.ranged.entries))
+front-requires c κs = let s = behind c in (s.requires.0, (c.loop-i-test.true, s.requires.1.1.entries))
 
 back-requires : tie.Need-back-back-requires invariant-loop decreases-loop
-back-requires c κs = let s = behind c.before.before in (s.requires.s_bound, (c.before.before.loop-i-test.true, s.requires.ranged.entries))
+back-requires c κs = let s = behind c.before.before in (s.requires.0, (c.loop-i-test.true, s.requires.1.1.entries))
 
 slot-requires : tie.Need-slot-slot-requires invariant-loop decreases-loop
 slot-requires c κs =
@@ -178,10 +178,10 @@ agrees-requires c κs =
     let turn = turn_of found in
     let s = behind turn in
     let i = page_in turn in
-    let front = found.before.before.before.front-front in
-    let backing = backing-there s.args.image.now s.args.b.present s.requires.ready.sound.present i in
+    let front = found.front-front in
+    let backing = backing-there s.args.image.now s.args.b.present s.requires.1.0.sound.present i in
     let named = entries s i in
-    rw (found.slot-slot.ensures, found.before.back-back.ensures, front.ensures)
+    rw (found.slot-slot.ensures, found.back-back.ensures, front.ensures)
     (named.0, (named.1, (named.2, (named.3, (backing, (backing, λ m. refl))))))
 
 returns : tie.Need-returns-then-not-agrees invariant-loop decreases-loop
@@ -199,12 +199,12 @@ agrees-requires-2 c κs =
     let turn = turn_of found in
     let s = behind turn in
     let i = page_in turn in
-    let front = found.before.before.before.front-front in
-    let ready = s.requires.ready in
+    let front = found.front-front in
+    let ready = s.requires.1.0 in
     let backing = backing-there s.args.image.now s.args.b.present ready.sound.present i in
     let copied = backing-there s.args.image.now s.args.b.snapshot ready.sound.snapshot i in
     let named = entries s i in
-    rw (c.slot-copied.ensures, found.slot-slot.ensures, found.before.back-back.ensures, front.ensures)
+    rw (c.slot-copied.ensures, found.slot-slot.ensures, found.back-back.ensures, front.ensures)
     (named.0, (named.1, (named.2, (named.3, (backing, (copied, ready.sound.backing i))))))
 
 returns-2 : tie.Need-returns-then-not-agrees-2 invariant-loop decreases-loop
@@ -222,13 +222,13 @@ loop-again c =
     let turn = c.before.before in
     let s = behind turn in
     let test = turn.loop-i-test.true in
-    (omega (arith, test), turn.before.loop-i.invariant.1 ∙ lowest-next (λ k. not (of_in s k)) 64 (page_in turn) test (ap not (agreed c)))
+    (omega (arith, test), turn.loop-i.invariant.1 ∙ lowest-next (λ k. not (of_in s k)) 64 (page_in turn) test (ap not (agreed c)))
 
 returns-3 : tie.Need-returns invariant-loop decreases-loop
 unfolding differing lowest_difference page_read page_under copy_read contents
 returns-3 c = λ h.
     let s = c.before.before.before.before.before.before.before.before in
-    let l = c.before.loop-i in
+    let l = c.loop-i in
     sym (l.invariant.1 ∙ lowest-end (λ k. not (of_in s k)) 64 l.i c.loop-i-test.false ∙ omega arith)
 
 pub lowest_difference_spec : {M : Type 1} → statement M

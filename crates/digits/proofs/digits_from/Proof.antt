@@ -27,12 +27,12 @@ shared-slice-read-if1 c = search rules
 returns : tie.Need-returns-then-part-first-eq48 invariant-loop decreases-loop
 returns c =
     let start = c.before.before.before in
-    zero_field start.args.part.now start.args.first start.requires.part_len.2 start.requires.first_value.0 c.if-part-first-eq48.true
+    zero_field start.args.part.now start.args.first start.requires.0.2 start.requires.1.0 c.if-part-first-eq48.true
 
 loop-holds : tie.Need-loop-i-init invariant-loop decreases-loop
 loop-holds c =
     let start = c.before.before.before in
-    (search rules, search rules, start.requires.first_value.0, λ z. refl, digits-none (start.args.first - 1), search rules)
+    (search rules, search rules, start.requires.1.0, λ z. refl, digits-none (start.args.first - 1), search rules)
 
 shared-slice-read-digit-of : tie.Need-bounds-part-i invariant-loop decreases-loop
 shared-slice-read-digit-of c = search rules
@@ -45,10 +45,10 @@ returns-2 c =
     let turn = c.before.before.before.before in
     let s = behind turn in
     let l = turn.loop-i in
-    let digit = c.before.digit_of-digit in
+    let digit = c.digit_of-digit in
     let missing = digit-missing l.n (column turn) digit.result digit.ensures (search rules) c.if-digit-ge-RADIX.true in
-    next-bad s.args.part.now s.args.first l.i l.n l.invariant.2 l.invariant.3 s.requires.first_value.1 turn.before.if-part-first-eq48.false 65536 missing
-    c.before.before.before.loop-i-test.true (omega arith)
+    next-bad s.args.part.now s.args.first l.i l.n l.invariant.2 l.invariant.3 s.requires.1.1 turn.if-part-first-eq48.false 65536 missing
+    c.loop-i-test.true (omega arith)
 
 mul-n : tie.Need-overflow_mul-n invariant-loop decreases-loop
 mul-n c = search rules
@@ -67,14 +67,14 @@ loop-again c =
     let turn = c.before.before.before.before in
     let s = behind turn in
     let l = turn.loop-i in
-    let digit = c.before.digit_of-digit in
+    let digit = c.digit_of-digit in
     let m = l.n * 10 + digit.result in
     let read = digit-read l.n (column turn) digit.result digit.ensures (search rules) c.if-digit-ge-RADIX.false in
     let more = digits_more l.i l.n digit.result (omega arith) l.invariant.4 c.if-digit-ge-RADIX.false in
     let few = digits-few (l.i + 1) m (omega arith) more in
-    let said = next-said s.args.part.now s.args.first l.i l.n l.invariant.2 l.invariant.3 s.requires.first_value.1 turn.before.if-part-first-eq48.false m read
+    let said = next-said s.args.part.now s.args.first l.i l.n l.invariant.2 l.invariant.3 s.requires.1.1 turn.if-part-first-eq48.false m read
     (omega arith) in
-    let begun = next-begun s.args.part.now s.args.first l.i l.n l.invariant.2 l.invariant.3 s.requires.first_value.1 turn.before.if-part-first-eq48.false m read in
+    let begun = next-begun s.args.part.now s.args.first l.i l.n l.invariant.2 l.invariant.3 s.requires.1.1 turn.if-part-first-eq48.false m read in
     (search rules, few, rw (add-one l.i) said, λ z. absurd (begun z), more, search rules)
 
 shared-slice-read-with-digit : tie.Need-bounds-part-5 invariant-loop decreases-loop
@@ -86,7 +86,7 @@ with-digit-requires c κs = search rules
 returns-3 : tie.Need-returns invariant-loop decreases-loop
 unfolding field_of
 returns-3 c =
-    let last = c.before.before.before.loop-i in
+    let last = c.loop-i in
     let done : last.i ≡ 5 = omega arith in
     rw (c.with_digit.ensures, ← last.invariant.2, done)
 

@@ -10,7 +10,7 @@ digit-of-requires c κs = search rules
 returns : tie.Need-returns-then-digit-ge-RADIX
 returns c =
     let start = c.before.before in
-    let taken = c.before.digit_of-digit in
+    let taken = c.digit_of-digit in
     digit-missing start.args.n start.args.byte taken.result taken.ensures (search rules) c.if-digit-ge-RADIX.true
 
 mul-result : tie.Need-overflow_mul-result
@@ -22,7 +22,7 @@ add-result c = search rules
 returns-2 : tie.Need-returns
 returns-2 c =
     let start = c.before.before in
-    let taken = c.before.digit_of-digit in
+    let taken = c.digit_of-digit in
     digit-read start.args.n start.args.byte taken.result taken.ensures (search rules) c.if-digit-ge-RADIX.false
 
 pub with_digit_spec : {M : Type 1} → statement M

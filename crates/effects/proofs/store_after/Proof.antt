@@ -25,10 +25,10 @@ abbrev Row : tie.Start → List Sandbox → Type 0
 Row s row = AskedOf s.args.image.now s.args.q s.args.b s.args.all (store_in s) row
 
 abbrev there : tie.Start → List Sandbox
-there s = s.requires.some_row.0
+there s = s.requires.1.0
 
 abbrev its : (s : tie.Start) → Row s (there s)
-its s = s.requires.some_row.1
+its s = s.requires.1.1
 
 abbrev asked : (s : tie.Start) → Asked s.args.image.now s.args.q (world_in s (there s))
 asked s = (its s).1
@@ -54,12 +54,12 @@ map-requires c κs =
     let arm = mapping c in
     let s = behind arm.before in
     let a = asked s in (
-      arm.in-2.keys1,
-      (a.row, (a.fit, rw (same-sandbox s (there s) (its s)) ((_, a.ready), (a.mapped arm.in-2.keys1, a.filed.entries)))),
+      arm.in-2.is,
+      (a.row, (a.fit, rw (same-sandbox s (there s) (its s)) ((_, a.ready), (a.mapped arm.in-2.is, a.filed.entries)))),
     )
 
 write-requires : tie.Need-write-requires
-write-requires c κs = (c.before.before.in-6.keys2, (behind c.before.before.before).requires.some_row)
+write-requires c κs = (c.in-6.is, (behind c.before.before.before).requires.1)
 
 without-frames-requires : tie.Need-without_frames-requires
 without-frames-requires c κs =
@@ -67,7 +67,7 @@ without-frames-requires c κs =
     let s = behind arm.before in
     let a = asked s in
     let ranged = filed-ranged 256 (frames_of (world_in s (there s))) (store_in s) a.filed in
-    (arm.in_default.rest.0.1, (arm.in_default.rest.1, (s.requires.fact, (a.row, (a.fit, (rw (same-sandbox s (there s) (its s)) a.ready, ranged))))))
+    (arm.in_default.in_default-own.rest.0.1, (arm.in_default.in_default-own.rest.1, (s.requires.0, (a.row, (a.fit, (rw (same-sandbox s (there s) (its s)) a.ready, ranged))))))
 
 same_length : tie.Need-shape_of-table-in-2
 same_length c = search rules
@@ -77,8 +77,8 @@ returns c row a =
     let left = c.before.before in
     let arm = mapping left.before in
     let s = behind arm.before in
-    mapped s.args.image.now s.args.q (world_in s row) a.1 _ _ arm.in-2.keys1
-    (rw (← same-sandbox s row a) (left.map.ensures.by_index_2 s.args.pool.now)) (rw (← same-sandbox s row a) left.map.ensures.runs)
+    mapped s.args.image.now s.args.q (world_in s row) a.1 _ _ arm.in-2.is
+    (rw (← same-sandbox s row a) (left.map.ensures.0 s.args.pool.now)) (rw (← same-sandbox s row a) left.map.ensures.1)
 
 same-length-2 : tie.Need-shape_of-pool-in-6
 same-length-2 c = search rules
@@ -87,7 +87,7 @@ same-length-3 : tie.Need-shape_of-table-in-6
 same-length-3 c = search rules
 
 returns-2 : tie.Need-returns-in-6
-returns-2 c row a = c.before.before.before.before.write.ensures row a
+returns-2 c row a = c.write.ensures row a
 
 same-length-4 : tie.Need-shape_of-pool-in_default
 same-length-4 c = search rules
@@ -100,7 +100,7 @@ returns-3 c row a =
     let left = c.before.before.before.before in
     let arm = neither left.before in
     let s = behind arm.before in
-    stepped-none s.args.image.now s.args.q (world_in s row) _ _ (ne_eqb s.args.q.code write_code arm.in_default.rest.1)
+    stepped-none s.args.image.now s.args.q (world_in s row) _ _ (ne_eqb s.args.q.code write_code arm.in_default.in_default-own.rest.1)
     (rw (← same-sandbox s row a) left.without_frames.ensures)
 
 pub store_after_spec : {M : Type 1} → statement M

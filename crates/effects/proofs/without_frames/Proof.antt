@@ -28,18 +28,18 @@ cast-s c = search rules
 cast-t16 : tie.Need-overflow_cast-q
 cast-t16 c =
     let arm = freeing c in
-    omega (arith, (behind arm.before).requires.fit.unmapped arm.in-3.keys1)
+    omega (arith, (behind arm.before).requires.1.1.1.1.0.unmapped arm.in-3.is)
 
 cast-free-range : tie.Need-overflow_cast-q-in-3
 cast-free-range c =
     let arm = freeing c.before in
-    omega (arith, (behind arm.before).requires.fit.unmapped arm.in-3.keys1)
+    omega (arith, (behind arm.before).requires.1.1.1.1.0.unmapped arm.in-3.is)
 
 free-range-requires : tie.Need-free_range-h-requires
 free-range-requires c κs =
     let arm = freeing c.before in
     let s = behind arm.before in
-    (s.requires.sandbox_bound, (s.requires.fit.unmapped arm.in-3.keys1, s.requires.ranged))
+    (s.requires.1.1.1.0, (s.requires.1.1.1.1.0.unmapped arm.in-3.is, s.requires.1.1.1.1.1.1))
 
 move-fronts-requires : tie.Need-move_fronts-requires
 move-fronts-requires c κs = search rules
@@ -55,7 +55,7 @@ returns c =
     let freed = c.before.before.before.before in
     let arm = freeing freed.before.before in
     let s = behind arm.before in
-    unmapped s.args.image.now s.args.q s.args.b (store_in s) _ arm.in-3.keys1 freed.free_range-h.ensures
+    unmapped s.args.image.now s.args.q s.args.b (store_in s) _ arm.in-3.is freed.free_range-h.ensures
 
 same-length-3 : tie.Need-shape_of-table-in-7
 same-length-3 c = search rules
@@ -65,14 +65,14 @@ returns-2 c =
     let moved = c.before.before in
     let arm = copying moved.before in
     let s = behind arm.before in
-    copied s.args.image.now s.args.q s.args.b (store_in s) _ arm.in-7.keys2
+    copied s.args.image.now s.args.q s.args.b (store_in s) _ arm.in-7.is
     (moved.move_fronts.ensures s.args.held s.args.pool.now)
 
 returns-3 : tie.Need-returns-in_default
 returns-3 c =
     let s = behind c.before in
-    let none = c.in_default.rest in
-    left_alone s.args.image.now s.args.q s.args.b (store_in s) s.requires.fact none.0.1 s.requires.fact_2 none.1 s.requires.fact_3
+    let none = c.in_default.in_default-own.rest in
+    left_alone s.args.image.now s.args.q s.args.b (store_in s) s.requires.0 none.0.1 s.requires.1.0 none.1 s.requires.1.1.0
 
 pub without_frames_spec : {M : Type 1} → statement M
 without_frames_spec =

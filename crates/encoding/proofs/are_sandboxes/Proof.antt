@@ -19,10 +19,10 @@ decreases-loop bytes all₀ s₀ all s = 4 - s
 
 -- the bytes, seen from the loop
 abbrev bytes_of : tie.At-loop-s invariant-loop decreases-loop → List ℕ
-bytes_of c = c.before.before.args.bytes.now
+bytes_of c = c.args.bytes.now
 
 loop-holds : tie.Need-loop-s-init invariant-loop decreases-loop
-loop-holds c = let bytes = c.before.args.bytes.now in tested-none (λ j. is_sandbox (part_in sandbox_size bytes j)) 4
+loop-holds c = let bytes = c.args.bytes.now in tested-none (λ j. is_sandbox (part_in sandbox_size bytes j)) 4
 
 mul_at : tie.Need-overflow_mul-at invariant-loop decreases-loop
 mul_at c = search rules
@@ -51,7 +51,7 @@ loop-less c = search rules
 loop-again : tie.Need-loop-s-preserved invariant-loop decreases-loop
 loop-again c =
     let turn = c.before.before in
-    let at = turn.before.loop-s in
+    let at = turn.loop-s in
     let bytes = bytes_of turn.before in
     let got = c.is_sandbox-all.ensures ∙ ap is_sandbox (part-lent bytes (at.s * sandbox_size) sandbox_size) in
     tested-next (λ j. is_sandbox (part_in sandbox_size bytes j)) 4 at.all c.is_sandbox-all.result at.s at.invariant turn.loop-s-test.true got
@@ -59,7 +59,7 @@ loop-again c =
 returns : tie.Need-returns invariant-loop decreases-loop
 unfolding are_sandboxes
 returns c =
-    let at = c.before.loop-s in
+    let at = c.loop-s in
     let bytes = bytes_of c.before in
     tested-all (λ j. is_sandbox (part_in sandbox_size bytes j)) 4 at.all at.s at.invariant (omega (arith, c.loop-s-test.false))
 

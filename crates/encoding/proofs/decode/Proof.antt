@@ -28,7 +28,7 @@ decreases-loop bytes machine₀ s₀ machine s = 4 - s
 
 -- the bytes, seen from behind the calls that come before the loop
 abbrev bytes_of : tie.After-fresh-machine invariant-loop decreases-loop → List ℕ
-bytes_of c = c.before.before.before.before.args.bytes.now
+bytes_of c = c.args.bytes.now
 
 sub-decode-marks : tie.Need-slice_bounds-decode_marks-count invariant-loop decreases-loop
 sub-decode-marks c = search rules
@@ -86,7 +86,7 @@ loop-again c =
     let at = turn.loop-s in
     let bytes = bytes_of turn.before in
     let got = c.decode_sandbox-sandbox.ensures ∙ ap sandbox_from (part-lent bytes (at.s * sandbox_size) sandbox_size) in
-    let more = c.before.before.loop-s-test.true in (
+    let more = c.loop-s-test.true in (
       at.invariant.0,
       filled_next (sandbox_in bytes) 4 (replicate 4 closed_sandbox) closed_sandbox at.machine.sandboxes at.s c.decode_sandbox-sandbox.result (omega arith)
           at.invariant.1 more got,
@@ -95,11 +95,11 @@ loop-again c =
 returns : tie.Need-returns invariant-loop decreases-loop
 unfolding state_from part_at
 returns c =
-    let at = c.before.loop-s in
+    let at = c.loop-s in
     let made = c.before.before in
     let stop = c.loop-s-test.false in
     let row = filled-all (sandbox_in (bytes_of made)) 4 (replicate 4 closed_sandbox) at.machine.sandboxes at.s refl at.invariant.1 (omega (arith, stop)) in
-    let held = at.invariant.0 ∙ made.before.decode_marks-held.ensures in
+    let held = at.invariant.0 ∙ made.decode_marks-held.ensures in
     λ i. record { sandboxes = row i; held = held i }
 
 pub decode_spec : {M : Type 1} → statement M

@@ -33,7 +33,7 @@ abbrev start_of : tie.At-loop-s invariant-loop decreases-loop → tie.Start inva
 start_of c = c.before.before
 
 loop-holds : tie.Need-loop-s-init invariant-loop decreases-loop
-loop-holds c = written_none (λ j. sandbox_bytes (get_or c.before.args.sandboxes j closed_sandbox)) sandbox_size 4 c.before.args.out.now c.before.requires
+loop-holds c = written_none (λ j. sandbox_bytes (get_or c.args.sandboxes j closed_sandbox)) sandbox_size 4 c.args.out.now c.requires
 
 mul_at : tie.Need-overflow_mul-at invariant-loop decreases-loop
 mul_at c = search rules
@@ -69,7 +69,7 @@ loop-again : tie.Need-loop-s-preserved invariant-loop decreases-loop
 loop-again c =
     let got = c.before.before in
     let turn = turn_of got in
-    let at = turn.before.loop-s in
+    let at = turn.loop-s in
     let first = start_of turn.before in
     let row : List Sandbox = first.args.sandboxes in
     let four = row-of-four first in
@@ -85,7 +85,7 @@ same_length c = search rules
 returns : tie.Need-returns invariant-loop decreases-loop
 returns c =
     let a = (start_of c.before).args in
-    let at = c.before.loop-s in
+    let at = c.loop-s in
     written_all (λ j. sandbox_bytes (get_or a.sandboxes j closed_sandbox)) sandbox_size 4 a.out.now at.out at.s at.invariant (omega (arith, c.loop-s-test.false))
 
 pub encode_sandboxes_spec : {M : Type 1} → statement M

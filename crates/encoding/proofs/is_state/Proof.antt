@@ -8,7 +8,7 @@ use Rattle.encoding.proofs.is_state.Tie as tie
 
 returns : tie.Need-returns-then-bytes-ne-STATE
 unfolding is_state
-returns c = rw (ne_eqb (length c.before.before.args.bytes.now) state_size c.if-bytes-ne-STATE.true)
+returns c = rw (ne_eqb (length c.args.bytes.now) state_size c.if-bytes-ne-STATE.true)
 
 are-sandboxes-requires : tie.Need-are_sandboxes-requires
 are-sandboxes-requires c κs = search rules
@@ -17,7 +17,7 @@ returns-2 : tie.Need-returns
 unfolding is_state
 returns-2 c =
     let branch = c.before in
-    rw (eq-eqb (length branch.before.before.args.bytes.now) state_size branch.if-bytes-ne-STATE.false) c.are_sandboxes.ensures
+    rw (eq-eqb (length branch.args.bytes.now) state_size branch.if-bytes-ne-STATE.false) c.are_sandboxes.ensures
 
 pub is_state_spec : {M : Type 1} → statement M
 is_state_spec = tie.close (tie.spec returns are-sandboxes-requires returns-2)

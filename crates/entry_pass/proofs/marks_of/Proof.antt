@@ -68,14 +68,14 @@ behind c =
     ⊎_elim
     (λ w. w.2 ∙ w.1.ensures)
     (λ w. w.1 ∙ l.invariant.1 ∙ sym (pass-none a.frames (from a.first a.table.now) l.i 8
-    (λ j d. eight-none a.table.now a.first l.i (sym c.before.names_none.ensures ∙ not-false _ w.0.left) j d)))
+    (λ j d. eight-none a.table.now a.first l.i (sym c.names_none.ensures ∙ not-false _ w.0.left) j d)))
     c.if-not-names_none.branch
 
 loop-again : tie.Need-loop-i-preserved invariant-loop decreases-loop invariant-loop2 decreases-loop2
 loop-again c = (omega arith, behind c)
 
 loop2-holds : tie.Need-loop-i-2-init invariant-loop decreases-loop invariant-loop2 decreases-loop2
-loop2-holds c = (c.before.loop-i.invariant.0, c.before.loop-i.invariant.1)
+loop2-holds c = (c.loop-i.invariant.0, c.loop-i.invariant.1)
 
 add-add : tie.Need-overflow_add-first-in-loop-i-2 invariant-loop decreases-loop invariant-loop2 decreases-loop2
 add-add c = search rules
@@ -94,7 +94,7 @@ add-requires c κs =
     let l = m.loop-i-2 in
     let most = pass-small a.frames (from a.first a.table.now) l.i in
     let same = ap (λ (x : Pass). x.named) l.invariant.1 in
-    (s.requires.frames_bound, omega (arith, most, same, c.before.loop-i-2-test.true, s.requires.entries_in_bounds))
+    (s.requires.1, omega (arith, most, same, c.loop-i-2-test.true, s.requires.0))
 
 add-i-2 : tie.Need-overflow_add-i-in-loop-i-2 invariant-loop decreases-loop invariant-loop2 decreases-loop2
 add-i-2 c = search rules
@@ -107,7 +107,7 @@ at-loop2 c = c.before.before.before
 
 loop2-again : tie.Need-loop-i-2-preserved invariant-loop decreases-loop invariant-loop2 decreases-loop2
 loop2-again c =
-    let l = c.before.before.before.loop-i-2 in
+    let l = c.loop-i-2 in
     let a = (start-of-loop (at-loop2 c).before.before).args in
     (search rules, c.add-found.ensures ∙ pass-more a.frames (from a.first a.table.now) l.i l.found l.invariant.1)
 
@@ -128,9 +128,9 @@ returns c =
     let l = m.loop-i-2 in
     let p : ℕ → ℕ = from a.first a.table.now in
     let end : l.i ≡ a.entries = omega (arith, l.invariant.0, (at-end c).loop-i-2-test.false) in
-    let counted = c.before.before.count.ensures in
+    let counted = c.count.ensures in
     (λ j. record { good = l.found.inside && eqb (counted j) l.found.named; held = l.found.held })
-    ∙ ap foundBy l.invariant.1 ∙ pass-marks a.frames s.requires.frames_bound p l.i ∙ ap (marks_to a.frames p) end
+    ∙ ap foundBy l.invariant.1 ∙ pass-marks a.frames s.requires.1 p l.i ∙ ap (marks_to a.frames p) end
 
 pub marks_of_spec : {M : Type 1} → statement M
 marks_of_spec =

@@ -31,7 +31,7 @@ returns : tie.Need-returns-then-entry-eq0
 returns c = sym (free-none 256 _ _ c.if-entry-eq0.true)
 
 frame-of-requires : tie.Need-frame_of-f-requires
-frame-of-requires c κs = let s = c.before.before.before.before in (omega arith, s.requires.ranged.few s.args.at)
+frame-of-requires c κs = let s = c.before.before.before.before in (omega arith, s.requires.1.few s.args.at)
 
 mul-table : tie.Need-offset_bounds-table-at-2
 mul-table c = search rules
@@ -42,13 +42,13 @@ slice-write-table c = search rules
 clear-frame-requires : tie.Need-clear_frame-requires
 clear-frame-requires c κs =
     let s = behind c.before in
-    omega (arith, s.requires.ranged.room s.args.at, c.before.frame_of-f.ensures)
+    omega (arith, s.requires.1.room s.args.at, c.frame_of-f.ensures)
 
 without-requires : tie.Need-without-requires
 without-requires c κs =
     let frame = framed c.before.before in
     let s = behind frame in
-    omega (arith, s.requires.ranged.few s.args.at, frame.frame_of-f.ensures)
+    omega (arith, s.requires.1.few s.args.at, frame.frame_of-f.ensures)
 
 same_length : tie.Need-shape_of-pool
 same_length c = search rules

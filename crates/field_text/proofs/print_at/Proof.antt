@@ -32,8 +32,8 @@ same_length c = search rules
 
 returns : tie.Need-returns
 returns c =
-    let printed = c.before.before.print_field in
-    let a = c.before.before.before.before.before.args in
+    let printed = c.print_field in
+    let a = c.args in
     let at = a.field * 6 in
     rw printed.ensures (came-back a.out.now (printed_field a.n) at (at + 6) (length-field a.n ∙ omega arith))
 

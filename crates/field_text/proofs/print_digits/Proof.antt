@@ -23,12 +23,12 @@ decreases-loop out₀ n rest₀ i₀ out rest i = rest
 loop-holds : tie.Need-loop-rest-init invariant-loop decreases-loop
 loop-holds c =
     let a = c.args in
-    let six = ap length c.requires.out_value ∙ length-columns 6 0 in
-    (search rules, six, omega arith, digits-begun a.out.now a.n six c.requires.n_nonzero.0, take_all 6 a.out.now (omega arith) ∙ c.requires.out_value, search rules)
+    let six = ap length c.requires.0 ∙ length-columns 6 0 in
+    (search rules, six, omega arith, digits-begun a.out.now a.n six c.requires.1.0, take_all 6 a.out.now (omega arith) ∙ c.requires.0, search rules)
 
 sub-i : tie.Need-overflow_sub-i invariant-loop decreases-loop
 sub-i c =
-    let turn = c.before.loop-rest in
+    let turn = c.loop-rest in
     let left = digits-left turn.rest turn.i c.loop-rest-test.true turn.invariant.2 in
     omega arith
 
@@ -46,7 +46,7 @@ add-out c = search rules
 
 slice-write-out : tie.Need-bounds-out-i invariant-loop decreases-loop
 slice-write-out c =
-    let turn = c.before.loop-rest in
+    let turn = c.loop-rest in
     let left = digits-left turn.rest turn.i c.loop-rest-test.true turn.invariant.2 in
     omega arith
 
@@ -55,7 +55,7 @@ loop-less c = search rules
 
 loop-again : tie.Need-loop-rest-preserved invariant-loop decreases-loop
 loop-again c =
-    let turn = c.before.loop-rest in
+    let turn = c.loop-rest in
     let left = digits-left turn.rest turn.i c.loop-rest-test.true turn.invariant.2 in
     let one_more : turn.i - 1 + 1 ≡ turn.i = omega arith in
     let here : 48 + (turn.rest - turn.rest / 10 * 10) ≡ column turn.rest = omega arith ∙ sym (column-shown turn.rest c.loop-rest-test.true) in
@@ -69,13 +69,13 @@ loop-again c =
     )
 
 same_length : tie.Need-shape_of-out invariant-loop decreases-loop
-same_length c = c.before.loop-rest.invariant.1 ∙ sym (ap length c.before.before.requires.out_value ∙ length-columns 6 0)
+same_length c = c.loop-rest.invariant.1 ∙ sym (ap length c.requires.0 ∙ length-columns 6 0)
 
 returns : tie.Need-returns invariant-loop decreases-loop
 returns c =
-    let last = c.before.loop-rest in
+    let last = c.loop-rest in
     let done : last.rest ≡ 0 = omega arith in
-    digits-ended last.out last.i c.before.before.args.n (rw done at last.invariant.3) last.invariant.4
+    digits-ended last.out last.i c.args.n (rw done at last.invariant.3) last.invariant.4
 
 pub print_digits_spec : {M : Type 1} → statement M
 print_digits_spec =

@@ -16,13 +16,13 @@ abbrev behind_no : tie.Then-not-is_state → tie.Start
 behind_no c = c.before.before.before.before.before.before.before
 
 fails : (c : tie.Then-not-is_state) → is_state (behind_no c).args.state.now ≡ false
-fails c = let tested = c.before.is_state in fails-test (behind_no c).args.state.now tested.result tested.ensures c.if-not-is_state.true-raw
+fails c = let tested = c.is_state in fails-test (behind_no c).args.state.now tested.result tested.ensures c.if-not-is_state.true-raw
 
 abbrev behind_yes : tie.Else-not-is_state → tie.Start
 behind_yes c = c.before.before.before.before.before.before.before
 
 passes : (c : tie.Else-not-is_state) → is_state (behind_yes c).args.state.now ≡ true
-passes c = let tested = c.before.is_state in passes-test (behind_yes c).args.state.now tested.result tested.ensures c.if-not-is_state.false-raw
+passes c = let tested = c.is_state in passes-test (behind_yes c).args.state.now tested.result tested.ensures c.if-not-is_state.false-raw
 
 -- what the caller handed over
 abbrev hands : tie.Start → Handed

@@ -13,11 +13,11 @@ put-requires-2 c κs = search rules
 
 returns : tie.Need-returns-then-n-lt-WORD
 unfolding mark
-returns c = simp (lt-ltb _ 64 c.before.if-n-lt-WORD.true, c.put.ensures)
+returns c = simp (lt-ltb _ 64 c.if-n-lt-WORD.true, c.put.ensures)
 
 returns-2 : tie.Need-returns-else-n-lt-WORD
 unfolding mark
-returns-2 c = simp (le-ltb _ 64 c.before.if-n-lt-WORD.false, c.put-else-n-lt-WORD.ensures)
+returns-2 c = simp (le-ltb _ 64 c.if-n-lt-WORD.false, c.put-else-n-lt-WORD.ensures)
 
 pub marked_spec : {M : Type 1} → statement M
 marked_spec = tie.close (tie.spec put-requires put-requires-2 returns returns-2)

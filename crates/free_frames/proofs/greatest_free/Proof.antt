@@ -13,7 +13,7 @@ greatest-unset-requires : tie.Need-greatest_unset-requires
 greatest-unset-requires c κs = search rules
 
 returns : tie.Need-returns-then-frames-le-WORD
-returns c = c.greatest_unset.ensures ∙ sym (free-low _ _ c.before.if-frames-le-WORD.true)
+returns c = c.greatest_unset.ensures ∙ sym (free-low _ _ c.if-frames-le-WORD.true)
 
 sub-greatest-unset : tie.Need-overflow_sub-frames
 sub-greatest-unset c = search rules
@@ -30,10 +30,10 @@ at-start c = c.before.before.before.before
 
 add-t8 : tie.Need-overflow_add-result
 add-t8 c =
-    let arm = c.before.before in
+    let arm = c.before in
     let start = at-start arm in
-    let found = greatest-found (bit start.args.marks.high) (start.args.frames - 64) arm.high-1.given.0.0
-    (sym arm.before.before.greatest_unset-high.ensures ∙ arm.high-1.given.1) in
+    let found = greatest-found (bit start.args.marks.high) (start.args.frames - 64) arm.in-Frame.f
+    (sym arm.greatest_unset-high.ensures ∙ arm.in-Frame.is) in
     omega (arith, found.within, start.requires)
 
 enum_told : tie.Need-enum_told-1
@@ -47,19 +47,19 @@ else1-of-high c = c.before.before.before
 
 returns-2 : tie.Need-returns-in-Frame
 returns-2 c =
-    let arm = c.before.before in
+    let arm = c.before in
     let test = else1-of-high arm in
-    free-found test.before.args.marks _ _ (le_of_lt test.if-frames-le-WORD.left) (sym arm.before.before.greatest_unset-high.ensures ∙ arm.high-1.given.1)
+    free-found test.args.marks _ _ (le_of_lt test.if-frames-le-WORD.left) (sym arm.greatest_unset-high.ensures ∙ arm.in-Frame.is)
 
 abbrev else1-of-enum-told : tie.In-None → tie.Else-frames-le-WORD
-else1-of-enum-told c = c.before.before.before
+else1-of-enum-told c = c.before.before
 
 returns-3 : tie.Need-returns-in-None
 returns-3 c =
     let arm = c.before in
     let test = else1-of-enum-told arm in
-    c.greatest_unset-in-None.ensures ∙ free-rest test.before.args.marks _ (le_of_lt test.if-frames-le-WORD.left)
-    (sym arm.before.before.greatest_unset-high.ensures ∙ arm.enum_told-1.given.1)
+    c.greatest_unset-in-None.ensures ∙ free-rest test.args.marks _ (le_of_lt test.if-frames-le-WORD.left)
+    (sym arm.greatest_unset-high.ensures ∙ arm.in-None.is)
 
 pub greatest_free_spec : {M : Type 1} → statement M
 greatest_free_spec =

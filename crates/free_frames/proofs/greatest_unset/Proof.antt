@@ -23,16 +23,16 @@ shr-free : tie.Need-overflow_shr-free
 shr-free c = search rules
 
 returns-2 : tie.Need-returns-then-free-eq0
-returns-2 c = sym (unset-none _ _ c.before.before.ranges.word.fits c.before.before.requires c.if-free-eq0.true)
+returns-2 c = sym (unset-none _ _ c.ranges.word.fits c.requires c.if-free-eq0.true)
 
 cast-zeros : tie.Need-overflow_cast-zeros
 cast-zeros c = record { fits = lt_of_le_of_lt (leading_le 64 _) (lit< tt) }
 
 sub-t7 : tie.Need-overflow_sub-result
-sub-t7 c = zeros-le _ _ c.before.before.ranges.word.fits c.before.before.requires c.if-free-eq0.false
+sub-t7 c = zeros-le _ _ c.ranges.word.fits c.requires c.if-free-eq0.false
 
 returns-3 : tie.Need-returns
-returns-3 c = unset-is _ _ c.before.before.ranges.word.fits c.before.before.requires c.if-free-eq0.false
+returns-3 c = unset-is _ _ c.ranges.word.fits c.requires c.if-free-eq0.false
 
 pub greatest_unset_spec : {M : Type 1} → statement M
 greatest_unset_spec =

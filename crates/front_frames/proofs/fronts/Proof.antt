@@ -25,7 +25,7 @@ abbrev behind : tie.At-loop-k invariant-loop decreases-loop → tie.Start invari
 behind c = (at-index c).before.before
 
 front-index-requires : tie.Need-front_index-at-requires invariant-loop decreases-loop
-front-index-requires c κs = let s = c.before in (s.requires.sandbox_bound, omega (arith, s.requires.pages_bound, s.requires.pages_nonzero))
+front-index-requires c κs = let s = c.before in (s.requires.0, omega (arith, s.requires.1.0, s.requires.1.1.0))
 
 none-requires : tie.Need-none-run-requires invariant-loop decreases-loop
 none-requires c κs = search rules
@@ -35,17 +35,17 @@ unfolding with_entries
 loop-holds c = (omega arith, c.none-run.ensures)
 
 mul-i : tie.Need-overflow_mul-i invariant-loop decreases-loop
-mul-i c = let s = behind c.before in omega (arith, group-in s.args.pages c.before.loop-k.k c.loop-k-test.true, s.requires.pages_bound)
+mul-i c = let s = behind c.before in omega (arith, group-in s.args.pages c.loop-k.k c.loop-k-test.true, s.requires.1.0)
 
 cast-with-group : tie.Need-overflow_cast-i invariant-loop decreases-loop
 cast-with-group c = search rules
 
 -- a group lies among the sandbox's entries
-group-there : (c : tie.In-loop-k invariant-loop decreases-loop) → (at-index c.before).front_index-at.result + of_groups c.before.loop-k.k + 8 ≤ 512
+group-there : (c : tie.In-loop-k invariant-loop decreases-loop) → (at-index c.before).front_index-at.result + of_groups c.loop-k.k + 8 ≤ 512
 group-there c =
     let s = behind c.before in
     let p = s.requires in
-    omega (arith, group-in s.args.pages c.before.loop-k.k c.loop-k-test.true, p.0, p.1.0, (at-index c.before).front_index-at.ensures)
+    omega (arith, group-in s.args.pages c.loop-k.k c.loop-k-test.true, p.0, p.1.0, (at-index c.before).front_index-at.ensures)
 
 -- and so do all of them with the entries that are left
 all_there : (c : tie.At-loop-k invariant-loop decreases-loop) → (at-index c).front_index-at.result + (behind c).args.pages ≤ 512
@@ -68,7 +68,7 @@ loop-less c = search rules
 loop-again : tie.Need-loop-k-preserved invariant-loop decreases-loop
 loop-again c =
     let turn = c.before in
-    let l = turn.before.loop-k in
+    let l = turn.loop-k in
     let table = (behind turn.before).args.table.now in
     let at : ℕ = (at-index turn.before).front_index-at.result in
     let i : ℕ = of_groups l.k in
@@ -79,7 +79,7 @@ loop-again c =
     )
 
 mul-done : tie.Need-overflow_mul-done invariant-loop decreases-loop
-mul-done c = let s = behind c.before in omega (arith, all-groups s.args.pages, s.requires.pages_bound)
+mul-done c = let s = behind c.before in omega (arith, all-groups s.args.pages, s.requires.1.0)
 
 cast-with-each : tie.Need-overflow_cast-done invariant-loop decreases-loop
 cast-with-each c = search rules
@@ -93,7 +93,7 @@ sub-with-each c = omega (arith, all-groups (behind c.before).args.pages)
 with-each-requires : tie.Need-with_each-requires invariant-loop decreases-loop
 with-each-requires c κs =
     let s = behind c.before in
-    (omega (arith, all-groups s.args.pages, all_there c.before, s.requires.table_len), s.requires.by_index)
+    (omega (arith, all-groups s.args.pages, all_there c.before, s.requires.1.1.1.0), s.requires.1.1.1.1)
 
 returns : tie.Need-returns invariant-loop decreases-loop
 returns c =
@@ -105,7 +105,7 @@ returns c =
     let at : ℕ = index.result in
     let done : ℕ = of_groups (a.pages / 8) in
     let left : ℕ = a.pages - done in
-    let e : l.k ≡ a.pages / 8 = omega (arith, l.invariant.0, c.before.loop-k-test.false) in
+    let e : l.k ≡ a.pages / 8 = omega (arith, l.invariant.0, c.loop-k-test.false) in
     let all : done + left ≡ a.pages = omega (arith, all-groups a.pages) in
     c.with_Each.ensures
     ∙ ap (λ (x : Held). with_entries table (at + done) x left) (l.invariant.1 ∙ ap (λ (k : ℕ). with_entries table at none_held (of_groups k)) e)

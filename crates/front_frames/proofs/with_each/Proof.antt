@@ -34,7 +34,7 @@ shared-slice-read-entry : tie.Need-bounds-table-at invariant-loop decreases-loop
 shared-slice-read-entry c = search rules
 
 with-entry-requires : tie.Need-with_entry-all-requires invariant-loop decreases-loop
-with-entry-requires c κs = (behind c.before.before).requires.by_index _
+with-entry-requires c κs = (behind c.before.before).requires.1 _
 
 add-i : tie.Need-overflow_step-i invariant-loop decreases-loop
 add-i c = search rules
@@ -51,7 +51,7 @@ loop-again c =
 
 returns : tie.Need-returns invariant-loop decreases-loop
 returns c =
-    let l = c.before.loop-i in
+    let l = c.loop-i in
     let a = (behind c.before).args in
     let end : l.i ≡ a.n = omega (arith, l.invariant.1, c.loop-i-test.false) in
     l.invariant.0 ∙ ap (with_entries a.table.now a.at a.run) end

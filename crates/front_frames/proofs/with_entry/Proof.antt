@@ -14,7 +14,7 @@ with-requires : tie.Need-with-requires
 with-requires c κs = search rules
 
 returns-2 : tie.Need-returns
-returns-2 c = rw (ne_eqb _ _ c.before.before.if-entry-eq0.false, ← c.before.frame_of.ensures) c.with.ensures
+returns-2 c = rw (ne_eqb _ _ c.if-entry-eq0.false, ← c.frame_of.ensures) c.with.ensures
 
 pub with_entry_spec : {M : Type 1} → statement M
 with_entry_spec = tie.close (tie.spec returns frame-of-requires with-requires returns-2)

@@ -11,8 +11,8 @@ are-empty-requires c κs = search rules
 
 returns : tie.Need-returns-then-are_empty
 returns c =
-    let a = c.before.before.before.args in
-    sym (entries_none a.table.now a.at a.run 8 (empty-at a.table.now a.at 8 _ c.before.are_empty.ensures c.if-are_empty.true))
+    let a = c.args in
+    sym (entries_none a.table.now a.at a.run 8 (empty-at a.table.now a.at 8 _ c.are_empty.ensures c.if-are_empty.true))
 
 with-each-requires : tie.Need-with_each-requires
 with-each-requires c κs = search rules

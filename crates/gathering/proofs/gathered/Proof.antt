@@ -27,7 +27,7 @@ cast-count : tie.Need-overflow_cast-count invariant-loop decreases-loop
 cast-count c = search rules
 
 loop-holds : tie.Need-loop-k-init invariant-loop decreases-loop
-loop-holds c = (omega arith, λ h pool. gathered-start _ _ _ c.before.requires.formed _)
+loop-holds c = (omega arith, λ h pool. gathered-start _ _ _ c.requires.1.0 _)
 
 mul-area : tie.Need-offset_bounds-present-k invariant-loop decreases-loop
 mul-area c = search rules
@@ -42,8 +42,8 @@ start-of-turn c = c.before.before.before
 push-area-requires : tie.Need-push_area-all-requires invariant-loop decreases-loop
 push-area-requires c κs =
     let p = (start-of-turn c.before).requires in
-    let k = c.before.before.loop-k.k in
-    (p.0, (end-small _ p.1.0 k, ((p.1.0.formed.each k c.before.loop-k-test.true).some, p.1.1)))
+    let k = c.loop-k.k in
+    (p.0, (end-small _ p.1.0 k, ((p.1.0.formed.each k c.loop-k-test.true).some, p.1.1)))
 
 add-k : tie.Need-overflow_step-k invariant-loop decreases-loop
 add-k c = search rules
@@ -57,7 +57,7 @@ at-loop c = c.before.before.before
 loop-again : tie.Need-loop-k-preserved invariant-loop decreases-loop
 loop-again c =
     let l = (at-loop c).loop-k in
-    let formed = (start-of-turn c.before.before).requires.formed in
+    let formed = (start-of-turn c.before.before).requires.1.0 in
     (search rules, λ h pool. rw c.push_area-all.ensures (gathered_next _ _ _ formed _ l.k l.all (l.invariant.1 h pool)))
 
 abbrev start-of-loop-end : tie.After-loop-k invariant-loop decreases-loop → tie.Start invariant-loop decreases-loop
@@ -65,9 +65,9 @@ start-of-loop-end c = c.before.before.before
 
 returns : tie.Need-returns invariant-loop decreases-loop
 returns c = λ h pool.
-    let l = c.before.loop-k in
+    let l = c.loop-k in
     let start = start-of-loop-end c in
-    let formed = start.requires.formed in
+    let formed = start.requires.1.0 in
     let end : l.k ≡ start.args.present.count = omega (arith, l.invariant.0, c.loop-k-test.false) in
     let left = 8 - start.args.present.count in
     let e : l.k + left ≡ 8 = omega (arith, end, formed.formed.few) in

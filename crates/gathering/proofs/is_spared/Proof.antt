@@ -7,7 +7,7 @@ is-anonymous-requires : tie.Need-is_anonymous-anonymous-requires
 is-anonymous-requires c κs = search rules
 
 returns : tie.Need-returns
-returns c = rw c.before.is_anonymous-anonymous.ensures
+returns c = rw c.is_anonymous-anonymous.ensures
 
 pub is_spared_spec : {M : Type 1} → statement M
 is_spared_spec = tie.close (tie.spec is-anonymous-requires returns)

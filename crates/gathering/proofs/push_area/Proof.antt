@@ -15,7 +15,7 @@ start-of-is-spared c = c.before.before
 returns : tie.Need-returns-then-not-is_spared
 returns c =
     let a = (start-of-is-spared c.before).args in
-    area-left a.table.now a.sandbox a.area a.runs _ c.before.is_spared.ensures (not-true _ c.if-not-is_spared.true-raw)
+    area-left a.table.now a.sandbox a.area a.runs _ c.is_spared.ensures (not-true _ c.if-not-is_spared.true-raw)
 
 fronts-requires : tie.Need-fronts-run-requires
 fronts-requires c κs = search rules
@@ -33,7 +33,7 @@ returns-2 : tie.Need-returns
 returns-2 c =
     let a = (start-of-push c).args in
     area-pushed a.table.now a.sandbox a.area a.runs _ (at-is-spared c).is_spared.ensures _ _
-    (not-false _ c.before.before.if1.false) c.before.fronts-run.ensures c.push.ensures
+    (not-false _ c.if1.false) c.fronts-run.ensures c.push.ensures
 
 pub push_area_spec : {M : Type 1} → statement M
 push_area_spec = tie.close (tie.spec is-spared-requires returns fronts-requires push-requires returns-2)

@@ -22,8 +22,8 @@ lent c = regions c.args.pool.now c.args.table.now c.args.out.now
 -- behind the test there is room for every reply, and all lines are counted
 has_room : (c : tie.Else-not-room)
     → let a = (start_of c.before.before).args in
-    Room a.roll.now a.out.now × (c.before.before.room_for-room.result.lines ≡ lines_of (length a.roll.now))
-has_room c = let got = c.before.before.room_for-room in all-answered got.result _ _ got.ensures c.if-not-room.false
+    Room a.roll.now a.out.now × (c.room_for-room.result.lines ≡ lines_of (length a.roll.now))
+has_room c = let got = c.room_for-room in all-answered got.result _ _ got.ensures c.if-not-room.false
 
 -- ---- the places behind the start and behind the play
 
@@ -43,7 +43,7 @@ room-for-requires c κs = search rules
 
 returns : tie.Need-returns-then-not-room
 returns c =
-    let got = c.before.before.room_for-room in
+    let got = c.room_for-room in
     let first = start_of c.before.before in
     no_room first.args.image.now first.args.roll.now (lent first) _ (none-answered got.result _ _ got.ensures c.if-not-room.true)
 
@@ -83,7 +83,7 @@ returns-2 c =
     let starting = started (accepting playing.before) in
     let branch = roomy starting in
     let first = start_of branch.before.before in
-    room-for-all first.args.image.now first.args.roll.now (lent first) _ branch.before.before.room_for-room.result.lines _ _
+    room-for-all first.args.image.now first.args.roll.now (lent first) _ branch.room_for-room.result.lines _ _
     (has_room branch).0 (has_room branch).1 starting.start.ensures.1 playing.play.ensures
 
 pub gazhuppin_play_spec : {M : Type 1} → statement M

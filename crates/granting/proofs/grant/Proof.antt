@@ -35,10 +35,10 @@ start-of-turn c = c.before.before.before
 
 grant-one-requires : tie.Need-grant_one-g-requires invariant-loop decreases-loop
 grant-one-requires c κs =
-    let l = c.before.before.loop-i in
+    let l = c.loop-i in
     let start = start-of-turn c.before in (
-      omega (arith, l.invariant.1, start.requires.n_in_bounds, c.before.loop-i-test.true),
-      least-low _ l.g.rest l.i _ l.invariant.2 c.before.loop-i-test.true start.requires.n_bound,
+      omega (arith, l.invariant.1, start.requires.0, c.loop-i-test.true),
+      least-low _ l.g.rest l.i _ l.invariant.2 c.loop-i-test.true start.requires.1,
     )
 
 add-i : tie.Need-overflow_step-i invariant-loop decreases-loop
@@ -52,8 +52,8 @@ at_turn c = c.before.before.before.before
 
 loop-again : tie.Need-loop-i-preserved invariant-loop decreases-loop
 loop-again c =
-    let l = (at_turn c).before.loop-i in
-    let e = c.before.before.grant_one-g.ensures in
+    let l = (at_turn c).loop-i in
+    let e = c.grant_one-g.ensures in
     let same = ap length e.1.1 ∙ length-set l.table _ _ in (
       search rules,
       same ∙ l.invariant.1,
@@ -69,7 +69,7 @@ start-of-loop-end c = c.before.before.before
 
 returns : tie.Need-returns invariant-loop decreases-loop
 returns c =
-    let l = c.before.loop-i in
+    let l = c.loop-i in
     let start = start-of-loop-end c in
     let end : l.i ≡ start.args.n = omega (arith, l.invariant.0, c.loop-i-test.false) in
     (λ pool. l.invariant.3 pool ∙ ap (adopt_to _ _ _) end, l.invariant.2 ∙ ap (left_of _) end)

@@ -34,8 +34,8 @@ same_length c = search rules
 
 returns : tie.Need-returns
 returns c = (
-  rw (c.before.with.ensures, c.before.before.least-f.ensures),
-  (rw (c.without.ensures, c.before.before.least-f.ensures), rw c.before.before.least-f.ensures),
+  rw (c.with.ensures, c.least-f.ensures),
+  (rw (c.without.ensures, c.least-f.ensures), rw c.least-f.ensures),
 )
 
 pub grant_one_spec : {M : Type 1} → statement M

@@ -33,14 +33,14 @@ chosen c = (sought c).before.before
 abbrev behind : tie.After-lesser → tie.Start
 behind c = unnamed (tested (chosen c)).before.before
 
-abbrev place_is : (c : tie.After-lesser) → (chosen c).before.fitting-place.result ≡ run_for (behind c).args.q.p2 (lengths_of (behind c).args.b.runs)
-place_is c = (chosen c).before.fitting-place.ensures.value
+abbrev place_is : (c : tie.After-lesser) → (chosen c).fitting-place.result ≡ run_for (behind c).args.q.p2 (lengths_of (behind c).args.b.runs)
+place_is c = (chosen c).fitting-place.ensures.0
 
 counted : (c : tie.After-lesser) → let run = (chosen c).at-run.result in let pages = (behind c).args.q.p2 in
     c.lesser.result ≡ (pages when leb pages (count_held run) else count_held run)
 counted c =
     let pages = (behind c).args.q.p2 in
-    c.lesser.ensures ∙ ap (λ (n : ℕ). pages when leb pages n else n) c.before.count.ensures
+    c.lesser.ensures ∙ ap (λ (n : ℕ). pages when leb pages n else n) c.count.ensures
 
 run-here : (c : tie.After-lesser) → (chosen c).at-run.result ≡ row (behind c).args.b.runs (run_for (behind c).args.q.p2 (lengths_of (behind c).args.b.runs))
 run-here c = (chosen c).at-run.ensures ∙ ap (row (behind c).args.b.runs) (place_is c)
@@ -48,7 +48,7 @@ run-here c = (chosen c).at-run.ensures ∙ ap (row (behind c).args.b.runs) (plac
 frames-here : (c : tie.After-lesser) → c.lesser.result ≡ granted (behind c).args.q.p2 (lengths_of (behind c).args.b.runs)
 frames-here c =
     let s = behind c in
-    frames-there s.args.q s.args.b s.requires.code_value (tested (chosen c)).before.before.if1.false
+    frames-there s.args.q s.args.b s.requires.0 (tested (chosen c)).before.before.if1.false
     (tested (chosen c)).if2.false
     _ c.lesser.result _ (place_is c) (chosen c).at-run.ensures (counted c)
 
@@ -82,8 +82,8 @@ at-requires c κs = search rules
 first-of-requires : tie.Need-first_of-first-requires
 first-of-requires c κs =
     let s = unnamed (tested c.before).before.before in
-    let ready = s.requires.by_index in
-    (settled ready.0 s.args.b.rec.present ready.1.sound.present ready.1.few, (s.requires.code_value, s.requires.fit))
+    let ready = s.requires.1.1.1.0 in
+    (settled ready.0 s.args.b.rec.present ready.1.sound.present ready.1.few, (s.requires.0, s.requires.1.1.0))
 
 cast-at : tie.Need-overflow_cast-at
 cast-at c = search rules
@@ -108,7 +108,7 @@ grant-requires c κs =
     let s = behind c in
     let n = frames-here c in
     let lengths = lengths_of s.args.b.runs in (
-      omega (arith, (sought c).first_of-first.ensures, s.requires.sandbox_bound, s.requires.p2_bound, s.requires.table_len, n, granted-le s.args.q.p2 lengths),
+      omega (arith, (sought c).first_of-first.ensures, s.requires.1.0, s.requires.1.1.1.1.0, s.requires.1.1.1.1.1, n, granted-le s.args.q.p2 lengths),
       rw (run-here c) (omega (arith, n, granted-run s.args.q.p2 lengths)),
     )
 
@@ -125,12 +125,12 @@ returns-3 c =
     let s = behind counting in
     let named = (tested (chosen counting)).before.before.if1.false in
     let image = (tested (chosen counting)).if2.false in
-    let place = (chosen counting).before.fitting-place.result in (
-      λ pool. granting.grant-granted.ensures.by_index pool
-          ∙ taken-store s.args.q s.args.b s.requires.code_value named image place counting.lesser.result (chosen counting).at-run.result (place_is counting)
+    let place = (chosen counting).fitting-place.result in (
+      λ pool. granting.grant-granted.ensures.0 pool
+          ∙ taken-store s.args.q s.args.b s.requires.0 named image place counting.lesser.result (chosen counting).at-run.result (place_is counting)
           (chosen counting).at-run.ensures (counted counting) _ (sought counting).first_of-first.result _ refl (sought counting).first_of-first.ensures,
-      c.with.ensures ∙ ap (λ (h : Held). with_run_at place h s.args.b.runs) granting.grant-granted.ensures.rest
-          ∙ taken_runs s.args.q s.args.b s.requires.code_value named image place counting.lesser.result (chosen counting).at-run.result (place_is counting)
+      c.with.ensures ∙ ap (λ (h : Held). with_run_at place h s.args.b.runs) granting.grant-granted.ensures.1
+          ∙ taken_runs s.args.q s.args.b s.requires.0 named image place counting.lesser.result (chosen counting).at-run.result (place_is counting)
           (chosen counting).at-run.ensures (counted counting),
     )
 

@@ -29,8 +29,8 @@ returns-2 c w A = tried_same A c.look-answer.result (c.look-answer.ensures w A)
 
 returns-3 : tie.Need-returns
 returns-3 c w A =
-    let code = c.before.before.before.before.before.args.q.code in
-    tried-none A (Value 0) (eqb-false code write_code (or_right (eqb code read_code) (eqb code write_code) c.before.if-code.false))
+    let code = c.args.q.code in
+    tried-none A (Value 0) (eqb-false code write_code (or_right (eqb code read_code) (eqb code write_code) c.if-code.false))
 
 pub answer_spec : {M : Type 1} → statement M
 answer_spec =

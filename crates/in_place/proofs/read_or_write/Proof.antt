@@ -74,27 +74,27 @@ number c w A = sym (number-here A 0 (λ frames shares. sym (told c frames shares
 fit : (c : tie.In-Page-2) → Fit (paged c).args.q
 fit c =
     let s = paged c in
-    let A = s.requires.stands.1 in
-    (asked s.args.image.now s.requires.stands.0 s.args.q (state A) (number c s.requires.stands.0 A)).fit
+    let A = s.requires.1.1.1 in
+    (asked s.args.image.now s.requires.1.1.0 s.args.q (state A) (number c s.requires.1.1.0 A)).fit
 
 -- where the byte is read, and where it is stored
 abbrev reading : tie.After-read-arg → tie.In-Page-2
 reading c = c.before.before.before.before
 
 abbrev storing : tie.After-store-arg-1 → tie.In-Page-2
-storing c = c.before.before.before.before
+storing c = c.before.before.before
 
 writes : (c : tie.After-store-arg-1) → (paged (storing c)).args.q.code ≡ write_code
 writes c =
     let s = paged (storing c) in
     let q = s.args.q in
-    let h : (q is write_code) ≡ true = rw (ne_eqb q.code read_code c.before.if-q-eq-READ.false) at s.requires.is_value in
+    let h : (q is write_code) ≡ true = rw (ne_eqb q.code read_code c.if-q-eq-READ.false) at s.requires.0 in
     eqb-true q.code write_code h
 
 -- ---- the needs
 
 cast-images : tie.Need-overflow_cast-images
-cast-images c = omega (arith, (state (start c).requires.stands.1).images)
+cast-images c = omega (arith, (state (start c).requires.1.1.1).images)
 
 decide-requires : tie.Need-decide-access-requires
 decide-requires c κs = let p = (start c).requires in (p.0, (p.1.0, ready-here p.1.1.1 p.1.0))
@@ -108,8 +108,8 @@ enum-known-access-2 c = search rules
 read-requires : tie.Need-read-byte-requires
 read-requires c κs =
     let found = reading c in
-    let A = (paged found).requires.stands.1 in
-    (placed-here A (paged found).requires.sandbox_bound (slot_at found) (slot_is found) ((fit found).read c.before.if1.true), ranged-here A)
+    let A = (paged found).requires.1.1.1 in
+    (placed-here A (paged found).requires.1.0 (slot_at found) (slot_is found) ((fit found).read c.if1.true), ranged-here A)
 
 cast-t20 : tie.Need-overflow_cast-result
 cast-t20 c = search rules
@@ -122,23 +122,23 @@ returns c w A =
     let found = reading c.before in
     let s = paged found in
     let q = s.args.q in
-    let e = c.before.before.if1.true in
+    let e = c.if1.true in
     tried_same A (Value c.read-byte.result)
-    (looked A (few-access q s.requires.is_value) (access-stays q s.requires.is_value) (number found w A) (rw e) c.read-byte.result
-    (read_here A s.requires.sandbox_bound (slot_at found) (slot_is found) e c.read-byte.result c.read-byte.ensures))
+    (looked A (few-access q s.requires.0) (access-stays q s.requires.0) (number found w A) (rw e) c.read-byte.result
+    (read_here A s.requires.1.0 (slot_at found) (slot_is found) e c.read-byte.result c.read-byte.ensures))
 
 store-requires : tie.Need-store-stored-requires
 store-requires c κs =
     let found = storing c in
     let s = paged found in
     let limits = (fit found).written (writes c) in
-    (s.requires.sandbox_bound, (limits.0, (limits.1, ranged-here s.requires.stands.1)))
+    (s.requires.1.0, (limits.0, (limits.1, ranged-here s.requires.1.1.1)))
 
 returns-2 : tie.Need-returns-in-Refused
 returns-2 c w A =
-    let arm = c.before in
-    let s = decided arm.before.before in
-    let why = arm.access-1.given.0.0 in
+    let arm = c. in
+    let s = decided arm.before in
+    let why = arm.in-Refused.why in
     tried_same A (Refused why) (stepped-refused s.args.image.now w s.args.q why (number-here A (refusal_number why) (refused arm)))
 
 same-length-2 : tie.Need-shape_of-pool
@@ -150,7 +150,7 @@ returns-3 c w A =
     let found = storing stored.before in
     let s = paged found in
     let q = s.args.q in
-    tried-store A (few-access q s.requires.is_value) (access-stays q s.requires.is_value) (number found w A) (writes stored.before) stored.store-stored.result _
+    tried-store A (few-access q s.requires.0) (access-stays q s.requires.0) (number found w A) (writes stored.before) stored.store-stored.result _
     stored.store-stored.ensures
 
 pub read_or_write_spec : {M : Type 1} → statement M

@@ -10,7 +10,7 @@ both-requires : tie.Need-both-requires
 both-requires c κs = search rules
 
 returns : tie.Need-returns
-returns c = rw (c.both.ensures, c.before.before.apart.ensures)
+returns c = rw (c.both.ensures, c.apart.ensures)
 
 pub add_run_spec : {M : Type 1} → statement M
 add_run_spec = tie.close (tie.spec apart-requires both-requires returns)

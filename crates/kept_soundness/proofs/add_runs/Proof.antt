@@ -21,7 +21,7 @@ is-none-requires c κs = search rules
 returns : tie.Need-returns-then-is_none invariant-loop decreases-loop
 returns c =
     let s = c.before.before in
-    none-added (row s.args.runs) s.args.found (sym c.before.is_none.ensures ∙ c.if-is_none.true)
+    none-added (row s.args.runs) s.args.found (sym c.is_none.ensures ∙ c.if-is_none.true)
 
 loop-holds : tie.Need-loop-i-init invariant-loop decreases-loop
 unfolding runs_to
@@ -50,11 +50,11 @@ loop-again : tie.Need-loop-i-preserved invariant-loop decreases-loop
 loop-again c =
     let start = start-of-loop (at-loop c) in
     let l = (at-loop c).loop-i in
-    (search rules, c.add_run-m.ensures ∙ runs-more (row start.args.runs) start.args.found l.m l.i _ l.invariant.1 c.before.at.ensures)
+    (search rules, c.add_run-m.ensures ∙ runs-more (row start.args.runs) start.args.found l.m l.i _ l.invariant.1 c.at.ensures)
 
 returns-2 : tie.Need-returns invariant-loop decreases-loop
 returns-2 c =
-    let l = c.before.loop-i in
+    let l = c.loop-i in
     let end : l.i ≡ 8 = omega (arith, l.invariant.0, c.loop-i-test.false) in
     let s = start-of-loop c.before in
     l.invariant.1 ∙ ap (runs_to (row s.args.runs) s.args.found) end

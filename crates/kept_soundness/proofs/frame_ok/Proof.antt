@@ -12,7 +12,7 @@ is-blank-requires : tie.Need-is_blank-requires
 is-blank-requires c κs = search rules
 
 returns-2 : tie.Need-returns
-returns-2 c = c.is_blank.ensures ∙ rw (lt-ltb _ _ c.before.if-frames-f.false)
+returns-2 c = c.is_blank.ensures ∙ rw (lt-ltb _ _ c.if-frames-f.false)
 
 pub frame_ok_spec : {M : Type 1} → statement M
 frame_ok_spec = tie.close (tie.spec returns is-blank-requires returns-2)

@@ -44,13 +44,13 @@ returns : tie.Need-returns-then-not-frame_ok invariant-loop decreases-loop
 returns c =
     let l = (at-loop c.before).loop-left in
     sym (l.invariant.1
-    ∙ least-fails _ _ l.rest (omega (arith, l.invariant.0, (turn-of-frame-ok c.before).loop-left-test.taken)) _ c.before.before.least-f.ensures _
-    c.before.frame_ok.ensures (not-true _ c.if-not-frame_ok.true-raw))
+    ∙ least-fails _ _ l.rest (omega (arith, l.invariant.0, (turn-of-frame-ok c.before).loop-left-test.taken)) _ c.least-f.ensures _
+    c.frame_ok.ensures (not-true _ c.if-not-frame_ok.true-raw))
 
 without-requires : tie.Need-without-rest-requires invariant-loop decreases-loop
 without-requires c κs =
     let l = (at-loop c.before).loop-left in
-    (least-there l.rest (omega (arith, l.invariant.0, (turn-of-frame-ok c.before).loop-left-test.taken)) _ c.before.before.least-f.ensures).0
+    (least-there l.rest (omega (arith, l.invariant.0, (turn-of-frame-ok c.before).loop-left-test.taken)) _ c.least-f.ensures).0
 
 sub-left : tie.Need-overflow_sub-left invariant-loop decreases-loop
 sub-left c = search rules
@@ -66,19 +66,19 @@ turn-of-without c = turn-of-frame-ok c.before.before
 
 loop-again : tie.Need-loop-left-preserved invariant-loop decreases-loop
 loop-again c =
-    let l = (turn-of-without c).before.loop-left in
+    let l = (turn-of-without c).loop-left in
     let a = (at-start (turn-of-without c)).args in
     let f = (at_least c).least-f.result in
     let some : 1 ≤ count_held l.rest = omega (arith, l.invariant.0, (turn-of-without c).loop-left-test.true) in
     let there = least-there l.rest some f (at_least c).least-f.ensures in
     let fewer : l.left - 1 ≡ count_held (mark l.rest f 0) = omega (arith, l.invariant.0, count-without l.rest f there.0 there.1) in
-    let passes = least-passes a.frames a.pool.now l.rest some f (at_least c).least-f.ensures _ c.before.before.frame_ok.ensures
-    (not-false _ c.before.if-not-frame_ok.false-raw) in
+    let passes = least-passes a.frames a.pool.now l.rest some f (at_least c).least-f.ensures _ c.frame_ok.ensures
+    (not-false _ c.if-not-frame_ok.false-raw) in
     rw c.without-rest.ensures (fewer, l.invariant.1 ∙ passes)
 
 returns-2 : tie.Need-returns invariant-loop decreases-loop
 returns-2 c =
-    let l = c.before.loop-left in
+    let l = c.loop-left in
     sym (l.invariant.1 ∙ none_left _ _ l.rest (omega (arith, l.invariant.0, c.loop-left-test.false)))
 
 pub frames_ok_spec : {M : Type 1} → statement M

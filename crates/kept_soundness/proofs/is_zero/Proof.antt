@@ -42,13 +42,13 @@ loop-less c = search rules
 loop-again : tie.Need-loop-i-preserved invariant-loop decreases-loop
 loop-again c =
     let page = (at-start c).args.page.now in
-    let l = c.before.before.loop-i in
+    let l = c.loop-i in
     (search rules, rw l.invariant.1 (sym (every-last (of page) l.i)))
 
 returns : tie.Need-returns invariant-loop decreases-loop
 returns c =
-    let l = c.before.loop-i in
-    l.invariant.1 ∙ ap (every (of c.before.before.args.page.now) 0) (omega (arith, l.invariant.0, c.loop-i-test.false))
+    let l = c.loop-i in
+    l.invariant.1 ∙ ap (every (of c.args.page.now) 0) (omega (arith, l.invariant.0, c.loop-i-test.false))
 
 pub is_zero_spec : {M : Type 1} → statement M
 is_zero_spec = tie.close (tie.spec invariant-loop decreases-loop loop-holds shared-slice-read-zero add-i loop-less loop-again returns)

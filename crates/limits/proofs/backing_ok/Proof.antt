@@ -5,7 +5,7 @@ use Rattle.limits.proofs.backing_ok.Statement.{statement}
 use Rattle.limits.proofs.backing_ok.Tie as tie
 
 returns : tie.Need-returns-then-q-eq-ANONYMOUS
-returns c = rw (eq-eqb _ _ c.before.if-q-eq-ANONYMOUS.true)
+returns c = rw (eq-eqb _ _ c.if-q-eq-ANONYMOUS.true)
 
 cast-end : tie.Need-overflow_cast-end
 cast-end c = search rules
@@ -17,7 +17,7 @@ add-end : tie.Need-overflow_add-end
 add-end c = search rules
 
 returns-2 : tie.Need-returns
-returns-2 c = rw (ne_eqb _ _ c.before.before.before.if-q-eq-ANONYMOUS.false)
+returns-2 c = rw (ne_eqb _ _ c.if-q-eq-ANONYMOUS.false)
 
 pub backing_ok_spec : {M : Type 1} → statement M
 backing_ok_spec = tie.close (tie.spec returns cast-end cast-end-2 add-end returns-2)

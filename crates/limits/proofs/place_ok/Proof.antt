@@ -10,7 +10,7 @@ pages-ok-requires : tie.Need-pages_ok-requires
 pages-ok-requires c κs = search rules
 
 returns : tie.Need-returns
-returns c = rw (c.pages_ok.ensures, c.before.is_count.ensures)
+returns c = rw (c.pages_ok.ensures, c.is_count.ensures)
 
 pub place_ok_spec : {M : Type 1} → statement M
 place_ok_spec = tie.close (tie.spec is-count-requires pages-ok-requires returns)

@@ -13,7 +13,7 @@ uses-one-requires c κs = search rules
 
 returns : tie.Need-returns-in-1
 unfolding within
-returns c = rw (c.uses_one.ensures, c.before.is_between.ensures, c.before.before.in-1.keys1)
+returns c = rw (c.uses_one.ensures, c.is_between.ensures, c.in-1.is)
 
 place-ok-requires : tie.Need-place_ok-requires
 place-ok-requires c κs = search rules
@@ -26,7 +26,7 @@ rights-ok-requires c κs = search rules
 
 returns-2 : tie.Need-returns-in-2
 unfolding within
-returns-2 c = rw (c.rights_ok.ensures, c.before.backing_ok.ensures, c.before.before.Place-ok.ensures, c.before.before.before.in-2.keys2)
+returns-2 c = rw (c.rights_ok.ensures, c.backing_ok.ensures, c.Place-ok.ensures, c.in-2.is)
 
 pages-ok-requires : tie.Need-pages_ok-requires
 pages-ok-requires c κs = search rules
@@ -36,7 +36,7 @@ uses-two-requires c κs = search rules
 
 returns-3 : tie.Need-returns-in-3
 unfolding within
-returns-3 c = rw (c.uses_two.ensures, c.before.pages_ok.ensures, c.before.before.in-3.keys3)
+returns-3 c = rw (c.uses_two.ensures, c.pages_ok.ensures, c.in-3.is)
 
 pages-ok-requires-2 : tie.Need-pages_ok-requires-in-4
 pages-ok-requires-2 c κs = search rules
@@ -49,7 +49,7 @@ uses-three-requires c κs = search rules
 
 returns-4 : tie.Need-returns-in-4
 unfolding within
-returns-4 c = rw (c.uses_three.ensures, c.before.rights_ok-in-4.ensures, c.before.before.pages_ok-in-4.ensures, c.before.before.before.in-4.keys4)
+returns-4 c = rw (c.uses_three.ensures, c.rights_ok-in-4.ensures, c.pages_ok-in-4.ensures, c.in-4.is)
 
 is-address-requires : tie.Need-is_address-requires
 is-address-requires c κs = search rules
@@ -59,7 +59,7 @@ uses-one-requires-2 c κs = search rules
 
 returns-5 : tie.Need-returns-in-5
 unfolding within
-returns-5 c = rw (c.uses_one-in-5.ensures, c.before.is_Address.ensures, c.before.before.in-5.keys5)
+returns-5 c = rw (c.uses_one-in-5.ensures, c.is_Address.ensures, c.in-5.is)
 
 is-address-requires-2 : tie.Need-is_address-requires-in-6
 is-address-requires-2 c κs = search rules
@@ -72,7 +72,7 @@ uses-two-requires-2 c κs = search rules
 
 returns-6 : tie.Need-returns-in-6
 unfolding within
-returns-6 c = rw (c.uses_two-in-6.ensures, c.before.is_byte_lem.ensures, c.before.before.is_address-in-6.ensures, c.before.before.before.in-6.keys6)
+returns-6 c = rw (c.uses_two-in-6.ensures, c.is_byte_lem.ensures, c.is_address-in-6.ensures, c.in-6.is)
 
 uses-none-requires : tie.Need-uses_none-requires
 uses-none-requires c κs = search rules
@@ -80,7 +80,7 @@ uses-none-requires c κs = search rules
 returns-7 : tie.Need-returns-in_default
 unfolding within
 returns-7 c =
-    let no = c.before.in_default.rest in
+    let no = c.in_default.in_default-own.rest in
     rw (
       c.uses_none.ensures,
       ne_eqb _ _ no.0.0.0.0.0.1,

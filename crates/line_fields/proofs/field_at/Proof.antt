@@ -32,9 +32,9 @@ as-field-requires c κs = search rules
 returns : tie.Need-returns-then-five_blanks
 returns c =
     let tested = c.before.before.before.before in
-    let a = tested.before.before.args in
-    let blank = sym tested.five_blanks.ensures ∙ c.before.before.before.if-five_blanks.true in
-    c.as_field.ensures ∙ c.before.with_digit.ensures ∙ short-at a.line.now a.k blank
+    let a = tested.args in
+    let blank = sym tested.five_blanks.ensures ∙ c.if-five_blanks.true in
+    c.as_field.ensures ∙ c.with_digit.ensures ∙ short-at a.line.now a.k blank
 
 sub-read-field : tie.Need-slice_bounds-read_field-count
 sub-read-field c = search rules
@@ -50,7 +50,7 @@ read-field-requires c κs = search rules
 
 returns-2 : tie.Need-returns
 unfolding field_at
-returns-2 c = rw (c.read_field.ensures, add-sub_cancel_left (c.before.before.before.before.before.args.k * 6) 6)
+returns-2 c = rw (c.read_field.ensures, add-sub_cancel_left (c.args.k * 6) 6)
 
 pub field_at_spec : {M : Type 1} → statement M
 field_at_spec =

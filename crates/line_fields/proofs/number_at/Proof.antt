@@ -29,8 +29,8 @@ with-digit-requires c κs = search rules
 returns : tie.Need-returns-then-five_blanks
 returns c =
     let tested = c.before.before.before in
-    let a = tested.before.before.args in
-    c.with_digit.ensures ∙ short-at a.line.now a.k (sym tested.five_blanks.ensures ∙ c.before.before.if-five_blanks.true)
+    let a = tested.args in
+    c.with_digit.ensures ∙ short-at a.line.now a.k (sym tested.five_blanks.ensures ∙ c.if-five_blanks.true)
 
 sub-read-number : tie.Need-slice_bounds-read_number-count
 sub-read-number c = search rules
@@ -46,7 +46,7 @@ read-number-requires c κs = search rules
 
 returns-2 : tie.Need-returns
 unfolding field_at
-returns-2 c = rw (c.read_number.ensures, add-sub_cancel_left (c.before.before.before.before.before.args.k * 6) 6)
+returns-2 c = rw (c.read_number.ensures, add-sub_cancel_left (c.args.k * 6) 6)
 
 pub number_at_spec : {M : Type 1} → statement M
 number_at_spec =

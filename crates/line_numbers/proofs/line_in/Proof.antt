@@ -83,7 +83,7 @@ shared-slice-read-t33 c = search rules
 
 returns-2 : tie.Need-returns
 unfolding line_in
-returns-2 c = rw (ne_eqb _ _ c.before.before.before.before.before.before.before.if-numbers-at-eq0.false)
+returns-2 c = rw (ne_eqb _ _ c.if-numbers-at-eq0.false)
 
 pub line_in_spec : {M : Type 1} → statement M
 line_in_spec =

@@ -21,14 +21,14 @@ same_length c = search rules
 
 returns : tie.Need-returns-in-Call
 unfolding numbers_of
-returns c = rw c.before.before.before.before.before.line-1.given.1 c.before.before.put_numbers.ensures
+returns c = rw c.in-Call.is c.put_numbers.ensures
 
 same-length-2 : tie.Need-shape_of-part-in-Malformed
 same-length-2 c = search rules
 
 returns-2 : tie.Need-returns-in-Malformed
 unfolding numbers_of
-returns-2 c = rw c.before.before.before.before.enum_told-1.given.1 c.before.before.put_numbers-in-Malformed.ensures
+returns-2 c = rw c.in-Malformed.is c.put_numbers-in-Malformed.ensures
 
 pub put_spec : {M : Type 1} → statement M
 put_spec =

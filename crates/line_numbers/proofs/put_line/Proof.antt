@@ -34,8 +34,8 @@ same_length c = search rules
 
 returns : tie.Need-returns
 returns c =
-    let shown = c.before.before.put in
-    let a = c.before.before.before.before.before.args in
+    let shown = c.put in
+    let a = c.args in
     let at = a.k * 8 in
     part-is a.numbers.now shown.new.0 at ∙ ap (λ ys. take at a.numbers.now ++ (ys ++ drop (at + 8) a.numbers.now)) shown.ensures
 

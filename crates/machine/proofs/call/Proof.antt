@@ -41,20 +41,20 @@ four c = search length-mapped
 abbrev behind_code : tie.Else-not-is_call → tie.Start
 behind_code c = c.before.before.before.before.before
 
-no_call : (c : tie.Then-not-is_call) → is_call c.before.before.before.before.before.args.q ≡ false
-no_call c = sym c.before.is_call.ensures ∙ not-true c.before.is_call.result c.if-not-is_call.true-raw
+no_call : (c : tie.Then-not-is_call) → is_call c.args.q ≡ false
+no_call c = sym c.is_call.ensures ∙ not-true c.is_call.result c.if-not-is_call.true-raw
 
 a_call : (c : tie.Else-not-is_call) → is_call (behind_code c).args.q ≡ true
-a_call c = sym c.before.is_call.ensures ∙ not-false c.before.is_call.result c.if-not-is_call.false-raw
+a_call c = sym c.is_call.ensures ∙ not-false c.is_call.result c.if-not-is_call.false-raw
 
 abbrev behind_state : tie.Else-not-sound → tie.Start
 behind_state c = behind_code c.before.before.before.before
 
 fails : (c : tie.Then-not-sound) → let start = behind_code c.before.before.before.before in soundb (image_in start) (world_in start) ≡ false
-fails c = sym c.before.sound.ensures ∙ not-true c.before.sound.result c.if-not-sound.true-raw
+fails c = sym c.sound.ensures ∙ not-true c.sound.result c.if-not-sound.true-raw
 
 passes : (c : tie.Else-not-sound) → soundb (image_in (behind_state c)) (world_in (behind_state c)) ≡ true
-passes c = sym c.before.sound.ensures ∙ not-false c.before.sound.result c.if-not-sound.false-raw
+passes c = sym c.sound.ensures ∙ not-false c.sound.result c.if-not-sound.false-raw
 
 abbrev behind_row : tie.Else-q-ge-SANDBOXES → tie.Start
 behind_row c = behind_state c.before.before
@@ -92,7 +92,7 @@ left-of c = c.before.before.before.before.before
 pool-stays : (c : tie.After-put_together-all) → let s = behind_row (tried (left-of c)) in (left-of c).answer-tried.new.1.0 ≡ s.args.pool.now
 pool-stays c =
     let behind = left-of c in
-    (behind.answer-tried.ensures (world_in (behind_row (tried behind))) (around (tried behind))).left c.before.before.if-tried.false
+    (behind.answer-tried.ensures (world_in (behind_row (tried behind))) (around (tried behind))).left c.if-tried.false
 
 stands : (c : tie.After-put_together-all) → let s = behind_row (tried (left-of c)) in let all = c.put_together-all.result in
     Stands (image_in s) s.args.q (own s) all (kept all.held (left-of c).answer-tried.new.1.0 s.args.table.now) s.args.machine.sandboxes
@@ -175,7 +175,7 @@ returns-3 c =
     rw c.refuse-then-q-ge-SANDBOXES.ensures
     (stepped-refused (image_in start) (world_in start) start.args.q NotOpen
     (number-four (image_in start) (world_in start) start.args.q (a_call sounded.before.before.before.before) (passes sounded)
-    (omega (arith, c.before.if-q-ge-SANDBOXES.true))))
+    (omega (arith, c.if-q-ge-SANDBOXES.true))))
 
 cast-k : tie.Need-overflow_cast-k
 cast-k c = search rules
@@ -242,7 +242,7 @@ act-requires c κs =
     let row = tried (left-of told) in
     let s = behind_row row in (
       a_call row.before.before.before.before.before.before,
-      ((left-of told).before.before.before.if4.false, (in-row row, (s.args.machine.sandboxes, stands told))),
+      ((left-of told).if4.false, (in-row row, (s.args.machine.sandboxes, stands told))),
     )
 
 mul-after : tie.Need-offset_bounds-m-k-2
@@ -267,7 +267,7 @@ returns-6 c =
     let told = acted.before.before.before in
     let s = behind_row (tried (left-of told)) in
     stepped-back (image_in s) s.args.q s.args.machine s.args.pool.now _ s.args.table.now told.put_together-all.result
-    told.put_together-all.ensures.held_value (pool-stays told) _ (acted.act-acted.ensures s.args.machine.sandboxes (stands told))
+    told.put_together-all.ensures.0 (pool-stays told) _ (acted.act-acted.ensures s.args.machine.sandboxes (stands told))
 
 pub call_spec : {M : Type 1} → statement M
 call_spec =

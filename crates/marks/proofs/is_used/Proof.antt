@@ -8,7 +8,7 @@ returns : tie.Need-returns-then-entry-eq0
 returns c = search rules
 
 returns-2 : tie.Need-returns
-returns-2 c = used-one c.before.args.entry c.if-entry-eq0.false
+returns-2 c = used-one c.args.entry c.if-entry-eq0.false
 
 pub is_used_spec : {M : Type 1} → statement M
 is_used_spec = tie.close (tie.spec returns returns-2)

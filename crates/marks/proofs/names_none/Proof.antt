@@ -48,13 +48,13 @@ loop-less c = search rules
 loop-again : tie.Need-loop-j-preserved invariant-loop decreases-loop
 loop-again c =
     let a = (at-start c).args in
-    let l = c.before.before.loop-j in
+    let l = c.loop-j in
     (search rules, rw l.invariant.1 (sym (every-last (of a.table.now a.at) l.j)))
 
 returns : tie.Need-returns invariant-loop decreases-loop
 returns c =
-    let a = c.before.before.args in
-    let l = c.before.loop-j in
+    let a = c.args in
+    let l = c.loop-j in
     l.invariant.1 ∙ ap (every (of a.table.now a.at) 0) (omega (arith, l.invariant.0, c.loop-j-test.false))
 
 pub names_none_spec : {M : Type 1} → statement M

@@ -40,7 +40,7 @@ abbrev at-loop : tie.After-is_used-n invariant-loop decreases-loop → tie.At-lo
 at-loop c = c.before.before.before
 
 add-n : tie.Need-overflow_add-n invariant-loop decreases-loop
-add-n c = let l = (at-loop c).loop-i in omega (arith, l.invariant.1, l.invariant.0, c.is_used-n.ensures.small)
+add-n c = let l = (at-loop c).loop-i in omega (arith, l.invariant.1, l.invariant.0, c.is_used-n.ensures.1)
 
 add-i : tie.Need-overflow_step-i invariant-loop decreases-loop
 add-i c = search rules
@@ -56,8 +56,8 @@ loop-again c =
     let l = (at-loop c).loop-i in
     let a = (start-of-turn c.before.before).args in (
       search rules,
-      omega (arith, l.invariant.1, c.is_used-n.ensures.small),
-      used-more (from (a.sandbox * 128) a.table.now) l.i l.n _ l.invariant.2 c.is_used-n.ensures.value,
+      omega (arith, l.invariant.1, c.is_used-n.ensures.1),
+      used-more (from (a.sandbox * 128) a.table.now) l.i l.n _ l.invariant.2 c.is_used-n.ensures.0,
     )
 
 abbrev start-of-loop-end : tie.After-loop-i invariant-loop decreases-loop → tie.Start invariant-loop decreases-loop
@@ -65,7 +65,7 @@ start-of-loop-end c = c.before.before.before
 
 returns : tie.Need-returns invariant-loop decreases-loop
 returns c =
-    let l = c.before.loop-i in
+    let l = c.loop-i in
     let a = (start-of-loop-end c).args in
     let end : l.i ≡ 128 = omega (arith, l.invariant.0, c.loop-i-test.false) in
     (l.invariant.2 ∙ ap (used_below (from (a.sandbox * 128) a.table.now)) end, omega (arith, l.invariant.1, l.invariant.0))

@@ -11,7 +11,7 @@ as-field-requires : tie.Need-as_field-requires
 as-field-requires c κs = search rules
 
 returns : tie.Need-returns
-returns c = c.as_field.ensures ∙ c.before.read_number.ensures
+returns c = c.as_field.ensures ∙ c.read_number.ensures
 
 pub read_field_spec : {M : Type 1} → statement M
 read_field_spec = tie.close (tie.spec read-number-requires as-field-requires returns)

@@ -12,7 +12,7 @@ use Rattle.numerals.proofs.read_number.Tie as tie
 
 -- the columns that are known to be blanks behind each test
 abbrev text : tie.Else-part-ne32 → List ℕ
-text c = c.before.before.before.args.part.now
+text c = c.args.part.now
 
 passed-1 : (c : tie.Else-part-ne32) → columns_read (text c) 1 ≡ Number 0
 passed-1 c = blank-read (text c) 0 (start-read (text c)) c.if-part-ne32.false

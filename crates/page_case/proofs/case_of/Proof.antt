@@ -11,8 +11,8 @@ returns c = search rules
 
 returns-2 : tie.Need-returns-then-back-ne0
 returns-2 c =
-    let a = c.before.before.args in
-    (one-case a.front a.back a.backing).alone Copied (omega (arith, c.before.if-front-eq0.false), omega (arith, c.if-back-ne0.true))
+    let a = c.args in
+    (one-case a.front a.back a.backing).alone Copied (omega (arith, c.if-front-eq0.false), omega (arith, c.if-back-ne0.true))
 
 enum_told : tie.Need-enum_told-1
 enum_told c = search rules
@@ -22,15 +22,15 @@ enum-known-backing c = search rules
 
 returns-3 : tie.Need-returns-in-Anonymous
 returns-3 c =
-    let a = c.before.before.before.before.args in
+    let a = c.args in
     (one-case a.front a.back a.backing).alone Zeroed
-    (omega (arith, c.before.before.before.if-front-eq0.false), omega (arith, c.before.before.if-back-ne0.false), c.enum_told-1.given.1)
+    (omega (arith, c.if-front-eq0.false), omega (arith, c.if-back-ne0.false), c.in-Anonymous.is)
 
 returns-4 : tie.Need-returns-in-Image
 returns-4 c =
-    let a = c.before.before.before.before.before.args in
-    (one-case a.front a.back a.backing).alone (ImagePage c.before.backing-1.given.0.0)
-    (omega (arith, c.before.before.before.before.if-front-eq0.false), omega (arith, c.before.before.before.if-back-ne0.false), c.before.backing-1.given.1)
+    let a = c.args in
+    (one-case a.front a.back a.backing).alone (ImagePage c.in-Image.page)
+    (omega (arith, c.if-front-eq0.false), omega (arith, c.if-back-ne0.false), c.in-Image.is)
 
 pub case_of_spec : {M : Type 1} → statement M
 case_of_spec =

@@ -48,8 +48,8 @@ returns c =
     let s = named frame.before in
     let a = s.args in
     let f = frame.frame_of in
-    let here = at-frame a.pool.now a.image.now a.entry a.backing f.result.0 f.ensures frame.before.if-entry-ne0.true in
-    has-page s.args.part.now _ _ c.is_same.result s.requires.part_len here c.is_same.ensures
+    let here = at-frame a.pool.now a.image.now a.entry a.backing f.result.0 f.ensures frame.if-entry-ne0.true in
+    has-page s.args.part.now _ _ c.is_same.result s.requires.0 here c.is_same.ensures
 
 enum_told : tie.Need-enum_told-1
 enum_told c = search rules
@@ -79,7 +79,7 @@ part-is-same-start-2 : tie.Need-slice_bounds-is_same-start-in-Image
 part-is-same-start-2 c = search rules
 
 part-is-same-end-2 : tie.Need-slice_bounds-is_same-end-in-Image
-part-is-same-end-2 c = omega (arith, ap backing_end c.before.before.backing-1.given.1)
+part-is-same-end-2 c = omega (arith, ap backing_end c.in-Image.is)
 
 is-same-requires-3 : tie.Need-is_same-requires-in-Image
 is-same-requires-3 c κs = search rules
@@ -88,20 +88,20 @@ returns-2 : tie.Need-returns-in-Anonymous
 unfolding zeros
 returns-2 c =
     let told = c.before.before in
-    let s = unnamed told.before.before in
-    let a = (unnamed told.before.before).args in
-    let none = told.before.before.if-entry-ne0.false in
-    let here = at_zero a.pool.now a.image.now a.entry a.backing none told.enum_told-1.given.1 in
-    has-page s.args.part.now _ _ c.is_same-in-Anonymous.result s.requires.part_len here c.is_same-in-Anonymous.ensures
+    let s = unnamed told.before in
+    let a = (unnamed told.before).args in
+    let none = told.if-entry-ne0.false in
+    let here = at_zero a.pool.now a.image.now a.entry a.backing none told.in-Anonymous.is in
+    has-page s.args.part.now _ _ c.is_same-in-Anonymous.result s.requires.0 here c.is_same-in-Anonymous.ensures
 
 returns-3 : tie.Need-returns-in-Image
 returns-3 c =
-    let page = c.before.before.before.before in
-    let s = unnamed page.before.before in
+    let page = c.before.before.before in
+    let s = unnamed page.before in
     let a = s.args in
-    let known = page.backing-1.given in
-    let here = at-image a.pool.now a.image.now a.entry a.backing known.0.0 page.before.before.if-entry-ne0.false known.1 in
-    has-page s.args.part.now _ _ c.is_same-in-Image.result s.requires.part_len here c.is_same-in-Image.ensures
+    let known = page.backing.given in
+    let here = at-image a.pool.now a.image.now a.entry a.backing known.0.0 page.if-entry-ne0.false known.1 in
+    has-page s.args.part.now _ _ c.is_same-in-Image.result s.requires.0 here c.is_same-in-Image.ensures
 
 pub has_page_spec : {M : Type 1} → statement M
 has_page_spec =

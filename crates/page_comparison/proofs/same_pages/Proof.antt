@@ -54,7 +54,7 @@ returns c =
     let s = named frame.before in
     let a = s.args in
     let f = frame.frame_of in
-    let here = at-frame a.pool.now a.image.now a.entry a.backing f.result.0 f.ensures frame.before.if-entry-ne0.true in
+    let here = at-frame a.pool.now a.image.now a.entry a.backing f.result.0 f.ensures frame.if-entry-ne0.true in
     same-as (lent a.pool.now f.result.0) _ (twin s) c.has_page.result here c.has_page.ensures
 
 enum_told : tie.Need-enum_told-1
@@ -85,7 +85,7 @@ part-has-page-start-2 : tie.Need-slice_bounds-has_page-start-in-Image
 part-has-page-start-2 c = search rules
 
 part-has-page-end-2 : tie.Need-slice_bounds-has_page-end-in-Image
-part-has-page-end-2 c = omega (arith, ap backing_end c.before.before.backing-1.given.1)
+part-has-page-end-2 c = omega (arith, ap backing_end c.in-Image.is)
 
 has-page-requires-3 : tie.Need-has_page-requires-in-Image
 has-page-requires-3 c κs = search rules
@@ -94,18 +94,18 @@ returns-2 : tie.Need-returns-in-Anonymous
 unfolding zeros
 returns-2 c =
     let told = c.before.before in
-    let a = (unnamed told.before.before).args in
-    let none = told.before.before.if-entry-ne0.false in
-    let here = at_zero a.pool.now a.image.now a.entry a.backing none told.enum_told-1.given.1 in
-    same-as (zeros 256) _ (twin (unnamed told.before.before)) c.has_page-in-Anonymous.result here c.has_page-in-Anonymous.ensures
+    let a = (unnamed told.before).args in
+    let none = told.if-entry-ne0.false in
+    let here = at_zero a.pool.now a.image.now a.entry a.backing none told.in-Anonymous.is in
+    same-as (zeros 256) _ (twin (unnamed told.before)) c.has_page-in-Anonymous.result here c.has_page-in-Anonymous.ensures
 
 returns-3 : tie.Need-returns-in-Image
 returns-3 c =
-    let page = c.before.before.before.before in
-    let s = unnamed page.before.before in
+    let page = c.before.before.before in
+    let s = unnamed page.before in
     let a = s.args in
-    let known = page.backing-1.given in
-    let here = at-image a.pool.now a.image.now a.entry a.backing known.0.0 page.before.before.if-entry-ne0.false known.1 in
+    let known = page.backing.given in
+    let here = at-image a.pool.now a.image.now a.entry a.backing known.0.0 page.if-entry-ne0.false known.1 in
     same-as (lent a.image.now known.0.0.0) _ (twin s) c.has_page-in-Image.result here c.has_page-in-Image.ensures
 
 pub same_pages_spec : {M : Type 1} → statement M

@@ -25,7 +25,7 @@ abbrev request : tie.Start → Request
 request s = s.args.q
 
 ready : (s : tie.Start) → Ready s.args.images s.args.b
-ready s = s.requires.ready
+ready s = s.requires.1
 
 settled : (s : tie.Start) → Settled (view s)
 settled s = settled-of s.args.images s.args.b (ready s).sound true s.args.frames s.args.images s.args.shares
@@ -39,7 +39,7 @@ abbrev Row : Refusal → tie.Start → Bool
 Row row s = applies (view s) (request s) row
 
 past8 : (s : tie.Start) → Past NotMapped s
-past8 s = behind-8 (view s) (request s) s.requires.none_before
+past8 s = behind-8 (view s) (request s) s.requires.0
 
 -- the present areas can be looked at where the request fits
 to-look-at : (s : tie.Start) → Past SnapshotTaken s → Formed s.args.b.present × Fit (request s)
@@ -117,7 +117,7 @@ returns c =
     let test = c.before.before in
     let s = at9 test in
     refused (view s) (request s) s.args.b NotMapped c.refuse.result c.refuse.ensures
-    (past8 s) (sym (row9 test) ∙ c.before.if-not_mapped.true)
+    (past8 s) (sym (row9 test) ∙ c.if-not_mapped.true)
 
 already-mapped-requires : tie.Need-already_mapped-requires
 already-mapped-requires c κs = to-look-at (at9 c.before) (past9 c).1.1.1
@@ -130,7 +130,7 @@ returns-2 c =
     let test = c.before.before in
     let s = at10 test in
     refused (view s) (request s) s.args.b AlreadyMapped c.refuse-then-already_mapped.result c.refuse-then-already_mapped.ensures
-    (past9 test.before) (sym (row10 test) ∙ c.before.if-already_mapped.true)
+    (past9 test.before) (sym (row10 test) ∙ c.if-already_mapped.true)
 
 no-gap-requires : tie.Need-no_gap-requires
 no-gap-requires c κs = to-look-at (at10 c.before) (past10 c).1.1.1.1
@@ -143,7 +143,7 @@ returns-3 c =
     let test = c.before.before in
     let s = at11 test in
     refused (view s) (request s) s.args.b NoGap c.refuse-then-no_gap.result c.refuse-then-no_gap.ensures
-    (past10 test.before) (sym (row11 test) ∙ c.before.if-no_gap.true)
+    (past10 test.before) (sym (row11 test) ∙ c.if-no_gap.true)
 
 not-writable-requires : tie.Need-not_writable-requires
 not-writable-requires c κs =
@@ -159,7 +159,7 @@ returns-4 c =
     let test = c.before.before in
     let s = at12 test in
     refused (view s) (request s) s.args.b NotWritable c.refuse-then-not_writable.result c.refuse-then-not_writable.ensures
-    (past11 test.before) (sym (row12 test) ∙ c.before.if-not_writable.true)
+    (past11 test.before) (sym (row12 test) ∙ c.if-not_writable.true)
 
 share-exceeded-requires : tie.Need-share_exceeded-requires
 share-exceeded-requires c κs = let s = at12 c.before in (s.args.images, ready s)
@@ -172,7 +172,7 @@ returns-5 c =
     let test = c.before.before in
     let s = at13 test in
     refused (view s) (request s) s.args.b ShareExceeded c.refuse-then-share_exceeded.result c.refuse-then-share_exceeded.ensures
-    (past12 test.before) (sym (row13 test) ∙ c.before.if-share_exceeded.true)
+    (past12 test.before) (sym (row13 test) ∙ c.if-share_exceeded.true)
 
 packed-after-requires : tie.Need-packed_after-packed-requires
 packed-after-requires c κs = let s = at13 c.before in ((s.args.images, ready s), (passed s (past13 c).1.1).fit)
@@ -185,14 +185,14 @@ returns-6 c =
     let test = c.before.before.before in
     let s = at14 test in
     refused (view s) (request s) s.args.b TooManyAreas c.refuse-then-not-packed.result c.refuse-then-not-packed.ensures
-    (past13 test.before) (row14 test ∙ c.before.if-not-packed.true)
+    (past13 test.before) (row14 test ∙ c.if-not-packed.true)
 
 returns-7 : tie.Need-returns
 returns-7 c =
     let test = c.before.before.before in
     let s = at14 test in
     accepted (view s) (request s) s.args.b test.packed_after-packed.result test.packed_after-packed.ensures
-    (row14 test ∙ c.before.if-not-packed.false, past13 test.before)
+    (row14 test ∙ c.if-not-packed.false, past13 test.before)
 
 pub decide_pages_spec : {M : Type 1} → statement M
 decide_pages_spec =

@@ -16,7 +16,7 @@ same_length : tie.Need-shape_of-pool-then-entry-eq0
 same_length c = search rules
 
 returns : tie.Need-returns-then-entry-eq0
-returns c = let filled = c.before.before in rw filled.before.before.if-entry-eq0.true filled.fill_frame.ensures
+returns c = let filled = c.before.before in rw filled.if-entry-eq0.true filled.fill_frame.ensures
 
 frame-of-requires : tie.Need-frame_of-requires
 frame-of-requires c κs = search rules
@@ -33,7 +33,7 @@ returns-2 c =
     let frame = copied.before in
     let a = (behind frame).args in
     rw (
-      ← page-there 256 a.pool.now (backing_page a.image.now a.backing) a.entry frame.before.before.if-entry-eq0.false,
+      ← page-there 256 a.pool.now (backing_page a.image.now a.backing) a.entry frame.if-entry-eq0.false,
       ← frame.frame_of.ensures,
     )
     copied.copy_frame.ensures

@@ -31,7 +31,7 @@ same_length c = search rules
 returns : tie.Need-returns
 returns c =
     let restored = c.before.before in
-    let a = restored.before.before.before.before.before.before.args in
+    let a = restored.args in
     rw (← part-is-frame 256 a.image.now a.page.0) restored.restore_frame.ensures
 
 pub restore_image_spec : {M : Type 1} → statement M

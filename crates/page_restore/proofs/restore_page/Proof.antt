@@ -73,26 +73,26 @@ enum-told-2 c = search rules
 frame-of-requires : tie.Need-frame_of-requires
 frame-of-requires c κs =
     let told = c.before in
-    let found = told.before.before in
-    let m = meets found Copied told.enum_told-in-Copied-1.given.1 in
-    (omega (arith, m.0, m.1), (behind found).requires.ranged.few _)
+    let found = told.before in
+    let m = meets found Copied told.in-Copied.is in
+    (omega (arith, m.0, m.1), (behind found).requires.1.0.few _)
 
 frame-of-requires-2 : tie.Need-frame_of-requires-in-Copied
 frame-of-requires-2 c κs =
     let told = c.before.before in
-    let found = told.before.before in
-    let m = meets found Copied told.enum_told-in-Copied-1.given.1 in
-    (omega (arith, m.0, m.1), (behind found).requires.ranged.few _)
+    let found = told.before in
+    let m = meets found Copied told.in-Copied.is in
+    (omega (arith, m.0, m.1), (behind found).requires.1.0.few _)
 
 restore-from-requires : tie.Need-restore_from-requires
 restore-from-requires c κs =
     let told = c.before.before.before in
-    let found = told.before.before in
+    let found = told.before in
     let s = behind found in
-    let m = meets found Copied told.enum_told-in-Copied-1.given.1 in
-    let front-room = s.requires.ranged.room s.args.at in
-    let back-room = s.requires.ranged.room (s.args.at + 64) in (
-      omega (arith, c.before.frame_of.ensures, m.0, m.1, front-room, back-room),
+    let m = meets found Copied told.in-Copied.is in
+    let front-room = s.requires.1.0.room s.args.at in
+    let back-room = s.requires.1.0.room (s.args.at + 64) in (
+      omega (arith, c.frame_of.ensures, m.0, m.1, front-room, back-room),
       omega (arith, c.frame_of-in-Copied.ensures, m.0, m.1, front-room, back-room),
     )
 
@@ -102,43 +102,43 @@ enum-told-3 c = search rules
 frame-of-requires-3 : tie.Need-frame_of-requires-in-Zeroed
 frame-of-requires-3 c κs =
     let told = c.before in
-    let found = told.before.before in
+    let found = told.before in
     let s = behind found in
-    ((meets found Zeroed told.enum_told-in-Zeroed-1.given.1).0, s.requires.ranged.few s.args.at)
+    ((meets found Zeroed told.in-Zeroed.is).0, s.requires.1.0.few s.args.at)
 
 restore-zeros-requires : tie.Need-restore_zeros-requires
 restore-zeros-requires c κs =
     let told = c.before.before in
-    let found = told.before.before in
+    let found = told.before in
     let s = behind found in
-    omega (arith, c.frame_of-in-Zeroed.ensures, (meets found Zeroed told.enum_told-in-Zeroed-1.given.1).0, s.requires.ranged.room s.args.at)
+    omega (arith, c.frame_of-in-Zeroed.ensures, (meets found Zeroed told.in-Zeroed.is).0, s.requires.1.0.room s.args.at)
 
 enum-known-page : tie.Need-enum_known-page
 enum-known-page c = search rules
 
 frame-of-requires-4 : tie.Need-frame_of-requires-in-ImagePage
 frame-of-requires-4 c κs =
-    let told = c.before.before in
-    let found = told.before.before in
+    let told = c.before in
+    let found = told.before in
     let s = behind found in
-    ((meets found (ImagePage told.page-1.given.0.0) told.page-1.given.1).0, s.requires.ranged.few s.args.at)
+    ((meets found (ImagePage told.in-ImagePage.page) told.in-ImagePage.is).0, s.requires.1.0.few s.args.at)
 
 restore-image-requires : tie.Need-restore_image-requires
 restore-image-requires c κs =
-    let told = c.before.before.before in
-    let found = told.before.before in
+    let told = c.before.before in
+    let found = told.before in
     let s = behind found in
-    let m = meets found (ImagePage told.page-1.given.0.0) told.page-1.given.1 in (
-      omega (arith, c.frame_of-in-ImagePage.ensures, m.0, s.requires.ranged.room s.args.at),
-      omega (arith, ap backing_end m.2, s.requires.backing_in_bounds),
+    let m = meets found (ImagePage told.in-ImagePage.page) told.in-ImagePage.is in (
+      omega (arith, c.frame_of-in-ImagePage.ensures, m.0, s.requires.1.0.room s.args.at),
+      omega (arith, ap backing_end m.2, s.requires.1.1),
     )
 
 returns : tie.Need-returns-in-Shared
 returns c =
-    let found = c.before.before in
+    let found = c.before in
     let a = (behind found).args in
     let left : Left found a.pool.now false =
-    λ h. shared-left a.image.now a.at (a.at + 64) a.backing (st found h) (is found Shared c.enum_told-1.given.1) in
+    λ h. shared-left a.image.now a.at (a.at + 64) a.backing (st found h) (is found Shared c.in-Shared.is) in
     (λ h. (left h).0, λ h. (left h).1)
 
 same_length : tie.Need-shape_of-pool-in-Copied
@@ -148,12 +148,12 @@ returns-2 : tie.Need-returns-in-Copied
 returns-2 c =
     let copied = c.before.before in
     let told = copied.before.before.before.before in
-    let found = told.before.before in
+    let found = told.before in
     let a = (behind found).args in
-    let from = copied.before.before.frame_of.ensures in
-    let to = copied.before.frame_of-in-Copied.ensures in
+    let from = copied.frame_of.ensures in
+    let to = copied.frame_of-in-Copied.ensures in
     let left : Left found copied.restore_from.new.0 copied.restore_from.result =
-    λ h. copied-left a.image.now a.at (a.at + 64) a.backing (st found h) _ _ (is found Copied told.enum_told-in-Copied-1.given.1)
+    λ h. copied-left a.image.now a.at (a.at + 64) a.backing (st found h) _ _ (is found Copied told.in-Copied.is)
     (rw (from, to) at copied.restore_from.ensures) in
     (λ h. (left h).0, λ h. (left h).1)
 
@@ -164,11 +164,11 @@ returns-3 : tie.Need-returns-in-Zeroed
 returns-3 c =
     let cleared = c.before.before in
     let told = cleared.before.before.before in
-    let found = told.before.before in
+    let found = told.before in
     let a = (behind found).args in
     let left : Left found cleared.restore_zeros.new.0 cleared.restore_zeros.result =
-    λ h. zeroed-left a.image.now a.at (a.at + 64) a.backing (st found h) _ _ (is found Zeroed told.enum_told-in-Zeroed-1.given.1)
-    (rw cleared.before.frame_of-in-Zeroed.ensures at cleared.restore_zeros.ensures) in
+    λ h. zeroed-left a.image.now a.at (a.at + 64) a.backing (st found h) _ _ (is found Zeroed told.in-Zeroed.is)
+    (rw cleared.frame_of-in-Zeroed.ensures at cleared.restore_zeros.ensures) in
     (λ h. (left h).0, λ h. (left h).1)
 
 same-length-3 : tie.Need-shape_of-pool-in-ImagePage
@@ -177,13 +177,13 @@ same-length-3 c = search rules
 returns-4 : tie.Need-returns-in-ImagePage
 returns-4 c =
     let filled = c.before.before in
-    let told = filled.before.before.before.before in
-    let found = told.before.before in
+    let told = filled.before.before.before in
+    let found = told.before in
     let a = (behind found).args in
-    let page = told.page-1.given in
+    let page = told.page.given in
     let left : Left found filled.restore_image.new.0 filled.restore_image.result =
     λ h. image-left a.image.now a.at (a.at + 64) a.backing (st found h) _ _ page.0.0
-    (is found (ImagePage page.0.0) page.1) (rw filled.before.frame_of-in-ImagePage.ensures at filled.restore_image.ensures) in
+    (is found (ImagePage page.0.0) page.1) (rw filled.frame_of-in-ImagePage.ensures at filled.restore_image.ensures) in
     (λ h. (left h).0, λ h. (left h).1)
 
 pub restore_page_spec : {M : Type 1} → statement M

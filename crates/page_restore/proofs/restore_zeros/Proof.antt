@@ -15,7 +15,7 @@ same_length c = search rules
 
 returns : tie.Need-returns
 unfolding zeros
-returns c = c.before.before.restore_frame.ensures
+returns c = c.restore_frame.ensures
 
 pub restore_zeros_spec : {M : Type 1} → statement M
 restore_zeros_spec =

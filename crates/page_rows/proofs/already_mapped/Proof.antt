@@ -13,19 +13,19 @@ use Rattle.page_rows.proofs.already_mapped.Statement.{statement}
 use Rattle.page_rows.proofs.already_mapped.Tie as tie
 
 -- the code is a map's, and a page is named
-a-map : (c : tie.Else-q) → eqb c.before.before.before.args.q.code map_code ≡ true
-a-map c = not-false _ (or_left (not (eqb c.before.before.before.args.q.code map_code)) _ c.if-q.false)
+a-map : (c : tie.Else-q) → eqb c.args.q.code map_code ≡ true
+a-map c = not-false _ (or_left (not (eqb c.args.q.code map_code)) _ c.if-q.false)
 
-named : (c : tie.Else-q) → eqb c.before.before.before.args.q.p1 64 ≡ false
-named c = or_right (not (eqb c.before.before.before.args.q.code map_code)) _ c.if-q.false
+named : (c : tie.Else-q) → eqb c.args.q.p1 64 ≡ false
+named c = or_right (not (eqb c.args.q.code map_code)) _ c.if-q.false
 
-pages : (c : tie.Else-q) → c.before.before.before.args.q.p1 + c.before.before.before.args.q.p2 ≤ 64
-pages c = c.before.before.before.requires.fit.named (eqb-true _ map_code (a-map c)) (eqb-false _ 64 (named c))
+pages : (c : tie.Else-q) → c.args.q.p1 + c.args.q.p2 ≤ 64
+pages c = c.requires.1.named (eqb-true _ map_code (a-map c)) (eqb-false _ 64 (named c))
 
 returns : tie.Need-returns-then-q
 unfolding applies
 returns c v e =
-    let q = c.before.before.before.args.q in
+    let q = c.args.q in
     by_cases (eqb q.code map_code) (λ m. rw (m, rw m at c.if-q.true)) (λ m. rw m)
 
 cast-t6 : tie.Need-overflow_cast-q
@@ -35,7 +35,7 @@ cast-all-are : tie.Need-overflow_cast-q-2
 cast-all-are c = omega (arith, pages c.before.before)
 
 all-are-requires : tie.Need-all_are-requires
-all-are-requires c κs = (c.before.before.before.before.before.requires.formed, pages c.before.before)
+all-are-requires c κs = (c.requires.0, pages c.before.before)
 
 returns-2 : tie.Need-returns
 unfolding applies

@@ -12,16 +12,16 @@ use Rattle.page_rows.proofs.no_gap.Statement.{statement}
 use Rattle.page_rows.proofs.no_gap.Tie as tie
 
 -- the code is a map's, and no page is named
-a-map : (c : tie.Else-q) → eqb c.before.before.before.args.q.code map_code ≡ true
-a-map c = not-false _ (or_left (not (eqb c.before.before.before.args.q.code map_code)) _ c.if-q.false)
+a-map : (c : tie.Else-q) → eqb c.args.q.code map_code ≡ true
+a-map c = not-false _ (or_left (not (eqb c.args.q.code map_code)) _ c.if-q.false)
 
-unnamed : (c : tie.Else-q) → eqb c.before.before.before.args.q.p1 64 ≡ true
-unnamed c = not-false _ (or_right (not (eqb c.before.before.before.args.q.code map_code)) _ c.if-q.false)
+unnamed : (c : tie.Else-q) → eqb c.args.q.p1 64 ≡ true
+unnamed c = not-false _ (or_right (not (eqb c.args.q.code map_code)) _ c.if-q.false)
 
 returns : tie.Need-returns-then-q
 unfolding applies
 returns c v e =
-    let q = c.before.before.before.args.q in
+    let q = c.args.q in
     by_cases (eqb q.code map_code)
     (λ m. by_cases (eqb q.p1 64) (λ t. absurd (false≢true (rw (m, t) at c.if-q.true))) (λ t. rw (m, t)))
     (λ m. rw m)
@@ -29,7 +29,7 @@ returns c v e =
 cast-lowest-gap : tie.Need-overflow_cast-q
 cast-lowest-gap c =
     let start = c.before.before.before.before in
-    omega (arith, (start.requires.fit.place (eqb-true _ map_code (a-map c.before))).1)
+    omega (arith, (start.requires.1.place (eqb-true _ map_code (a-map c.before))).1)
 
 lowest-gap-requires : tie.Need-lowest_gap-requires
 lowest-gap-requires c κs = search rules

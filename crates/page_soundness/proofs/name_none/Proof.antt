@@ -26,7 +26,7 @@ abbrev decreases-loop : tie.decreases-loop-i
 decreases-loop table first page end none₀ i₀ none i = end - i
 
 loop-holds : tie.Need-loop-i-init invariant-loop decreases-loop
-loop-holds c = (omega arith, c.requires.page_le_end, refl)
+loop-holds c = (omega arith, c.requires.0, refl)
 
 add_none : tie.Need-overflow_add-none invariant-loop decreases-loop
 add_none c = search rules
@@ -45,10 +45,10 @@ loop-less c = search rules
 
 loop-again : tie.Need-loop-i-preserved invariant-loop decreases-loop
 loop-again c =
-    let a = c.before.before.before.args in
-    let l = c.before.before.loop-i in
+    let a = c.args in
+    let l = c.loop-i in
     let P : ℕ → Bool = of a.table.now a.first in
-    let low = c.before.loop-i-test.true in (
+    let low = c.loop-i-test.true in (
       omega (arith, l.invariant.0),
       omega (arith, low),
       l.invariant.2 ∙ ap (λ (x : Bool). l.none && x) (every_first P a.end l.i low)
@@ -57,8 +57,8 @@ loop-again c =
 
 returns : tie.Need-returns invariant-loop decreases-loop
 returns c =
-    let a = c.before.before.args in
-    let l = c.before.loop-i in
+    let a = c.args in
+    let l = c.loop-i in
     sym (l.invariant.2 ∙ ap (λ (x : Bool). l.none && x) (every-end (of a.table.now a.first) a.end l.i c.loop-i-test.false) ∙ and-true l.none)
 
 pub name_none_spec : {M : Type 1} → statement M

@@ -35,7 +35,7 @@ cast-count : tie.Need-overflow_cast-count invariant-loop decreases-loop
 cast-count c = search rules
 
 loop-holds : tie.Need-loop-k-init invariant-loop decreases-loop
-loop-holds c = (omega arith, before-start c.before.args.areas, refl)
+loop-holds c = (omega arith, before-start c.args.areas, refl)
 
 mul-area : tie.Need-offset_bounds-areas-k invariant-loop decreases-loop
 mul-area c = search rules
@@ -57,8 +57,8 @@ name-none-requires : tie.Need-name_none-requires invariant-loop decreases-loop
 name-none-requires c κs =
     let m = loop-of-area c in
     let s = start-of-loop m in
-    let low = c.before.before.loop-k-test.true in
-    (m.loop-k.invariant.1.ahead m.loop-k.k (omega arith) low, omega (arith, s.requires.first_in_bounds, (s.requires.formed.formed.each m.loop-k.k low).inside))
+    let low = c.loop-k-test.true in
+    (m.loop-k.invariant.1.ahead m.loop-k.k (omega arith) low, omega (arith, s.requires.1, (s.requires.0.formed.each m.loop-k.k low).inside))
 
 abbrev at_turn : tie.After-name_none invariant-loop decreases-loop → tie.In-loop-k invariant-loop decreases-loop
 at_turn c = c.before.before.before
@@ -72,8 +72,8 @@ returns c =
     let s = start-of-loop m in
     let a = s.args in
     let l = m.loop-k in
-    sym (l.invariant.2 ∙ gap-fails a.areas s.requires.formed (entry_at a.table.now a.first) l.k l.page l.invariant.1 (at_turn c.before).loop-k-test.taken _
-    c.before.name_none.ensures (not-true _ c.if-not-name_none.true-raw))
+    sym (l.invariant.2 ∙ gap-fails a.areas s.requires.0 (entry_at a.table.now a.first) l.k l.page l.invariant.1 (at_turn c.before).loop-k-test.taken _
+    c.name_none.ensures (not-true _ c.if-not-name_none.true-raw))
 
 cast-page : tie.Need-overflow_cast-page invariant-loop decreases-loop
 cast-page c = search rules
@@ -96,13 +96,13 @@ loop-again c =
     let l = m.loop-k in
     let low = (at_turn n).loop-k-test.true in (
       omega (arith, low),
-      before-next a.areas s.requires.formed l.k l.page l.invariant.1 low,
-      l.invariant.2 ∙ gap-passes a.areas s.requires.formed (entry_at a.table.now a.first) l.k l.page l.invariant.1 low _ n.name_none.ensures
-          (not-false _ c.before.if-not-name_none.false-raw),
+      before-next a.areas s.requires.0 l.k l.page l.invariant.1 low,
+      l.invariant.2 ∙ gap-passes a.areas s.requires.0 (entry_at a.table.now a.first) l.k l.page l.invariant.1 low _ n.name_none.ensures
+          (not-false _ c.if-not-name_none.false-raw),
     )
 
 name-none-requires-2 : tie.Need-name_none-requires-2 invariant-loop decreases-loop
-name-none-requires-2 c κs = (c.before.loop-k.invariant.1.small, (start-of-loop c.before).requires.first_in_bounds)
+name-none-requires-2 c κs = (c.loop-k.invariant.1.small, (start-of-loop c.before).requires.1)
 
 returns-2 : tie.Need-returns invariant-loop decreases-loop
 returns-2 c =
@@ -111,7 +111,7 @@ returns-2 c =
     let a = s.args in
     let l = m.loop-k in
     c.name_none-2.ensures
-    ∙ gap-last a.areas s.requires.formed (entry_at a.table.now a.first) l.k l.page l.invariant.1 c.before.loop-k-test.false ∙ sym l.invariant.2
+    ∙ gap-last a.areas s.requires.0 (entry_at a.table.now a.first) l.k l.page l.invariant.1 c.loop-k-test.false ∙ sym l.invariant.2
 
 pub only_mapped_spec : {M : Type 1} → statement M
 only_mapped_spec =

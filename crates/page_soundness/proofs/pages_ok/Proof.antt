@@ -19,12 +19,12 @@ start1 c = start-of-first c.before
 
 -- what the tests that were passed say
 marks-hold : (c : tie.Else-not-all_committed) → let a = (start1 c).args in every (λ i. mark_ok (slots a.snapshot i)) 0 64 ≡ true
-marks-hold c = sym c.before.all_committed.ensures ∙ not-false _ c.if-not-all_committed.false-raw
+marks-hold c = sym c.all_committed.ensures ∙ not-false _ c.if-not-all_committed.false-raw
 
 backing-holds : (c : tie.Else-not-all_backed) →
     let a = (start1 c.before.before).args in
     every (λ i. backing_ok (slots a.present i) (slots a.snapshot i)) 0 64 ≡ true
-backing-holds c = sym c.before.all_backed.ensures ∙ not-false _ c.if-not-all_backed.false-raw
+backing-holds c = sym c.all_backed.ensures ∙ not-false _ c.if-not-all_backed.false-raw
 
 all-committed-requires : tie.Need-all_committed-requires
 all-committed-requires c κs = search rules
@@ -32,7 +32,7 @@ all-committed-requires c κs = search rules
 returns : tie.Need-returns-then-not-all_committed
 returns c = λ h pool.
     let a = (start-of-first c.before).args in
-    marks-fail a.present a.snapshot a.table.now a.s h pool (sym c.before.all_committed.ensures ∙ not-true _ c.if-not-all_committed.true-raw)
+    marks-fail a.present a.snapshot a.table.now a.s h pool (sym c.all_committed.ensures ∙ not-true _ c.if-not-all_committed.true-raw)
 
 all-backed-requires : tie.Need-all_backed-requires
 all-backed-requires c κs = search rules
@@ -41,7 +41,7 @@ returns-2 : tie.Need-returns-then-not-all_backed
 returns-2 c = λ h pool.
     let p = c.before.before in
     let a = (start-of-first p.before).args in
-    backing-fails a.present a.snapshot a.table.now a.s h pool (marks-hold p) (sym c.before.all_backed.ensures ∙ not-true _ c.if-not-all_backed.true-raw)
+    backing-fails a.present a.snapshot a.table.now a.s h pool (marks-hold p) (sym c.all_backed.ensures ∙ not-true _ c.if-not-all_backed.true-raw)
 
 mul-first : tie.Need-overflow_mul-first
 mul-first c = search rules
@@ -55,7 +55,7 @@ returns-3 c = λ h pool.
     let p = q.before.before in
     let a = (start-of-first p.before).args in
     fronts-fail a.present a.snapshot a.table.now a.s h pool (marks-hold p) (backing-holds q)
-    (sym c.before.only_mapped.ensures ∙ not-true _ c.if-not-only_mapped.true-raw)
+    (sym c.only_mapped.ensures ∙ not-true _ c.if-not-only_mapped.true-raw)
 
 add-only-mapped : tie.Need-overflow_add-first
 add-only-mapped c = search rules
@@ -70,7 +70,7 @@ returns-4 c = λ h pool.
     let p = q.before.before in
     let a = (start-of-first p.before).args in
     c.only_mapped-2.ensures ∙ backs-decide a.present a.snapshot a.table.now a.s h pool (marks-hold p) (backing-holds q)
-    (sym r.before.only_mapped.ensures ∙ not-false _ r.if-not-only_mapped.false-raw)
+    (sym r.only_mapped.ensures ∙ not-false _ r.if-not-only_mapped.false-raw)
 
 pub pages_ok_spec : {M : Type 1} → statement M
 pages_ok_spec =

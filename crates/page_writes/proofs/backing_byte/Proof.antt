@@ -26,17 +26,17 @@ add-place c = search rules
 
 shared-slice-read-result : tie.Need-bounds-image-place
 shared-slice-read-result c =
-    let known = c.before.before.before.backing-1.given.1 in
+    let known = c.in-Image.is in
     let end = ap (λ (b : Backing). backing_end b) known in
-    omega (arith, end, c.before.before.before.before.before.requires)
+    omega (arith, end, c.requires)
 
 returns : tie.Need-returns-in-Anonymous
 returns c = search rules
 
 returns-2 : tie.Need-returns-in-Image
 returns-2 c =
-    let s = c.before.before.before.before.before in
-    let known = c.before.before.before.backing-1.given.1 in
+    let s = c.before.before.before in
+    let known = c.in-Image.is in
     rw known (ap (λ (x : ℕ). get_or s.args.image.now x 0) (omega arith))
 
 pub backing_byte_spec : {M : Type 1} → statement M

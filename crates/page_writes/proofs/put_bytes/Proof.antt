@@ -39,7 +39,7 @@ read-byte-requires c κs = search rules
 backing-byte-requires : tie.Need-backing_byte-old-requires invariant-loop decreases-loop
 backing-byte-requires c κs =
     let start = c.before.before.before.before.before.before.before in
-    rw c.before.before.before.backing_at-backing.ensures start.requires.slot_in_bounds
+    rw c.backing_at-backing.ensures start.requires.1.0
 
 write-line-requires : tie.Need-write_line-requires invariant-loop decreases-loop
 write-line-requires c κs = search rules
@@ -47,14 +47,14 @@ write-line-requires c κs = search rules
 put-if-requires : tie.Need-put_if-next-requires invariant-loop decreases-loop
 put-if-requires c κs =
     let line = c.write_line in
-    let old = c.before.before.backing_byte-old in
-    let read = c.before.before.before.read_byte-byte in
+    let old = c.backing_byte-old in
+    let read = c.read_byte-byte in
     let turn = c.before.before.before.before in
-    let l = turn.before.loop-j in
-    let backing = turn.before.before.backing_at-backing in
+    let l = turn.loop-j in
+    let backing = turn.backing_at-backing in
     let start = start_of turn.before in
     let a = start.args in
-    turn-room a.to a.out.now (lines start) 256 start.requires.room l.next l.out l.j l.invariant (omega (arith, turn.loop-j-test.true)) _
+    turn-room a.to a.out.now (lines start) 256 start.requires.1.1 l.next l.out l.j l.invariant (omega (arith, turn.loop-j-test.true)) _
     (byte-line a.image.now a.page.sandbox a.page.number.0 a.page.slot (frame 256 a.pool.now a.f.0) l.j
     read.result old.result backing.result _ backing.ensures read.ensures old.ensures line.ensures)
 
@@ -66,16 +66,16 @@ loop-less c = search rules
 
 loop-again : tie.Need-loop-j-preserved invariant-loop decreases-loop
 loop-again c =
-    let put = c.before.before.put_if-next in
-    let line = c.before.before.before.write_line in
-    let old = c.before.before.before.before.before.backing_byte-old in
-    let read = c.before.before.before.before.before.before.read_byte-byte in
+    let put = c.put_if-next in
+    let line = c.write_line in
+    let old = c.backing_byte-old in
+    let read = c.read_byte-byte in
     let turn = c.before.before.before.before.before.before.before in
-    let l = turn.before.loop-j in
-    let backing = turn.before.before.backing_at-backing in
+    let l = turn.loop-j in
+    let backing = turn.backing_at-backing in
     let start = start_of turn.before in
     let a = start.args in
-    turn-next a.to a.out.now (lines start) 256 start.requires.room l.next l.out l.j l.invariant (omega (arith, turn.loop-j-test.true)) _
+    turn-next a.to a.out.now (lines start) 256 start.requires.1.1 l.next l.out l.j l.invariant (omega (arith, turn.loop-j-test.true)) _
     (byte-line a.image.now a.page.sandbox a.page.number.0 a.page.slot (frame 256 a.pool.now a.f.0) l.j
     read.result old.result backing.result _ backing.ensures read.ensures old.ensures line.ensures)
     put.result put.new.0 put.ensures
@@ -86,7 +86,7 @@ same_length c = search rules
 returns : tie.Need-returns invariant-loop decreases-loop
 returns c =
     let start = start_of c.before in
-    let l = c.before.loop-j in
+    let l = c.loop-j in
     turn_last start.args.to start.args.out.now (lines start) 256 l.next l.out l.j l.invariant (omega (arith, c.loop-j-test.false))
 
 pub put_bytes_spec : {M : Type 1} → statement M

@@ -31,16 +31,16 @@ abbrev behind : tie.Else-not-is_mapped → tie.Start
 behind c = start_of c.before.before.before
 
 mapped : (c : tie.Else-not-is_mapped) → is_mapped (behind c).args.page.slot ≡ true
-mapped c = let tested = c.before.is_mapped in sym tested.ensures ∙ not-false tested.result c.if-not-is_mapped.false-raw
+mapped c = let tested = c.is_mapped in sym tested.ensures ∙ not-false tested.result c.if-not-is_mapped.false-raw
 
-same_lines : (c : tie.Else-not-is_mapped) (f : ℕ) → f ≡ c.before.before.before.back-back.result - 1
+same_lines : (c : tie.Else-not-is_mapped) (f : ℕ) → f ≡ c.back-back.result - 1
     → let a = (behind c).args in
     bytes_of a.image.now a.page.sandbox a.page.number.0 a.page.slot (frame 256 a.pool.now f) ≡ lines (behind c)
 same_lines c f e =
     let a = (behind c).args in
-    let back = c.before.before.before.back-back in
+    let back = c.back-back in
     backed-lines a.image.now a.pool.now a.table.now a.page.sandbox a.page.number.0 a.page.slot back.result f
-    (mapped c) back.ensures (omega (arith, c.before.before.if-back-eq0.false)) e
+    (mapped c) back.ensures (omega (arith, c.if-back-eq0.false)) e
 
 back-requires : tie.Need-back-back-requires
 back-requires c κs = search rules
@@ -51,7 +51,7 @@ returns c =
     let a = start.args in
     put-nothing a.to a.out.now (lines start)
     (unbacked-none a.image.now a.pool.now a.table.now a.page.sandbox a.page.number.0 a.page.slot
-    (sym c.before.back-back.ensures ∙ c.if-back-eq0.true))
+    (sym c.back-back.ensures ∙ c.if-back-eq0.true))
 
 is-mapped-requires : tie.Need-is_mapped-requires
 is-mapped-requires c κs = search rules
@@ -60,7 +60,7 @@ returns-2 : tie.Need-returns-then-not-is_mapped
 returns-2 c =
     let start = start_of c.before.before.before in
     let a = start.args in
-    let tested = c.before.is_mapped in
+    let tested = c.is_mapped in
     put-nothing a.to a.out.now (lines start)
     (unmapped-none a.image.now a.pool.now a.table.now a.page.sandbox a.page.number.0 a.page.slot
     (sym tested.ensures ∙ not-true tested.result c.if-not-is_mapped.true-raw))
@@ -68,19 +68,19 @@ returns-2 c =
 frame-of-requires : tie.Need-frame_of-requires
 frame-of-requires c κs =
     let start = behind c in
-    let few = start.requires.ranged.few (back_of start.args.page.sandbox start.args.page.number.0) in
-    let back = c.before.before.before.back-back in
-    (omega (arith, c.before.before.if-back-eq0.false), omega (arith, few, back.ensures))
+    let few = start.requires.1.1.0.few (back_of start.args.page.sandbox start.args.page.number.0) in
+    let back = c.back-back in
+    (omega (arith, c.if-back-eq0.false), omega (arith, few, back.ensures))
 
 put-bytes-requires : tie.Need-put_bytes-requires
 put-bytes-requires c κs =
     let tested = c.before.before in
     let start = behind tested in
-    let room = start.requires.ranged.room (back_of start.args.page.sandbox start.args.page.number.0) in
-    let back = tested.before.before.before.back-back in
-    let frame = c.before.frame_of in (
-      omega (arith, room, back.ensures, frame.ensures, tested.before.before.if-back-eq0.false),
-      (start.requires.slot_in_bounds, rw (same_lines tested frame.result.0 frame.ensures) start.requires.room),
+    let room = start.requires.1.1.0.room (back_of start.args.page.sandbox start.args.page.number.0) in
+    let back = tested.back-back in
+    let frame = c.frame_of in (
+      omega (arith, room, back.ensures, frame.ensures, tested.if-back-eq0.false),
+      (start.requires.1.1.1.0, rw (same_lines tested frame.result.0 frame.ensures) start.requires.1.1.1.1),
     )
 
 same_length : tie.Need-shape_of-out
@@ -90,8 +90,8 @@ returns-3 : tie.Need-returns
 returns-3 c =
     let tested = c.before.before.before.before.before in
     let a = (behind tested).args in
-    let frame = c.before.before.before.before.frame_of in
-    c.before.before.put_bytes.ensures ∙ ap (put a.to a.out.now) (same_lines tested frame.result.0 frame.ensures)
+    let frame = c.frame_of in
+    c.put_bytes.ensures ∙ ap (put a.to a.out.now) (same_lines tested frame.result.0 frame.ensures)
 
 pub put_page_spec : {M : Type 1} → statement M
 put_page_spec =

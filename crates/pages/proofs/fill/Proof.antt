@@ -34,8 +34,8 @@ loop-again : tie.Need-loop-i-preserved invariant-loop decreases-loop
 loop-again c =
     let at = c.before.before in
     let inv = at.loop-i.invariant in
-    let part = at.before.args.part.now in
-    let src = at.before.args.src.now in (
+    let part = at.args.part.now in
+    let src = at.args.src.now in (
       omega arith,
       simp length-set inv.1,
       ap (λ (d : List ℕ). set d at.loop-i.i (get_or src at.loop-i.i 0)) inv.2
@@ -48,7 +48,7 @@ same_length c = search rules
 returns : tie.Need-returns invariant-loop decreases-loop
 returns c =
     let at = c.before in
-    at.loop-i.invariant.2 ∙ copy_done at.loop-i.i at.before.args.part.now at.before.args.src.now (omega arith) (omega arith)
+    at.loop-i.invariant.2 ∙ copy_done at.loop-i.i at.args.part.now at.args.src.now (omega arith) (omega arith)
 
 pub fill_spec : {M : Type 1} → statement M
 fill_spec =

@@ -55,8 +55,8 @@ loop-again c =
 returns : tie.Need-returns invariant-loop decreases-loop
 unfolding same_bytes alike
 returns c =
-    let a = c.before.before.args in
-    let l = c.before.loop-i in
+    let a = c.args in
+    let l = c.loop-i in
     l.invariant.1 ∙ ap (every (of a.part.now a.other.now) 0) (omega arith)
 
 pub is_same_spec : {M : Type 1} → statement M

@@ -10,7 +10,7 @@ use Rattle.parser.proofs.line_at.Statement.{statement}
 use Rattle.parser.proofs.line_at.Tie as tie
 
 returns : tie.Need-returns-then-roll-line
-returns c = sym (past-line c.before.before.args.roll.now c.before.before.args.line (omega arith))
+returns c = sym (past-line c.args.roll.now c.args.line (omega arith))
 
 mul_at : tie.Need-overflow_mul-at
 mul_at c = search rules
@@ -32,7 +32,7 @@ parse-requires c κs = search rules
 
 returns-2 : tie.Need-returns
 unfolding line_at
-returns-2 c = rw (c.parse.ensures, add-sub_cancel_left (c.before.before.before.before.args.line * 43) 43)
+returns-2 c = rw (c.parse.ensures, add-sub_cancel_left (c.args.line * 43) 43)
 
 pub line_at_spec : {M : Type 1} → statement M
 line_at_spec =

@@ -14,13 +14,13 @@ use Rattle.parser.proofs.parse.Tie as tie
 
 -- where the line feed has been seen, where p1 has been read, and the places behind it
 abbrev line : tie.Else-line-ne10 → List ℕ
-line c = c.before.before.before.before.args.line.now
+line c = c.args.line.now
 
 abbrev begun : tie.After-field_at-address → tie.Else-line-ne10
 begun c = c.before.before.before.before.before
 
 abbrev address_read : tie.In-Number → tie.After-field_at-address
-address_read c = c.before.before.before
+address_read c = c.before
 
 abbrev behind-p2 : tie.Else-p2-gt-MOST → tie.Else-line-ne10
 behind-p2 c = begun (address_read c.before.before)
@@ -39,14 +39,14 @@ shared-slice-read-if2 : tie.Need-bounds-line-42
 shared-slice-read-if2 c = search rules
 
 returns-2 : tie.Need-returns-then-line-ne10
-returns-2 c = feed-missing c.before.before.before.before.args.line.now c.before.before.if-line-ne-BYTES.false c.if-line-ne10.true
+returns-2 c = feed-missing c.args.line.now c.if-line-ne-BYTES.false c.if-line-ne10.true
 
 number-at-requires : tie.Need-number_at-code-requires
 number-at-requires c κs = search rules
 
 returns-3 : tie.Need-returns-then-code-gt-MOST
 returns-3 c =
-    let read = c.before.number_at-code in
+    let read = c.number_at-code in
     number-missing (line c.before.before) 0 read.result (omega arith) read.ensures c.if-code-gt-MOST.true
 
 number-at-requires-2 : tie.Need-number_at-sandbox-requires
@@ -54,7 +54,7 @@ number-at-requires-2 c κs = search rules
 
 returns-4 : tie.Need-returns-then-sandbox-gt-MOST
 returns-4 c =
-    let read = c.before.number_at-sandbox in
+    let read = c.number_at-sandbox in
     number-missing (line c.before.before.before.before) 1 read.result (omega arith) read.ensures c.if-sandbox-gt-MOST.true
 
 field-at-requires : tie.Need-field_at-address-requires
@@ -67,14 +67,14 @@ enum_told : tie.Need-enum_told-1
 enum_told c = search rules
 
 returns-5 : tie.Need-returns-in_default
-returns-5 c = field-missing (line (begun c.before.before)) 2 (omega arith) (sym c.enum_told-1.given.1 ∙ c.before.before.field_at-address.ensures)
+returns-5 c = field-missing (line (begun c.before)) 2 (omega arith) (sym c.in_default.is ∙ c.field_at-address.ensures)
 
 number-at-requires-3 : tie.Need-number_at-p2-requires
 number-at-requires-3 c κs = search rules
 
 returns-6 : tie.Need-returns-then-p2-gt-MOST
 returns-6 c =
-    let read = c.before.number_at-p2 in
+    let read = c.number_at-p2 in
     number-missing (line (begun (address_read c.before.before))) 3 read.result (omega arith) read.ensures c.if-p2-gt-MOST.true
 
 number-at-requires-4 : tie.Need-number_at-p3-requires
@@ -82,7 +82,7 @@ number-at-requires-4 c κs = search rules
 
 returns-7 : tie.Need-returns-then-p3-gt-MOST
 returns-7 c =
-    let read = c.before.number_at-p3 in
+    let read = c.number_at-p3 in
     number-missing (line (behind-p2 c.before.before)) 4 read.result (omega arith) read.ensures c.if-p3-gt-MOST.true
 
 number-at-requires-5 : tie.Need-number_at-p4-requires
@@ -90,7 +90,7 @@ number-at-requires-5 c κs = search rules
 
 returns-8 : tie.Need-returns-then-p4-gt-MOST
 returns-8 c =
-    let read = c.before.number_at-p4 in
+    let read = c.number_at-p4 in
     number-missing (line (behind-p3 c.before.before)) 5 read.result (omega arith) read.ensures c.if-p4-gt-MOST.true
 
 number-at-requires-6 : tie.Need-number_at-p5-requires
@@ -98,7 +98,7 @@ number-at-requires-6 c κs = search rules
 
 returns-9 : tie.Need-returns-then-p5-gt-MOST
 returns-9 c =
-    let read = c.before.number_at-p5 in
+    let read = c.number_at-p5 in
     number-missing (line (behind-p4 c.before.before)) 6 read.result (omega arith) read.ensures c.if-p5-gt-MOST.true
 
 cast-t14 : tie.Need-overflow_cast-result
@@ -130,14 +130,14 @@ returns-10 c =
     let code = sandbox.before.before in
     let whole = begun address in
     let says : ℕ → Field = field_at (line whole) in
-    parsed-call (line whole) whole.before.before.if-line-ne-BYTES.left whole.if-line-ne10.left _ _ _ _ _ _ _
-    (some_read code.before.number_at-code.result (says 0) code.before.number_at-code.ensures code.if-code-gt-MOST.left)
-    (some_read sandbox.before.number_at-sandbox.result (says 1) sandbox.before.number_at-sandbox.ensures sandbox.if-sandbox-gt-MOST.left)
-    (sym told.before.address-1.given.1 ∙ address.field_at-address.ensures)
-    (some_read p2.before.number_at-p2.result (says 3) p2.before.number_at-p2.ensures p2.if-p2-gt-MOST.false)
-    (some_read p3.before.number_at-p3.result (says 4) p3.before.number_at-p3.ensures p3.if-p3-gt-MOST.false)
-    (some_read p4.before.number_at-p4.result (says 5) p4.before.number_at-p4.ensures p4.if-p4-gt-MOST.false)
-    (some_read c.before.number_at-p5.result (says 6) c.before.number_at-p5.ensures c.if-p5-gt-MOST.false)
+    parsed-call (line whole) whole.if-line-ne-BYTES.left whole.if-line-ne10.left _ _ _ _ _ _ _
+    (some_read code.number_at-code.result (says 0) code.number_at-code.ensures code.if-code-gt-MOST.left)
+    (some_read sandbox.number_at-sandbox.result (says 1) sandbox.number_at-sandbox.ensures sandbox.if-sandbox-gt-MOST.left)
+    (sym told.in-Number.is ∙ address.field_at-address.ensures)
+    (some_read p2.number_at-p2.result (says 3) p2.number_at-p2.ensures p2.if-p2-gt-MOST.false)
+    (some_read p3.number_at-p3.result (says 4) p3.number_at-p3.ensures p3.if-p3-gt-MOST.false)
+    (some_read p4.number_at-p4.result (says 5) p4.number_at-p4.ensures p4.if-p4-gt-MOST.false)
+    (some_read c.number_at-p5.result (says 6) c.number_at-p5.ensures c.if-p5-gt-MOST.false)
 
 pub parse_spec : {M : Type 1} → statement M
 parse_spec =

@@ -18,7 +18,7 @@ slice-relend-prefix-restore-half c = search rules
 
 slice-aggregate-restore-half : tie.Need-slice_bounds-restore_half-end-2
 slice-aggregate-restore-half c =
-    let a = c.before.before.before.args in sym (length-take-le (length a.src.now / 2) a.part.now (omega arith))
+    let a = c.args in sym (length-take-le (length a.src.now / 2) a.part.now (omega arith))
 
 slice-aggregate-restore-half-2 : tie.Need-slice_bounds-restore_half-end-3
 slice-aggregate-restore-half-2 c =
@@ -61,8 +61,8 @@ returns c =
     let start = at-start first.before in
     let src = start.args.src.now in
     first-differed start.args.part.now src (length src / 2) start.requires (omega arith)
-    first.restore_half.new.0 first.restore_half.ensures.part_after rest.fill.new.0 rest.fill.ensures
-    first.restore_half.result first.restore_half.ensures.differed branch.if-restore_half.true
+    first.restore_half.new.0 first.restore_half.ensures.0 rest.fill.new.0 rest.fill.ensures
+    first.restore_half.result first.restore_half.ensures.1 branch.if-restore_half.true
 
 sub-restore-half : tie.Need-slice_bounds-restore_half-count
 sub-restore-half c = search rules
@@ -96,9 +96,9 @@ returns-2 c =
     let start = at-start first.before in
     let src = start.args.src.now in
     rest-tells start.args.part.now src (length src / 2) start.requires (omega arith)
-    first.restore_half.new.0 first.restore_half.ensures.part_after rest.restore_half-2.new.0 rest.restore_half-2.ensures.part_after
-    first.restore_half.result rest.restore_half-2.result first.restore_half.ensures.differed branch.if-restore_half.false
-    rest.restore_half-2.ensures.differed
+    first.restore_half.new.0 first.restore_half.ensures.0 rest.restore_half-2.new.0 rest.restore_half-2.ensures.0
+    first.restore_half.result rest.restore_half-2.result first.restore_half.ensures.1 branch.if-restore_half.false
+    rest.restore_half-2.ensures.1
 
 pub restore_spec : {M : Type 1} → statement M
 restore_spec =

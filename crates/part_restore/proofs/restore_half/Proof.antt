@@ -18,7 +18,7 @@ slice-relend-prefix-restore-quarter c = search rules
 
 slice-aggregate-restore-quarter : tie.Need-slice_bounds-restore_quarter-end-2
 slice-aggregate-restore-quarter c =
-    let a = c.before.before.before.args in sym (length-take-le (length a.src.now / 2) a.part.now (omega arith))
+    let a = c.args in sym (length-take-le (length a.src.now / 2) a.part.now (omega arith))
 
 slice-aggregate-restore-quarter-2 : tie.Need-slice_bounds-restore_quarter-end-3
 slice-aggregate-restore-quarter-2 c =
@@ -61,8 +61,8 @@ returns c =
     let start = at-start first.before in
     let src = start.args.src.now in
     first-differed start.args.part.now src (length src / 2) start.requires (omega arith)
-    first.restore_quarter.new.0 first.restore_quarter.ensures.part_after rest.fill.new.0 rest.fill.ensures
-    first.restore_quarter.result first.restore_quarter.ensures.differed branch.if-restore_quarter.true
+    first.restore_quarter.new.0 first.restore_quarter.ensures.0 rest.fill.new.0 rest.fill.ensures
+    first.restore_quarter.result first.restore_quarter.ensures.1 branch.if-restore_quarter.true
 
 sub-restore-quarter : tie.Need-slice_bounds-restore_quarter-count
 sub-restore-quarter c = search rules
@@ -96,9 +96,9 @@ returns-2 c =
     let start = at-start first.before in
     let src = start.args.src.now in
     rest-tells start.args.part.now src (length src / 2) start.requires (omega arith)
-    first.restore_quarter.new.0 first.restore_quarter.ensures.part_after rest.restore_quarter-2.new.0 rest.restore_quarter-2.ensures.part_after
-    first.restore_quarter.result rest.restore_quarter-2.result first.restore_quarter.ensures.differed branch.if-restore_quarter.false
-    rest.restore_quarter-2.ensures.differed
+    first.restore_quarter.new.0 first.restore_quarter.ensures.0 rest.restore_quarter-2.new.0 rest.restore_quarter-2.ensures.0
+    first.restore_quarter.result rest.restore_quarter-2.result first.restore_quarter.ensures.1 branch.if-restore_quarter.false
+    rest.restore_quarter-2.ensures.1
 
 pub restore_half_spec : {M : Type 1} → statement M
 restore_half_spec =

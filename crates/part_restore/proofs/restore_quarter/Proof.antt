@@ -33,7 +33,7 @@ returns-2 : tie.Need-returns
 returns-2 c =
     let filled = c.before.before in
     let left = filled.before.before in
-    (filled.fill.ensures, sym (ap not (sym left.before.is_same.ensures ∙ left.if-is_same.false)))
+    (filled.fill.ensures, sym (ap not (sym left.is_same.ensures ∙ left.if-is_same.false)))
 
 pub restore_quarter_spec : {M : Type 1} → statement M
 restore_quarter_spec = tie.close (tie.spec is-same-requires same_length returns fill-requires same-length-2 returns-2)

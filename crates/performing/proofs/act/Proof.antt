@@ -30,10 +30,10 @@ abbrev Row : tie.Start → List Sandbox → Type 0
 Row s row = Stands s.args.image.now s.args.q s.args.b s.args.all (store_in s) row
 
 abbrev there : tie.Start → List Sandbox
-there s = s.requires.stands.0
+there s = s.requires.1.1.1.0
 
 abbrev its : (s : tie.Start) → Row s (there s)
-its s = s.requires.stands.1
+its s = s.requires.1.1.1.1
 
 abbrev world_in : tie.Start → World
 world_in s = world_from (there s) (store_in s)
@@ -72,10 +72,10 @@ abbrev deciding : tie.After-held-1 → tie.After-decide-decision
 deciding c = c.before.before
 
 abbrev told_as : tie.In-Accepted → tie.After-decide-decision
-told_as c = deciding c.before.before
+told_as c = deciding c.before
 
 abbrev valued_of : tie.After-value_of-value → tie.In-Accepted
-valued_of c = c.before.before.before
+valued_of c = c.before.before
 
 abbrev stored_of : tie.After-store_after-left → tie.After-value_of-value
 stored_of c = c.before.before.before
@@ -97,7 +97,7 @@ cast-images c =
 decide-requires : tie.Need-decide-decision-requires
 decide-requires c κs =
     let s = c.before.before.before.before in
-    (s.requires.q_value, (s.requires.sandbox_bound, own-ready s.args.image.now s.args.q s.args.b s.args.all (store_in s) (there s) (its s) s.requires.sandbox_bound))
+    (s.requires.0, (s.requires.1.1.0, own-ready s.args.image.now s.args.q s.args.b s.args.all (store_in s) (there s) (its s) s.requires.1.1.0))
 
 enum-known-verdict : tie.Need-enum_known-verdict
 enum-known-verdict c = search rules
@@ -107,19 +107,19 @@ enum_told c = search rules
 
 value-of-requires : tie.Need-value_of-value-requires
 value-of-requires c κs =
-    let told = c.before.before in
+    let told = c.before in
     let decided = told_as told in
     let s = start_of decided in
     let a = (asked_here decided told.enum_told.given.1 (there s) (its s)).1 in
     let own = own-ready s.args.image.now s.args.q s.args.b s.args.all (store_in s) (there s) (its s) a.row in
-    (a.row, (a.fit, (own, (filed-ranged 256 (frames_of (world_in s)) (store_in s) a.filed, (a.filed.few, s.requires.fact)))))
+    (a.row, (a.fit, (own, (filed-ranged 256 (frames_of (world_in s)) (store_in s) a.filed, (a.filed.few, s.requires.1.0)))))
 
 store-after-requires : tie.Need-store_after-left-requires
 store-after-requires c κs =
     let told = valued_of c.before.before in
     let decided = told_as told in
     let s = start_of decided in
-    (s.requires.fact, (there s, asked_here decided told.enum_told-1.given.1 (there s) (its s)))
+    (s.requires.1.0, (there s, asked_here decided told.in-Accepted.is (there s) (its s)))
 
 record-after-requires : tie.Need-record_after-after-requires
 record-after-requires c κs =
@@ -130,11 +130,11 @@ record-after-requires c κs =
 
 returns : tie.Need-returns-in-Refused
 returns c row a =
-    let arm = c.before in
-    let decided = deciding arm.before.before in
+    let arm = c. in
+    let decided = deciding arm.before in
     let s = start_of decided in
-    acted-refused s.args.image.now s.args.q s.args.b s.args.all (store_in s) row a arm.verdict-1.given.0.0
-    (ap verdict_number (sym arm.verdict-1.given.1) ∙ number-here decided row a)
+    acted-refused s.args.image.now s.args.q s.args.b s.args.all (store_in s) row a arm.in-Refused.why
+    (ap verdict_number (sym arm.in-Refused.is) ∙ number-here decided row a)
 
 same_length : tie.Need-shape_of-pool
 same_length c = search rules
@@ -149,7 +149,7 @@ returns-2 c row a =
     let told = valued_of valued in
     let decided = told_as told in
     let s = start_of decided in
-    let e = told.enum_told-1.given.1 in
+    let e = told.in-Accepted.is in
     acted-accepted s.args.image.now s.args.q s.args.b s.args.all (store_in s) row a valued.value_of_lem.result _ _
     stored.store_after-left.result.runs (accepted-here decided e row a) (valued.value_of_lem.ensures s.args.all.held)
     (c.record_after-after.ensures ∙ ap (λ (present : Areas). record_with s.args.q present s.args.b.rec) (areas-here decided e))

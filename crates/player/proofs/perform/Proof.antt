@@ -45,7 +45,7 @@ world_begun c = world_of (begun_of c).start-begun.result.machine (begun_of c).st
 -- is the started one
 from_start : (c : AtLoop) (pool table : List ℕ) (written : Bool) → Talked (image_in c) (world_begun c) pool table written
     → Talked (image_in c) (started_by (start_of c).args.pool.now (start_of c).args.table.now (image_in c)) pool table written
-from_start c pool table written = subst (λ x. Talked (image_in c) x pool table written) (begun_of c).start-begun.ensures.world
+from_start c pool table written = subst (λ x. Talked (image_in c) x pool table written) (begun_of c).start-begun.ensures.1
 
 -- the world that a turn meets
 abbrev world_at : AtLoop → World
@@ -78,10 +78,10 @@ accepted-requires c κs = search rules
 
 loop-holds : tie.Need-loop-number-init invariant-loop decreases-loop
 loop-holds c =
-    let told = c.before.accepted-sound in
+    let told = c.accepted-sound in
     let begun = c.before.before.before.before.before.before in
     let start = begun.start-begun in
-    let a = begun.before.before.before.before.before.before.args in (
+    let a = begun.args in (
       omega arith,
       refl,
       refl,
@@ -99,7 +99,7 @@ slice-aggregate-turn-2 c = search rules
 turn-requires : tie.Need-turn-progress-requires invariant-loop decreases-loop
 turn-requires c κs =
     let testing = c.before.before.before.before in
-    ((refl, refl), (omega (arith, testing.loop-number-test.true), testing.before.loop-number.invariant.4))
+    ((refl, refl), (omega (arith, testing.loop-number-test.true), testing.loop-number.invariant.4))
 
 same_length : tie.Need-shape_of-pool-then-not-progress invariant-loop decreases-loop
 same_length c = search rules
@@ -128,11 +128,11 @@ loop-again c =
     let got = turning.turn-progress in
     let at = loop_of turning in
     let v = world_of got.result.machine (pool_after turning) (table_after turning) in (
-      omega (arith, turning.before.before.before.before.before.loop-number-test.true),
+      omega (arith, turning.loop-number-test.true),
       got.auto.1.0 ∙ at.loop.invariant.1,
       got.auto.1.1.0 ∙ at.loop.invariant.2,
       one-turn-more (image_in at) (world_begun at) at.loop.number (world_at at) (turn_at turning) v at.loop.invariant.3
-          got.ensures.0 got.result.more got.ensures.1 c.before.if-not-progress.false,
+          got.ensures.0 got.result.more got.ensures.1 c.if-not-progress.false,
       known-answers _ (image_in at) at.loop.number (world_at at) (turn_at turning) v at.loop.invariant.4 got.ensures.0,
     )
 

@@ -25,7 +25,7 @@ abbrev playing_of : tie.After-lines_of-size → tie.After-play-after
 playing_of c = c.before.before.before.before.before.before.before
 
 few_bytes : (c : tie.After-read_full-got) → c.read_full-got.result ≤ 43
-few_bytes c = omega (arith, c.read_full-got.ensures.0, c.read_full-got.auto.1.0, (start_of c).requires.line_len.0)
+few_bytes c = omega (arith, c.read_full-got.ensures.0, c.read_full-got.auto.1.0, (start_of c).requires.0.0)
 
 one_line : (c : tie.After-read_full-got) → lines_of c.read_full-got.result ≤ 1
 one_line c = few-lines c.read_full-got.result (few_bytes c)
@@ -46,7 +46,7 @@ play-requires c κs =
     let reading = c.before.before.before.before.before.before in
     let start = start_of reading in
     let few = one_line reading in
-    rw (← reading.read-full.ensures.1) (omega (arith, few, start.requires.line_len.1), (omega (arith, few, start.requires.line_bound), start.requires.known))
+    rw (← reading.read-full.ensures.1) (omega (arith, few, start.requires.0.1), (omega (arith, few, start.requires.1.0), start.requires.1.1))
 
 lines-of-requires : tie.Need-lines_of-size-requires
 lines-of-requires c κs = search rules
@@ -59,7 +59,7 @@ slice-reshare-prefix-write-all c =
     let playing = playing_of c in
     let reading = reading_of playing in
     let few = one_line reading in
-    omega (arith, few, c.lines_of-size.ensures, playing.play-after.kept.1.1.1.1.1.0, (start_of reading).requires.line_len.1)
+    omega (arith, few, c.lines_of-size.ensures, playing.play-after.kept.1.1.1.1.1.0, (start_of reading).requires.0.1)
 
 slice-aggregate-write-all : tie.Need-slice_bounds-write_all-end-2
 slice-aggregate-write-all c = sym (length-take-le _ _ (slice-reshare-prefix-write-all c.before))
@@ -95,7 +95,7 @@ returns c =
     let w = world_of start.args.player.machine start.args.pool.now start.args.table.now in
     let v = world_of played.result played.last.1.0 played.last.1.1.0 in (
       turn-answers image got.last.1.0 start.args.reply.now reply start.args.player.line got.result writing.write_all-written.result w v
-          start.requires.line_bound (few_bytes reading) (sym got.ensures.1) played.ensures,
+          start.requires.1.0 (few_bytes reading) (sym got.ensures.1) played.ensures,
       c.goes_on.ensures ∙ ap (λ n. writing.write_all-written.result && eqb n 43) got.ensures.1,
     )
 

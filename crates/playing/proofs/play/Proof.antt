@@ -160,22 +160,22 @@ reply-lines-requires c κs =
     let s = start_of at in
     let inv = at.loop.invariant in
     let lines = at.before.lines_of.ensures in
-    let known = known-played s.args.player.sound _ _ s.args.roll.now _ _ _ _ _ s.requires.known inv.7 in
+    let known = known-played s.args.player.sound _ _ s.args.roll.now _ _ _ _ _ s.requires.1.1 inv.7 in
     rw (block-lines read) (
-      omega (arith, (some read).1, lines, inv.3, s.requires.roll_in_bounds),
-      omega (arith, (some read).1, lines, inv.5, s.requires.roll_bound),
+      omega (arith, (some read).1, lines, inv.3, s.requires.0),
+      omega (arith, (some read).1, lines, inv.5, s.requires.1.0),
       subst (λ b. Known b s.args.image.now (played_by at.loop.playing at.loop.pool at.loop.table)) (sym inv.6) known,
     )
 
 loop-less : tie.Need-loop-playing-smaller invariant-loop decreases-loop
 loop-less c =
-    let reply = c.before.before.before.before.before.before.reply_lines-playing in
+    let reply = c.reply_lines-playing in
     let read = c.before.before.before.before.before.before.before.before.before.before.before.before in
     omega (arith, reply.ensures.2, block-lines read, (some read).0, (some read).1)
 
 loop-again : tie.Need-loop-playing-preserved invariant-loop decreases-loop
 loop-again c =
-    let reply = c.before.before.before.before.before.before.reply_lines-playing in
+    let reply = c.reply_lines-playing in
     let read = c.before.before.before.before.before.before.before.before.before.before.before.before in
     let at = loop_of (counted read) in
     let s = start_of at in
@@ -207,8 +207,8 @@ returns c =
     let all : at.loop-playing.playing.answered ≡ lines_of (length s.args.roll.now) = omega (
       arith,
       at.loop-playing.invariant.0,
-      c.before.before.loop-playing-test.false,
-      at.before.lines_of-lines.ensures,
+      c.loop-playing-test.false,
+      at.lines_of-lines.ensures,
     ) in
     let before = world_of s.args.player.machine s.args.pool.now s.args.table.now in
     subst (λ n. Played s.args.image.now before s.args.roll.now n s.args.player.line s.args.out.now at.loop-playing.out

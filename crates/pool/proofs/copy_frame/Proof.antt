@@ -28,7 +28,7 @@ same_length c = search rules
 returns : tie.Need-returns
 returns c =
     let s = (at-start (at-load-frame c)).args in
-    c.before.before.fill_frame.ensures ∙ ap (set_frame page_bytes s.pool.now s.to.0) (at-load-frame c).load_frame-page.ensures
+    c.fill_frame.ensures ∙ ap (set_frame page_bytes s.pool.now s.to.0) (at-load-frame c).load_frame-page.ensures
 
 pub copy_frame_spec : {M : Type 1} → statement M
 copy_frame_spec =

@@ -43,9 +43,9 @@ returns c =
     let pool = start.args.pool.now in
     let src = start.args.src.now in
     let f = start.args.f.0 in (
-      frame-back-as 256 pool m.restore.new.0 src f m.restore.ensures.part_after start.requires.src_len,
-      m.restore.ensures.differed
-          ∙ ap₂ (λ (n : ℕ) (xs : List ℕ). differs n xs src) (length-lent 256 pool f start.requires.f_in_bounds) (part-is-frame 256 pool f),
+      frame-back-as 256 pool m.restore.new.0 src f m.restore.ensures.0 start.requires.1,
+      m.restore.ensures.1
+          ∙ ap₂ (λ (n : ℕ) (xs : List ℕ). differs n xs src) (length-lent 256 pool f start.requires.0) (part-is-frame 256 pool f),
     )
 
 pub restore_frame_spec : {M : Type 1} → statement M

@@ -30,7 +30,7 @@ returns c =
     let load = at-load-frame c in
     let a = (at-start load).args in
     let pool = a.pool.now in
-    let restore = c.before.before.restore_frame.ensures in (
+    let restore = c.restore_frame.ensures in (
       restore.0 ∙ ap (set_frame page_bytes pool a.to.0) load.load_frame-bytes.ensures,
       restore.1 ∙ ap (differs page_bytes (frame page_bytes pool a.to.0)) load.load_frame-bytes.ensures,
     )

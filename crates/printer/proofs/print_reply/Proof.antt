@@ -44,7 +44,7 @@ returns c =
     let left = value.print_at-3.last.0 in
     let last = a.value ∷ [] in
     let later = a.number ∷ last in
-    line-printed a.out.now left (a.line ∷ later) (begun c).requires.out_len
+    line-printed a.out.now left (a.line ∷ later) (begun c).requires.0
     (field-then a.out.now line.print_at.last.0 left 0 a.line later line.print_at.ensures
     (field-then line.print_at.last.0 number.print_at-2.last.0 left 1 a.number last number.print_at-2.ensures
     value.print_at-3.ensures))
@@ -52,7 +52,7 @@ returns c =
 same_length : tie.Need-shape_of-out
 same_length c =
     let start = begun c in
-    ap length (returns c) ∙ length-reply start.args.line start.args.number start.args.value ∙ sym start.requires.out_len
+    ap length (returns c) ∙ length-reply start.args.line start.args.number start.args.value ∙ sym start.requires.0
 
 pub print_reply_spec : {M : Type 1} → statement M
 print_reply_spec =

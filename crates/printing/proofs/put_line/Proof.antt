@@ -11,8 +11,8 @@ next-requires c κs = search rules
 
 returns : tie.Need-returns-then-not-to
 returns c =
-    let a = c.before.before.before.before.args in
-    rw c.next.ensures (put-counted a.to a.out.now a.q (not-true a.to.writes c.before.if-not-to.true))
+    let a = c.args in
+    rw c.next.ensures (put-counted a.to a.out.now a.q (not-true a.to.writes c.if-not-to.true))
 
 cast-start : tie.Need-overflow_cast-start
 cast-start c = search rules
@@ -32,7 +32,7 @@ part-print-request-start c = search rules
 part-print-request-end : tie.Need-slice_bounds-print_request-end
 part-print-request-end c =
     let start = c.before.before.before.before in
-    omega (arith, start.requires.fits (not-false start.args.to.writes c.before.if-not-to.false))
+    omega (arith, start.requires.fits (not-false start.args.to.writes c.if-not-to.false))
 
 print-request-requires : tie.Need-print_request-requires
 print-request-requires c κs = search rules
@@ -46,8 +46,8 @@ same_length c = search rules
 returns-2 : tie.Need-returns
 returns-2 c =
     let tested = c.before.before.before.before.before.before in
-    let a = tested.before.before.before.args in
-    let printed = c.before.before.before.print_request in
+    let a = tested.args in
+    let printed = c.print_request in
     rw c.next-2.ensures (put-printed a.to a.out.now printed.new.0 a.q (not-false a.to.writes tested.if-not-to.false) printed.ensures)
 
 pub put_line_spec : {M : Type 1} → statement M

@@ -12,8 +12,8 @@ abbrev at-start : tie.After-within-to → tie.Start
 at-start c = c.before.before.before.before
 
 -- what is packed before the changed pages ends before them
-ready-before : (c : tie.After-up_to-before) → Ready c.up_to-before.result c.before.before.before.within-from.result
-ready-before c = ready-up-to _ _ c.before.before.before.within-from.result c.up_to-before.ensures
+ready-before : (c : tie.After-up_to-before) → Ready c.up_to-before.result c.within-from.result
+ready-before c = ready-up-to _ _ c.within-from.result c.up_to-before.ensures
 
 cast-within : tie.Need-overflow_cast-first
 cast-within c = search rules
@@ -35,17 +35,17 @@ up-to-requires c κs = search rules
 
 with-change-requires : tie.Need-with_change-changed-requires
 with-change-requires c κs =
-    let from = c.before.before.before.within-from in
-    let to = c.before.within-to in (
-      (at-start c.before).requires.formed,
+    let from = c.within-from in
+    let to = c.within-to in (
+      (at-start c.before).requires.0,
       (ready-before c, (omega (arith, from.ensures, to.ensures), omega (arith, to.ensures))),
     )
 
 with-parts-requires : tie.Need-with_parts-requires
 with-parts-requires c κs =
-    let from = c.before.before.before.before.within-from in
-    let to = c.before.before.within-to in (
-      (at-start c.before.before).requires.formed,
+    let from = c.within-from in
+    let to = c.within-to in (
+      (at-start c.before.before).requires.0,
       (
         ready-reached _ _ _ from.result to.result (omega (arith, from.ensures, to.ensures)) (ready-before c.before) c.with_change-changed.ensures,
         (omega (arith, to.ensures), omega arith),
@@ -54,11 +54,11 @@ with-parts-requires c κs =
 
 returns : tie.Need-returns
 returns c =
-    let from = c.before.before.before.before.before.within-from in
-    let to = c.before.before.before.within-to in
+    let from = c.within-from in
+    let to = c.within-to in
     let s = (at-start c.before.before.before).args in
     repack-all (slots s.areas) s.first.0 s.n s.change from.result to.result from.ensures to.ensures _ _ _
-    c.before.before.up_to-before.ensures c.before.with_change-changed.ensures c.with_parts.ensures
+    c.up_to-before.ensures c.with_change-changed.ensures c.with_parts.ensures
 
 pub repack_spec : {M : Type 1} → statement M
 repack_spec =

@@ -24,28 +24,28 @@ empty-requires : tie.Need-empty-kept-requires invariant-loop decreases-loop
 empty-requires c κs = tt
 
 loop-holds : tie.Need-loop-k-init invariant-loop decreases-loop
-loop-holds c = (omega arith, rw c.empty-kept.ensures (kept-start c.before.args.areas c.before.requires.formed c.before.args.to))
+loop-holds c = (omega arith, rw c.empty-kept.ensures (kept-start c.args.areas c.requires.0 c.args.to))
 
 cast-area : tie.Need-overflow_cast-area invariant-loop decreases-loop
 cast-area c = search rules
 
 mul-area : tie.Need-offset_bounds-areas-k invariant-loop decreases-loop
-mul-area c = omega (arith, c.before.before.before.requires.formed.formed.few)
+mul-area c = omega (arith, c.requires.0.formed.few)
 
 element-copy-out-area : tie.Need-bounds-areas-k invariant-loop decreases-loop
-element-copy-out-area c = omega (arith, c.before.before.before.requires.formed.formed.few, c.before.before.before.requires.formed.formed.eight)
+element-copy-out-area c = omega (arith, c.requires.0.formed.few, c.requires.0.formed.eight)
 
 returns : tie.Need-returns-then-to-area invariant-loop decreases-loop
 returns c =
     let s = start-of-turn c.before.before.before in
-    let l = c.before.before.before.before.loop-k in
-    kept-stop s.args.areas s.requires.formed s.args.to l.k l.auto l.invariant.1 c.before.before.before.loop-k-test.true c.if-to-area.true
+    let l = c.loop-k in
+    kept-stop s.args.areas s.requires.0 s.args.to l.k l.auto l.invariant.1 c.loop-k-test.true c.if-to-area.true
 
 part-requires : tie.Need-part-requires invariant-loop decreases-loop
 part-requires c κs =
     let s = start-of-turn c.before.before.before in
-    let k = c.before.before.before.before.loop-k.k in
-    ((near-formed s.args.areas s.requires.formed).at k (omega (arith, s.requires.formed.formed.few)), (end-small s.args.areas s.requires.formed k, omega arith))
+    let k = c.loop-k.k in
+    ((near-formed s.args.areas s.requires.0).at k (omega (arith, s.requires.0.formed.few)), (end-small s.args.areas s.requires.0 k, omega arith))
 
 cast-t10 : tie.Need-overflow_cast-k invariant-loop decreases-loop
 cast-t10 c = search rules
@@ -56,8 +56,8 @@ mul-t11 c = omega (arith, (start-of-turn (turn-of-part c)).pre.0.formed.few)
 element-set-from-kept : tie.Need-bounds-kept-k invariant-loop decreases-loop
 element-set-from-kept c =
     let s = start-of-turn (turn-of-part c) in
-    let l = (turn-of-part c).before.loop-k in
-    omega (arith, s.requires.formed.formed.few, kept-eight s.args.areas s.requires.formed s.args.to l.k l.kept l.invariant.1)
+    let l = (turn-of-part c).loop-k in
+    omega (arith, s.requires.0.formed.few, kept-eight s.args.areas s.requires.0 s.args.to l.k l.kept l.invariant.1)
 
 add_kept : tie.Need-overflow_add-kept invariant-loop decreases-loop
 add_kept c = omega (arith, (start-of-turn (turn-of-part c)).pre.0.formed.few)
@@ -71,18 +71,18 @@ loop-less c = omega arith
 loop-again : tie.Need-loop-k-preserved invariant-loop decreases-loop
 loop-again c =
     let s = start-of-turn (turn-of-part c) in
-    let l = (turn-of-part c).before.loop-k in (
+    let l = (turn-of-part c).loop-k in (
       omega arith,
       rw c.part.ensures
-          (kept_next s.args.areas s.requires.formed s.args.to l.k l.kept l.invariant.1 (turn-of-part c).loop-k-test.true
-          (omega (arith, c.before.if-to-area.false))),
+          (kept_next s.args.areas s.requires.0 s.args.to l.k l.kept l.invariant.1 (turn-of-part c).loop-k-test.true
+          (omega (arith, c.if-to-area.false))),
     )
 
 returns-2 : tie.Need-returns invariant-loop decreases-loop
 returns-2 c =
     let s = c.before.before.before in
-    let l = c.before.loop-k in
-    kept-all s.args.areas s.requires.formed s.args.to l.k l.auto l.invariant.1 (omega arith)
+    let l = c.loop-k in
+    kept-all s.args.areas s.requires.0 s.args.to l.k l.auto l.invariant.1 (omega arith)
 
 pub up_to_spec : {M : Type 1} → statement M
 up_to_spec =

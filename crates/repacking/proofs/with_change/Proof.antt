@@ -19,7 +19,7 @@ area-from-requires : tie.Need-area_from-requires
 area-from-requires c κs = search rules
 
 with-area-requires : tie.Need-with_area-requires
-with-area-requires c κs = (c.before.before.before.before.requires.ready.few, rw c.area_from.ensures (omega arith))
+with-area-requires c κs = (c.requires.1.0.few, rw c.area_from.ensures (omega arith))
 
 enum_told : tie.Need-enum_told-1
 enum_told c = search rules
@@ -38,27 +38,27 @@ with-parts-requires-2 c κs = search rules
 
 returns : tie.Need-returns-in-Map
 returns c =
-    let s = c.before.before.before.before.before in
-    change-map s.args.before (slots s.args.areas) s.args.from (s.args.to - s.args.from) s.args.change s.requires.ready _
-    c.before.before.before.change-1.given.1 c.with_area.result
-    (c.with_area.ensures ∙ ap (push_area s.args.before) c.before.area_from.ensures)
+    let s = c.before.before.before in
+    change-map s.args.before (slots s.args.areas) s.args.from (s.args.to - s.args.from) s.args.change s.requires.1.0 _
+    c.in-Map.is c.with_area.result
+    (c.with_area.ensures ∙ ap (push_area s.args.before) c.area_from.ensures)
 
 returns-2 : tie.Need-returns-in-Unmap
 returns-2 c =
-    let s = c.before.before in
-    change-unmap s.args.before (slots s.args.areas) s.args.from (s.args.to - s.args.from) s.args.change c.enum_told-1.given.1
+    let s = c.before in
+    change-unmap s.args.before (slots s.args.areas) s.args.from (s.args.to - s.args.from) s.args.change c.in-Unmap.is
 
 returns-3 : tie.Need-returns-in-Protect
 returns-3 c =
-    let s = c.before.before.before.before in
+    let s = c.before.before in
     change-protect s.args.before (slots s.args.areas) s.args.from (s.args.to - s.args.from) s.args.change _
-    c.before.before.change-in-Protect-1.given.1 c.with_parts.result c.with_parts.ensures
+    c.in-Protect.is c.with_parts.result c.with_parts.ensures
 
 returns-4 : tie.Need-returns-in-Commit
 returns-4 c =
-    let s = c.before.before.before in
+    let s = c.before.before in
     change-commit s.args.before (slots s.args.areas) s.args.from (s.args.to - s.args.from) s.args.change
-    c.before.enum_told-in-Commit-1.given.1 c.with_parts-in-Commit.result c.with_parts-in-Commit.ensures
+    c.in-Commit.is c.with_parts-in-Commit.result c.with_parts-in-Commit.ensures
 
 pub with_change_spec : {M : Type 1} → statement M
 with_change_spec =

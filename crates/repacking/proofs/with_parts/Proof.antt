@@ -22,17 +22,17 @@ decreases-loop from to update areas packed₀ k₀ k-end packed k = areas.count 
 loop-holds : tie.Need-loop-k-init invariant-loop decreases-loop
 loop-holds c = (
   omega arith,
-  parts-start c.args.areas c.requires.formed c.args.update c.args.before c.args.from c.args.to c.requires.from_le_to c.requires.ready,
+  parts-start c.args.areas c.requires.0 c.args.update c.args.before c.args.from c.args.to c.requires.1.1.0 c.requires.1.0,
 )
 
 cast-area : tie.Need-overflow_cast-area invariant-loop decreases-loop
 cast-area c = search rules
 
 mul-area : tie.Need-offset_bounds-areas-k invariant-loop decreases-loop
-mul-area c = omega (arith, c.before.before.requires.formed.formed.few)
+mul-area c = omega (arith, c.requires.0.formed.few)
 
 element-copy-out-area : tie.Need-bounds-areas-k invariant-loop decreases-loop
-element-copy-out-area c = omega (arith, c.before.before.requires.formed.formed.few, c.before.before.requires.formed.formed.eight)
+element-copy-out-area c = omega (arith, c.requires.0.formed.few, c.requires.0.formed.eight)
 
 -- the way back from where a fact is needed to where it was learned
 abbrev start-of-area : tie.After-area-1 invariant-loop decreases-loop → tie.Start invariant-loop decreases-loop
@@ -42,13 +42,13 @@ abbrev loop-of-area : tie.After-area-1 invariant-loop decreases-loop → tie.At-
 loop-of-area c = c.before.before
 
 reaches-requires : tie.Need-reaches-requires invariant-loop decreases-loop
-reaches-requires c κs = end-small (start-of-area c).args.areas (start-of-area c).requires.formed (loop-of-area c).loop-k.k
+reaches-requires c κs = end-small (start-of-area c).args.areas (start-of-area c).requires.0 (loop-of-area c).loop-k.k
 
 part-requires : tie.Need-part-requires invariant-loop decreases-loop
 part-requires c κs =
     let s = start-of-area c.before.before in
     let k = (loop-of-area c.before.before).loop-k.k in
-    ((near-formed s.args.areas s.requires.formed).at k (omega (arith, s.requires.formed.formed.few)), (end-small s.args.areas s.requires.formed k, omega arith))
+    ((near-formed s.args.areas s.requires.0).at k (omega (arith, s.requires.0.formed.few)), (end-small s.args.areas s.requires.0 k, omega arith))
 
 area-requires : tie.Need-area-requires invariant-loop decreases-loop
 area-requires c κs = tt
@@ -57,13 +57,13 @@ with-area-requires : tie.Need-with_area-packed-requires invariant-loop decreases
 with-area-requires c κs =
     let s = start-of-area c.before.before.before.before in
     let l = (loop-of-area c.before.before.before.before).loop-k in (
-      parts-few s.args.areas s.requires.formed s.args.update s.args.before s.args.from s.args.to s.requires.from_le_to s.requires.ready l.k l.packed
+      parts-few s.args.areas s.requires.0 s.args.update s.args.before s.args.from s.args.to s.requires.1.1.0 s.requires.1.0 l.k l.packed
           l.invariant.1,
-      rw (c.area.ensures, c.before.part.ensures) (omega (arith, end-small s.args.areas s.requires.formed l.k)),
+      rw (c.area.ensures, c.part.ensures) (omega (arith, end-small s.args.areas s.requires.0 l.k)),
     )
 
 add-k : tie.Need-overflow_step-k invariant-loop decreases-loop
-add-k c = omega (arith, (start-of-area c.before.before).requires.formed.formed.few)
+add-k c = omega (arith, (start-of-area c.before.before).requires.0.formed.few)
 
 loop-less : tie.Need-loop-k-smaller invariant-loop decreases-loop
 loop-less c = omega arith
@@ -73,8 +73,8 @@ loop-again c =
     let s = start-of-area c.before.before in
     let l = (loop-of-area c.before.before).loop-k in (
       omega arith,
-      parts_next s.args.areas s.requires.formed s.args.update s.args.before s.args.from s.args.to s.requires.from_le_to s.requires.ready l.k l.packed
-          l.invariant.1 c.before.before.before.loop-k-test.true c.before.reaches.result c.if-reaches.packed c.before.reaches.ensures
+      parts_next s.args.areas s.requires.0 s.args.update s.args.before s.args.from s.args.to s.requires.1.1.0 s.requires.1.0 l.k l.packed
+          l.invariant.1 c.loop-k-test.true c.reaches.result c.if-reaches.packed c.reaches.ensures
           (⊎_elim
           (λ w. inl (w.0.taken, w.4 ∙ w.3.ensures ∙ ap (push_area l.packed) (w.2.ensures ∙ ap (updated_area s.args.update) w.1.ensures)))
           (λ w. inr (w.0.left, w.1)) c.if-reaches.branch),
@@ -83,8 +83,8 @@ loop-again c =
 returns : tie.Need-returns invariant-loop decreases-loop
 returns c =
     let s = c.before.before in
-    let l = c.before.loop-k in
-    parts_all s.args.areas s.requires.formed s.args.update s.args.before s.args.from s.args.to s.requires.from_le_to s.requires.ready l.k l.packed
+    let l = c.loop-k in
+    parts_all s.args.areas s.requires.0 s.args.update s.args.before s.args.from s.args.to s.requires.1.1.0 s.requires.1.0 l.k l.packed
     l.invariant.1 (omega arith)
 
 pub with_parts_spec : {M : Type 1} → statement M

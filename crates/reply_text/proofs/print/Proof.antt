@@ -19,7 +19,7 @@ same_length : tie.Need-shape_of-out
 same_length c = search rules
 
 returns : tie.Need-returns
-returns c = rw (← c.before.before.before.before.number.ensures, ← c.before.before.before.value.ensures) c.before.before.print_reply.ensures
+returns c = rw (← c.number.ensures, ← c.value.ensures) c.print_reply.ensures
 
 pub print_spec : {M : Type 1} → statement M
 print_spec =

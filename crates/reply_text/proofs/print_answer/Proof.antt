@@ -37,8 +37,8 @@ same_length c = search rules
 
 returns : tie.Need-returns
 returns c =
-    let shown = c.before.before.print in
-    let a = c.before.before.before.before.before.args in
+    let shown = c.print in
+    let a = c.args in
     let at = a.place * 19 in
     part-is a.out.now shown.new.0 at ∙ ap (λ ys. take at a.out.now ++ (ys ++ drop (at + 19) a.out.now)) shown.ensures
 

@@ -36,7 +36,7 @@ loop-holds c =
         answered = sym (add-zero _);
         sound = refl;
         four = given-four s;
-        bytes = λ j. omega (arith, c.before.before.before.before.slice_known-1.given j);
+        bytes = λ j. omega (arith, c.slice_known-1.given j);
         known = s.requires.2;
         replied = replied-none _ _ _ _ _ _;
       },
@@ -48,18 +48,18 @@ line-in-requires c κs = let more = c.loop-i-test.true in omega (arith, more)
 cast-number : tie.Need-overflow_cast-number Inv-loop μ-loop
 cast-number c =
     let at = c.before.before in
-    record { fits = omega (arith, at.loop-i.invariant.1.answered, c.before.loop-i-test.true, (start_of at).requires.1) }
+    record { fits = omega (arith, at.loop-i.invariant.1.answered, c.loop-i-test.true, (start_of at).requires.1) }
 
 add-number : tie.Need-overflow_add-number Inv-loop μ-loop
 add-number c =
     let at = c.before.before in
     let far = at.loop-i.invariant.1 in
-    record { fits = omega (arith, far.answered, far.first, c.before.loop-i-test.true, (start_of at).requires.1) }
+    record { fits = omega (arith, far.answered, far.first, c.loop-i-test.true, (start_of at).requires.1) }
 
 add-playing : tie.Need-overflow_add-playing Inv-loop μ-loop
 add-playing c =
     let at = c.before.before in
-    record { fits = omega (arith, at.loop-i.invariant.1.answered, c.before.loop-i-test.true, (start_of at).requires.1) }
+    record { fits = omega (arith, at.loop-i.invariant.1.answered, c.loop-i-test.true, (start_of at).requires.1) }
 
 add-i : tie.Need-overflow_add-i Inv-loop μ-loop
 add-i c = search rules
@@ -72,18 +72,18 @@ enum-known-asked c = search rules
 
 print-answer-requires : tie.Need-print_answer-requires Inv-loop μ-loop
 print-answer-requires c κs =
-    let way = c.before.before in
-    let print = to-print way.before.before in
+    let way = c.before in
+    let print = to-print way.before in
     (print.0, (print.1, (refused way).small))
 
 loop-less : tie.Need-loop-i-smaller-in-Refused Inv-loop μ-loop
-loop-less c = nearer c.before.before.before.before.before.before.before
+loop-less c = nearer c.before.before.before.before.before
 
 loop-again : tie.Need-loop-i-preserved-in-Refused Inv-loop μ-loop
 loop-again c =
     let printed = c.before.before in
-    let way = printed.before.before.before in
-    go_on way.before.before _ _ _ _ _ (refused way) printed.print_answer.auto.0 printed.print_answer.ensures
+    let way = printed.before.before in
+    go_on way.before _ _ _ _ _ (refused way) printed.print_answer.auto.0 printed.print_answer.ensures
 
 enum-known-asked-2 : tie.Need-enum_known-asked-in-Call-1 Inv-loop μ-loop
 enum-known-asked-2 c = search rules
@@ -104,7 +104,7 @@ rewind-sandbox-requires : tie.Need-rewind_sandbox-rewound-requires Inv-loop μ-l
 rewind-sandbox-requires c κs =
     let told = rewinding c in
     let s = asking told in
-    (c.before.before.if-q-eq-REWIND.true, ((calls told).low, ((state_in s).sandboxes, (unasked s, stands-alone c))))
+    (c.if-q-eq-REWIND.true, ((calls told).low, ((state_in s).sandboxes, (unasked s, stands-alone c))))
 
 mul-after : tie.Need-offset_bounds-playing-k-then-q-eq-REWIND Inv-loop μ-loop
 mul-after c = let low = (calls (rewinding (rewound-at c).before)).low in search rules
@@ -133,7 +133,7 @@ loop-again-2 c =
 
 answer-requires : tie.Need-answer-tried-requires Inv-loop μ-loop
 answer-requires c κs =
-    let told = c.before.before.before.before.before.before.before in
+    let told = c.before.before.before.before.before.before in
     ((calls told).low, (world_in (asking told), around told))
 
 print-answer-requires-3 : tie.Need-print_answer-requires-then-tried Inv-loop μ-loop

@@ -33,7 +33,7 @@ behind c = c.before.before.before.before
 loop-holds : tie.Need-loop-i-init invariant-loop decreases-loop
 loop-holds c =
     let s = c.before.before.before in
-    (search rules, refl, s.requires.ranged, λ h. none-restored s.args.image.now s.args.backing s.args.at _)
+    (search rules, refl, s.requires.1.0, λ h. none-restored s.args.image.now s.args.backing s.args.at _)
 
 cast-restore-page : tie.Need-overflow_cast-i invariant-loop decreases-loop
 cast-restore-page c = search rules
@@ -44,14 +44,14 @@ add-restore-page c = search rules
 advanced-requires : tie.Need-advanced-requires invariant-loop decreases-loop
 advanced-requires c κs =
     let turn = c.before in
-    omega (arith, (behind turn.before).requires.backed.near, turn.loop-i-test.true)
+    omega (arith, (behind turn.before).requires.1.1.0.near, turn.loop-i-test.true)
 
 restore-page-requires : tie.Need-restore_page-differed-requires invariant-loop decreases-loop
 restore-page-requires c κs =
     let turn = c.before.before in
-    let l = turn.before.loop-i in
+    let l = turn.loop-i in
     let s = behind turn.before in
-    (omega (arith, s.requires.pages_bound, turn.loop-i-test.true), (l.invariant.2, rw c.advanced.ensures (s.requires.backed.there l.i turn.loop-i-test.true)))
+    (omega (arith, s.requires.0, turn.loop-i-test.true), (l.invariant.2, rw c.advanced.ensures (s.requires.1.1.0.there l.i turn.loop-i-test.true)))
 
 counted-requires : tie.Need-counted-changed-requires invariant-loop decreases-loop
 counted-requires c κs = search rules
@@ -59,7 +59,7 @@ counted-requires c κs = search rules
 add-changed : tie.Need-overflow_add-changed invariant-loop decreases-loop
 add-changed c =
     let turn = c.before.before.before.before.before.before in
-    let l = turn.before.loop-i in
+    let l = turn.loop-i in
     let s = behind turn.before in
     let a = s.args in
     let few = changed-few a.image.now a.at (λ k. true) (advance a.backing) (kept none_held a.pool.now a.table.now) l.i in
@@ -67,10 +67,10 @@ add-changed c =
       arith,
       (l.invariant.3 none_held).told,
       few,
-      one-small c.before.before.before.restore_page-differed.result,
+      one-small c.restore_page-differed.result,
       c.counted-changed.ensures,
       turn.loop-i-test.true,
-      s.requires.pages_bound_2,
+      s.requires.1.1.1,
     )
 
 add-i : tie.Need-overflow_step-i invariant-loop decreases-loop
@@ -83,7 +83,7 @@ loop-again : tie.Need-loop-i-preserved invariant-loop decreases-loop
 loop-again c =
     let page = c.before.before.before in
     let turn = page.before.before.before in
-    let l = turn.before.loop-i in
+    let l = turn.loop-i in
     let s = behind turn.before in
     let a = s.args in
     let image = a.image.now in
@@ -91,12 +91,12 @@ loop-again c =
     let r : Held → Store = λ h. kept h l.pool a.table.now in
     let q : Held → Store = λ h. kept h page.restore_page-differed.new.0 a.table.now in
     let e : (h : Held) → q h ≡ rewind_page image (a.at + l.i) (a.at + l.i + 64) true backing (r h) =
-    λ h. rw page.before.advanced.ensures at (page.restore_page-differed.ensures.table_after h) in
+    λ h. rw page.advanced.ensures at (page.restore_page-differed.ensures.0 h) in
     let d : (h : Held) → page.restore_page-differed.result ≡ page_differs 256 (a.at + l.i) (a.at + l.i + 64) (backing_page image backing) (r h) =
-    λ h. rw page.before.advanced.ensures at (page.restore_page-differed.ensures.differed h) in
+    λ h. rw page.advanced.ensures at (page.restore_page-differed.ensures.1 h) in
     let k =
     rewind-kept-as image (a.at + l.i) (a.at + l.i + 64) backing (r none_held) true (q none_held) (e none_held) l.invariant.2
-    (s.requires.backed.there l.i turn.loop-i-test.true) in (
+    (s.requires.1.1.0.there l.i turn.loop-i-test.true) in (
       search rules,
       k.pool ∙ l.invariant.1,
       k.ranged,
@@ -113,7 +113,7 @@ same_length c = search rules
 
 returns : tie.Need-returns invariant-loop decreases-loop
 returns c = λ h.
-    let l = c.before.loop-i in
+    let l = c.loop-i in
     let end : l.i ≡ (behind c.before).args.pages = omega (arith, l.invariant.0, c.loop-i-test.false) in
     rw end at (l.invariant.3 h)
 

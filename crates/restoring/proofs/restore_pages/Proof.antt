@@ -39,16 +39,16 @@ few-of left n e l = go (dec_lt left 8)
     go (yes b) = let m : n ≡ left = e ∙ rw (lt-ltb left 8 b) in (omega arith, omega arith, omega arith)
     go (no b) = let m : n ≡ 8 = e ∙ rw (le-ltb left 8 (omega arith)) in (omega arith, omega arith, omega arith)
 
-group : (c : tie.After-group_of-n invariant-loop decreases-loop) → let l = c.before.before.loop-i in let n = c.Group-of.result in
+group : (c : tie.After-group_of-n invariant-loop decreases-loop) → let l = c.loop-i in let n = c.Group-of.result in
     (0 < n) × (l.i + n ≤ (behind c.before.before).args.pages) × (n ≤ 8)
 group c =
-    let l = c.before.before.loop-i in
+    let l = c.loop-i in
     let pages : ℕ = (behind c.before.before).args.pages in
-    let f = few-of (pages - l.i) c.Group-of.result c.Group-of.ensures (omega (arith, c.before.loop-i-test.true)) in
-    (f.0, omega (arith, f.1, c.before.loop-i-test.true), f.2)
+    let f = few-of (pages - l.i) c.Group-of.result c.Group-of.ensures (omega (arith, c.loop-i-test.true)) in
+    (f.0, omega (arith, f.1, c.loop-i-test.true), f.2)
 
 next-front-requires : tie.Need-next_front-i-requires invariant-loop decreases-loop
-next-front-requires c κs = let p = c.before.before.before.requires in (p.1.0.entries, (p.0, (p.1.1.1, omega arith)))
+next-front-requires c κs = let p = c.requires in (p.1.0.entries, (p.0, (p.1.1.1, omega arith)))
 
 loop-holds : tie.Need-loop-i-init invariant-loop decreases-loop
 loop-holds c =
@@ -58,7 +58,7 @@ loop-holds c =
     let next = c.next_front-i.ensures in (
       next.0.1,
       refl,
-      s.requires.ranged,
+      s.requires.1.0,
       λ h. restored-past a.image.now a.backing a.at (st h) (st h) 0 0 _ (none-restored a.image.now a.backing a.at (st h)) (omega arith)
           next.1,
     )
@@ -73,41 +73,41 @@ cast-restore-each : tie.Need-overflow_cast-i invariant-loop decreases-loop
 cast-restore-each c = search rules
 
 add-restore-each : tie.Need-overflow_add-at invariant-loop decreases-loop
-add-restore-each c = let turn = c.before.before in omega (arith, (behind turn.before).requires.pages_bound, turn.loop-i-test.true)
+add-restore-each c = let turn = c.before.before in omega (arith, (behind turn.before).requires.0, turn.loop-i-test.true)
 
 advanced-requires : tie.Need-advanced-requires invariant-loop decreases-loop
 advanced-requires c κs =
     let turn = c.before.before in
-    omega (arith, (behind turn.before).requires.backed.near, turn.loop-i-test.true)
+    omega (arith, (behind turn.before).requires.1.1.0.near, turn.loop-i-test.true)
 
 restore-each-requires : tie.Need-restore_each-changed-requires invariant-loop decreases-loop
 restore-each-requires c κs =
     let some = c.before.before in
-    let l = some.before.before.loop-i in
+    let l = some.loop-i in
     let s = behind some.before.before in
     let a = s.args in
     let n = group some in
-    let part = backed-part a.image.now a.backing a.pages s.requires.backed l.i some.Group-of.result n.1 in
-    (omega (arith, s.requires.pages_bound, n.1), (l.invariant.2, (rw c.advanced.ensures part, omega (arith, n.2))))
+    let part = backed-part a.image.now a.backing a.pages s.requires.1.1.0 l.i some.Group-of.result n.1 in
+    (omega (arith, s.requires.0, n.1), (l.invariant.2, (rw c.advanced.ensures part, omega (arith, n.2))))
 
 add-changed : tie.Need-overflow_add-changed invariant-loop decreases-loop
 add-changed c =
     let each = c.before.before in
     let some = each.before.before.before in
-    let l = some.before.before.loop-i in
+    let l = some.loop-i in
     let s = behind some.before.before in
     let a = s.args in
     let n = some.Group-of.result in
     let st : Store = kept none_held a.pool.now a.table.now in
     let r : Store = kept none_held l.pool a.table.now in
     let so_far = changed-few a.image.now a.at (λ k. true) (advance a.backing) st l.i in
-    let here = changed-few a.image.now (a.at + l.i) (λ k. true) (advance each.before.advanced.result) r n in
-    omega (arith, (l.invariant.3 none_held).told, so_far, (each.restore_each-changed.ensures none_held).told, here, (group some).1, s.requires.pages_bound_2)
+    let here = changed-few a.image.now (a.at + l.i) (λ k. true) (advance each.advanced.result) r n in
+    omega (arith, (l.invariant.3 none_held).told, so_far, (each.restore_each-changed.ensures none_held).told, here, (group some).1, s.requires.1.1.1)
 
 add-next-front : tie.Need-overflow_add-i invariant-loop decreases-loop
 add-next-front c =
     let some = c.before.before.before.before.before in
-    omega (arith, (group some).1, (behind some.before.before).requires.pages_bound_2)
+    omega (arith, (group some).1, (behind some.before.before).requires.1.1.1)
 
 next-front-requires-2 : tie.Need-next_front-i-requires-in-loop-i invariant-loop decreases-loop
 next-front-requires-2 c κs =
@@ -118,13 +118,13 @@ next-front-requires-2 c κs =
 loop-less : tie.Need-loop-i-smaller invariant-loop decreases-loop
 loop-less c =
     let some = c.before.before.before.before.before.before in
-    omega (arith, (group some).0, (group some).1, c.next_front-i-in-loop-i.ensures.lower_bound.0, some.before.loop-i-test.true)
+    omega (arith, (group some).0, (group some).1, c.next_front-i-in-loop-i.ensures.0.0, some.loop-i-test.true)
 
 loop-again : tie.Need-loop-i-preserved invariant-loop decreases-loop
 loop-again c =
     let each = c.before.before.before in
     let some = each.before.before.before in
-    let l = some.before.before.loop-i in
+    let l = some.loop-i in
     let s = behind some.before.before in
     let a = s.args in
     let n = some.Group-of.result in
@@ -134,8 +134,8 @@ loop-again c =
     let q : Held → Store = λ h. kept h each.restore_each-changed.new.0 a.table.now in
     let d : ℕ = each.restore_each-changed.result in
     let here : (h : Held) → RestoredTo a.image.now on (a.at + l.i) (r h) (q h) d n =
-    λ h. rw each.before.advanced.ensures at (each.restore_each-changed.ensures h) in
-    let part = backed-part a.image.now a.backing a.pages s.requires.backed l.i n (group some).1 in
+    λ h. rw each.advanced.ensures at (each.restore_each-changed.ensures h) in
+    let part = backed-part a.image.now a.backing a.pages s.requires.1.1.0 l.i n (group some).1 in
     let k =
     rewind_to-kept-as a.image.now (a.at + l.i) (λ j. true) (advance on) (r none_held) (q none_held) n (here none_held).left l.invariant.2 part.there in
     let next = c.next_front-i-in-loop-i.ensures in (
@@ -151,7 +151,7 @@ same_length c = search rules
 
 returns : tie.Need-returns invariant-loop decreases-loop
 returns c = λ h.
-    let l = c.before.loop-i in
+    let l = c.loop-i in
     let end : l.i ≡ (behind c.before).args.pages = omega (arith, l.invariant.0, c.loop-i-test.false) in
     rw end at (l.invariant.3 h)
 

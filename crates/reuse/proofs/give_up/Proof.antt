@@ -23,8 +23,8 @@ found c = c.before.before.before
 some : (c : tie.After-at-run) → 1 ≤ count_held c.at-run.result
 some c =
     let kept = (counted (found c)).kept in
-    longest-has (behind (counted (found c))).args.runs c.before.longest-place.result kept.result c.at-run.result kept.ensures.0
-    (found c).before.if-most-eq0.false c.before.longest-place.ensures.value c.at-run.ensures
+    longest-has (behind (counted (found c))).args.runs c.longest-place.result kept.result c.at-run.result kept.ensures.0
+    (found c).if-most-eq0.false c.longest-place.ensures.0 c.at-run.ensures
 
 kept-requires : tie.Need-kept-most-requires
 kept-requires c κs = search rules
@@ -32,7 +32,7 @@ kept-requires c κs = search rules
 returns : tie.Need-returns-then-most-eq0
 returns c =
     let s = c.before.before.before in
-    gave-none _ s.args.runs s.args.kept (nothing-kept s.args.share _ _ s.args.runs c.before.kept-most.ensures.value s.requires.table_bound c.if-most-eq0.true)
+    gave-none _ s.args.runs s.args.kept (nothing-kept s.args.share _ _ s.args.runs c.kept-most.ensures.0 s.requires.1.1 c.if-most-eq0.true)
 
 used-requires : tie.Need-used-requires
 used-requires c κs = search rules
@@ -45,7 +45,7 @@ returns-2 c =
     let kept = counted c.before in
     let a = (behind kept).args in
     gave-none _ a.runs a.kept
-    (within-share a.share _ kept.kept-most.result a.runs kept.kept-most.ensures.value (omega (arith, c.if-used-most.true, c.before.used.ensures.value)))
+    (within-share a.share _ kept.kept-most.result a.runs kept.kept-most.ensures.0 (omega (arith, c.if-used-most.true, c.used.ensures.0)))
 
 longest-requires : tie.Need-longest-place-requires
 longest-requires c κs = search rules
@@ -57,14 +57,14 @@ least-requires : tie.Need-least-requires
 least-requires c κs = search rules
 
 without-requires : tie.Need-without-requires
-without-requires c κs = rw c.least.ensures (least-found c.before.at-run.result (some c.before)).0
+without-requires c κs = rw c.least.ensures (least-found c.at-run.result (some c.before)).0
 
 with-requires : tie.Need-with-requires
 with-requires c κs = search rules
 
 without-requires-2 : tie.Need-without-requires-2
 without-requires-2 c κs =
-    let l = c.before.before in rw l.least.ensures (least-found l.before.at-run.result (some l.before)).0
+    let l = c.before.before in rw l.least.ensures (least-found l.at-run.result (some l.before)).0
 
 returns-3 : tie.Need-returns
 returns-3 c =
@@ -73,11 +73,11 @@ returns-3 c =
     let used = found run in
     let kept = counted used in
     let a = (behind kept).args in
-    rw (c.before.with.ensures, c.before.before.without.ensures, c.without-2.ensures, least.least.ensures)
-    (gave_one _ a.runs a.kept run.before.longest-place.result run.at-run.result
-    (above-share a.share _ kept.kept-most.result a.runs kept.kept-most.ensures.value
-    (omega (arith, run.before.before.if-used-most.false, used.used.ensures.value)))
-    run.before.longest-place.ensures.value run.at-run.ensures (some run))
+    rw (c.with.ensures, c.without.ensures, c.without-2.ensures, least.least.ensures)
+    (gave_one _ a.runs a.kept run.longest-place.result run.at-run.result
+    (above-share a.share _ kept.kept-most.result a.runs kept.kept-most.ensures.0
+    (omega (arith, run.if-used-most.false, used.used.ensures.0)))
+    run.longest-place.ensures.0 run.at-run.ensures (some run))
 
 pub give_up_spec : {M : Type 1} → statement M
 give_up_spec =

@@ -27,25 +27,25 @@ enum_told c = search rules
 
 returns : tie.Need-returns-in-Frame
 returns c =
-    let free = sought c.before in
-    let both = free.before.both-both in
+    let free = sought c in
+    let both = free.both-both in
     let s = free.before.before in
-    let found = c.before.found-1.given in
+    let found = c.found.given in
     let f = found.0.0.0 in
     let g = greatest-found (held both.result) s.args.frames found.0.0 (sym free.greatest_free-found.ensures ∙ found.1) in
     let two =
-    both-free s.args.named s.args.kept f (omega (arith, g.within, s.requires.frames_bound)) (ap (λ (h : Held). held h f) (sym both.ensures) ∙ g.free) in
+    both-free s.args.named s.args.kept f (omega (arith, g.within, s.requires.0)) (ap (λ (h : Held). held h f) (sym both.ensures) ∙ g.free) in
     (g.within, (two.0, two.1))
 
 returns-2 : tie.Need-returns-in-None
 returns-2 c =
-    let s = c.before.before.before.before in
-    let free = c.before.before.greatest_free-found in
-    let both = c.before.before.before.both-both in
-    let there = s.requires.by_index in
-    absurd (greatest-all (held both.result) s.args.frames (sym free.ensures ∙ c.enum_told-1.given.1) there.0 there.1.0
+    let s = c.before.before.before in
+    let free = c.greatest_free-found in
+    let both = c.both-both in
+    let there = s.requires.1 in
+    absurd (greatest-all (held both.result) s.args.frames (sym free.ensures ∙ c.in-None.is) there.0 there.1.0
     (ap (λ (h : Held). held h there.0) both.ensures
-    ∙ free-both s.args.named s.args.kept there.0 (omega (arith, there.1.0, s.requires.frames_bound)) there.1.1.0 there.1.1.1))
+    ∙ free-both s.args.named s.args.kept there.0 (omega (arith, there.1.0, s.requires.0)) there.1.1.0 there.1.1.1))
 
 pub unheld_frame_spec : {M : Type 1} → statement M
 unheld_frame_spec = tie.close (tie.spec both-requires greatest-free-requires enum-known-found enum_told returns returns-2)

@@ -40,19 +40,19 @@ abbrev Row : tie.Start → Together → List Sandbox → Type 0
 Row s all row = Stands s.args.image.now s.args.q s.args.b all (store_in s) row
 
 abbrev there : tie.Start → List Sandbox
-there s = s.requires.stands.0
+there s = s.requires.1.1.0
 
 abbrev all : tie.Start → Together
-all s = s.requires.stands.1.0
+all s = s.requires.1.1.1.0
 
 abbrev its : (s : tie.Start) → Row s (all s) (there s)
-its s = s.requires.stands.1.1
+its s = s.requires.1.1.1.1
 
 unpaged : (q : Request) → q.code ≡ rewind_code → names_no_page q ≡ true
 unpaged q e = rw e
 
 own : (s : tie.Start) → Ready (pages_in (length s.args.image.now)) s.args.b.rec
-own s = own-ready s.args.image.now s.args.q s.args.b (all s) (store_in s) (there s) (its s) s.requires.sandbox_bound
+own s = own-ready s.args.image.now s.args.q s.args.b (all s) (store_in s) (there s) (its s) s.requires.1.0
 
 -- what a rewind makes of the record of an open sandbox: the snapshot's areas are its present ones
 record-rewound : (q : Request) (r : Record) → q.code ≡ rewind_code → r.opened ≡ true → with_present r.snapshot r ≡ record_after q r
@@ -86,7 +86,7 @@ unfolding number_at
 opened-here s all row a n =
     let q : Request = s.args.q in
     let w : World = world_from row (store_in s) in
-    let e : q.code ≡ rewind_code = s.requires.code_value in
+    let e : q.code ≡ rewind_code = s.requires.0 in
     ap (λ (x : Sandbox). x.rec.opened) a.handed.own ∙ (accepted (view_at s.args.image.now w q.sandbox) q n).opened (rw e)
 
 filed : (s : tie.Start) → Filed 256 (pages_in (length s.args.pool.now)) (store_in s)
@@ -101,7 +101,7 @@ abbrev told_at : tie.After-gathered-arg-1 → tie.In-Accepted
 told_at c = c.before.before.before.before
 
 abbrev gathering : tie.After-gathered-arg-1 → tie.Start
-gathering c = decided (told_at c).before.before
+gathering c = decided (told_at c).before
 
 -- ---- the needs
 
@@ -111,7 +111,7 @@ cast-images c =
     omega (arith, (sound-here s.args.image.now s.args.q s.args.b (all s) (store_in s) (there s) (its s)).images)
 
 decide-requires : tie.Need-decide-verdict-requires
-decide-requires c κs = let s = start c in (unpaged s.args.q s.requires.code_value, (s.requires.sandbox_bound, own s))
+decide-requires c κs = let s = start c in (unpaged s.args.q s.requires.0, (s.requires.1.0, own s))
 
 enum-known-verdict : tie.Need-enum_known-verdict
 enum-known-verdict c = search rules
@@ -126,12 +126,12 @@ gathered-requires : tie.Need-gathered-left-requires
 gathered-requires c κs =
     let s = gathering c in
     let r = ranged s in
-    (s.requires.sandbox_bound, (settled (pages_in (length s.args.image.now)) s.args.b.rec.present (own s).sound.present (own s).few, (r.entries, r.few)))
+    (s.requires.1.0, (settled (pages_in (length s.args.image.now)) s.args.b.rec.present (own s).sound.present (own s).few, (r.entries, r.few)))
 
 rewind-requires : tie.Need-rewind-restored-requires
 rewind-requires c κs =
     let s = gathering c.before.before.before in
-    (s.requires.sandbox_bound, (own s, filed s))
+    (s.requires.1.0, (own s, filed s))
 
 with-present-requires : tie.Need-with_present-after-requires
 with-present-requires c κs = search rules
@@ -141,11 +141,11 @@ cast-t30 c = search rules
 
 returns : tie.Need-returns-in-Refused
 returns c row all a =
-    let arm = c.before in
-    let deciding = arm.before.before in
+    let arm = c. in
+    let deciding = arm.before in
     let s = decided deciding in
-    acted-refused s.args.image.now s.args.q s.args.b all (store_in s) row a arm.verdict-1.given.0.0
-    (ap verdict_number (sym arm.verdict-1.given.1) ∙ number-here deciding all row a)
+    acted-refused s.args.image.now s.args.q s.args.b all (store_in s) row a arm.in-Refused.why
+    (ap verdict_number (sym arm.in-Refused.is) ∙ number-here deciding all row a)
 
 same_length : tie.Need-shape_of-pool
 same_length c = search rules
@@ -161,16 +161,16 @@ returns-2 c row all a =
     let s = gathering found.before in
     let image = s.args.image.now in
     let q = s.args.q in
-    let e = s.requires.code_value in
+    let e = s.requires.0 in
     let w : World = world_from row (store_in s) in
-    let n = accepted-here told.before.before told.enum_told-1.given.1 all row a in
+    let n = accepted-here told.before told.in-Accepted.is all row a in
     let after : Store = kept restored.rewind-restored.result.held restored.rewind-restored.new.1.0 restored.rewind-restored.new.1.1.0 in
     acted-accepted image q s.args.b all (store_in s) row a restored.rewind-restored.result.changed _ after found.gathered-left.result n
-    (rewind-value image q s.args.b (store_in s) _ e restored.rewind-restored.ensures.changed)
+    (rewind-value image q s.args.b (store_in s) _ e restored.rewind-restored.ensures.1)
     (c.with_present-after.ensures ∙ record-rewound q s.args.b.rec e (opened-here s all row a n))
     (stepped-none image q w after found.gathered-left.result (rw e)
     (subst (λ (x : Sandbox). LeftBy image q x (store_in s) after found.gathered-left.result) a.handed.own
-    (rewound image q s.args.b (store_in s) after found.gathered-left.result e restored.rewind-restored.ensures.table_after
+    (rewound image q s.args.b (store_in s) after found.gathered-left.result e restored.rewind-restored.ensures.0
     (found.gathered-left.ensures s.args.held s.args.pool.now))))
 
 by-rules-overflow_cast-result : tie.Need-overflow_cast-result

@@ -10,7 +10,7 @@ needs-snapshot-requires c κs = search rules
 
 returns : tie.Need-returns
 unfolding applies
-returns c v e = rw (e, taken-copy c.before.before.args.b, c.before.needs_snapshot.ensures)
+returns c v e = rw (e, taken-copy c.args.b, c.needs_snapshot.ensures)
 
 pub no_snapshot_spec : {M : Type 1} → statement M
 no_snapshot_spec = tie.close (tie.spec needs-snapshot-requires returns)

@@ -7,7 +7,7 @@ use Rattle.rows.proofs.not_open.Tie as tie
 
 returns : tie.Need-returns
 unfolding applies
-returns c v e = rw (lt-ltb c.before.args.q.sandbox 4 c.before.requires, e)
+returns c v e = rw (lt-ltb c.args.q.sandbox 4 c.requires, e)
 
 pub not_open_spec : {M : Type 1} → statement M
 not_open_spec = tie.close (tie.spec returns)

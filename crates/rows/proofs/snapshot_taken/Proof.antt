@@ -7,7 +7,7 @@ use Rattle.rows.proofs.snapshot_taken.Tie as tie
 
 returns : tie.Need-returns
 unfolding applies
-returns c v e = rw (e, taken-copy c.before.before.args.b)
+returns c v e = rw (e, taken-copy c.args.b)
 
 pub snapshot_taken_spec : {M : Type 1} → statement M
 snapshot_taken_spec = tie.close (tie.spec returns)

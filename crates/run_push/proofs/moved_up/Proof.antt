@@ -45,8 +45,8 @@ loop-again c =
     let l = (at-loop c).loop-i in
     let a = (start-of-with c).args in (
       omega (arith, l.invariant.0),
-      omega (arith, c.before.before.loop-i-test.true),
-      shift-more a.place a.runs l.i l.r _ _ l.invariant.0 l.invariant.2 c.before.at.ensures c.with-r.ensures,
+      omega (arith, c.loop-i-test.true),
+      shift-more a.place a.runs l.i l.r _ _ l.invariant.0 l.invariant.2 c.at.ensures c.with-r.ensures,
     )
 
 with-requires-2 : tie.Need-with-requires invariant-loop decreases-loop
@@ -58,9 +58,9 @@ start-of-with2 c = c.before.before.before
 returns : tie.Need-returns invariant-loop decreases-loop
 unfolding moved_runs
 returns c =
-    let l = c.before.before.loop-i in
+    let l = c.loop-i in
     let a = (start-of-with2 c).args in
-    let end : l.i - a.place ≡ 7 - a.place = omega (arith, l.invariant.0, l.invariant.1, c.before.loop-i-test.false) in
+    let end : l.i - a.place ≡ 7 - a.place = omega (arith, l.invariant.0, l.invariant.1, c.loop-i-test.false) in
     c.with.ensures ∙ ap (with_run_at 7 a.run) (l.invariant.2 ∙ ap (shift_to a.place a.runs) end)
 
 pub moved_up_spec : {M : Type 1} → statement M

@@ -17,7 +17,7 @@ count-requires : tie.Need-count-frames-requires
 count-requires c κs = search rules
 
 returns : tie.Need-returns-then-frames-eq0
-returns c = sym (pushed-empty _ _ (sym c.before.count-frames.ensures ∙ c.if-frames-eq0.true))
+returns c = sym (pushed-empty _ _ (sym c.count-frames.ensures ∙ c.if-frames-eq0.true))
 
 is-empty-requires : tie.Need-is_empty-requires
 is-empty-requires c κs = search rules
@@ -28,7 +28,7 @@ with-requires c κs = search rules
 returns-2 : tie.Need-returns-then-is_empty
 returns-2 c =
     let empty = c.before.before in
-    push-last _ _ _ _ _ (count-of-empty empty).count-frames.ensures empty.before.if-frames-eq0.false empty.is_empty.ensures c.before.if-is_empty.true c.with.ensures
+    push-last _ _ _ _ _ (count-of-empty empty).count-frames.ensures empty.if-frames-eq0.false empty.is_empty.ensures c.if-is_empty.true c.with.ensures
 
 shortest-requires : tie.Need-shortest-c-requires
 shortest-requires c κs = search rules
@@ -38,7 +38,7 @@ length-requires c κs = search rules
 
 returns-3 : tie.Need-returns-then-frames-length
 returns-3 c =
-    push-stays _ _ _ _ _ c.before.before.shortest-c.ensures.value (count-of-length c.before).count-frames.ensures c.before.length.ensures.value
+    push-stays _ _ _ _ _ c.shortest-c.ensures.0 (count-of-length c.before).count-frames.ensures c.length.ensures.0
     c.if-frames-length.true
 
 moved-up-requires : tie.Need-moved_up-requires
@@ -47,8 +47,8 @@ moved-up-requires c κs = search rules
 returns-4 : tie.Need-returns
 returns-4 c =
     let length = c.before.before in
-    push-moves _ _ _ _ _ _ length.before.shortest-c.ensures.value (count-of-length length).count-frames.ensures
-    length.length.ensures.value c.before.if-frames-length.false c.moved_up.ensures
+    push-moves _ _ _ _ _ _ length.shortest-c.ensures.0 (count-of-length length).count-frames.ensures
+    length.length.ensures.0 c.if-frames-length.false c.moved_up.ensures
 
 pub push_spec : {M : Type 1} → statement M
 push_spec =

@@ -49,13 +49,13 @@ loop-less c = search rules
 loop-again : tie.Need-loop-i-preserved invariant-loop decreases-loop
 loop-again c =
     let turn = c.before.before.before in
-    let l = turn.before.loop-i in
-    (search rules, best-more _ _ l.i _ l.found _ turn.loop-i-test.true c.before.count-in-loop-i.ensures l.invariant.1 c.or_better-found.ensures)
+    let l = turn.loop-i in
+    (search rules, best-more _ _ l.i _ l.found _ turn.loop-i-test.true c.count-in-loop-i.ensures l.invariant.1 c.or_better-found.ensures)
 
 returns : tie.Need-returns invariant-loop decreases-loop
 returns c =
-    let a = c.before.before.before.before.args in
-    let l = c.before.loop-i in
+    let a = c.args in
+    let l = c.loop-i in
     let end : l.i ≡ 8 = omega (arith, l.invariant.0, c.loop-i-test.false) in
     (l.invariant.1.place ∙ ap (best (better_by a.rule) (lengths_of a.runs)) end, l.invariant.1.low)
 

@@ -19,15 +19,15 @@ is-fitter-requires c κs = search rules
 
 returns : tie.Need-returns-in-Longest
 unfolding better_by
-returns c = rw c.enum_told-1.given.1
+returns c = rw c.in-Longest.is
 
 returns-2 : tie.Need-returns-in-Shortest
 unfolding better_by
-returns-2 c = rw c.enum_told-in-Shortest-1.given.1
+returns-2 c = rw c.in-Shortest.is
 
 returns-3 : tie.Need-returns-in-Fitting
 unfolding better_by
-returns-3 c = c.is_fitter.ensures ∙ rw c.before.before.rule-1.given.1
+returns-3 c = c.is_fitter.ensures ∙ rw c.in-Fitting.is
 
 pub is_better_spec : {M : Type 1} → statement M
 is_better_spec = tie.close (tie.spec enum_told enum-told-2 enum-known-rule is-fitter-requires returns returns-2 returns-3)

@@ -5,10 +5,10 @@ use Rattle.run_search.proofs.is_fitter.Statement.{statement}
 use Rattle.run_search.proofs.is_fitter.Tie as tie
 
 returns : tie.Need-returns-then-pages-new
-returns c = sym (rw (le-leb c.before.args.pages c.before.args.new c.if-pages-new.true))
+returns c = sym (rw (le-leb c.args.pages c.args.new c.if-pages-new.true))
 
 returns-2 : tie.Need-returns
-returns-2 c = sym (rw (lt-leb c.before.args.pages c.before.args.new c.if-pages-new.false))
+returns-2 c = sym (rw (lt-leb c.args.pages c.args.new c.if-pages-new.false))
 
 pub is_fitter_spec : {M : Type 1} → statement M
 is_fitter_spec = tie.close (tie.spec returns returns-2)

@@ -26,8 +26,8 @@ unfolding none_kept
 returns c = λ h pool.
     let start = start-of-is-none c.before in
     let a = start.args in
-    keeps-none (kept h pool a.table.now) a.s a.opened a.share a.runs (eight start) (sym c.before.is_none.ensures ∙ c.if-is_none.true)
-    start.requires.table_bound
+    keeps-none (kept h pool a.table.now) a.s a.opened a.share a.runs (eight start) (sym c.is_none.ensures ∙ c.if-is_none.true)
+    start.requires.1.1
 
 abbrev start-of-else1 : tie.Else-is_none → tie.Start
 start-of-else1 c = start-of-is-none c.before
@@ -38,7 +38,7 @@ returns-2 c = λ h pool.
     let start = start-of-else1 c.before in
     let a = start.args in
     closed-keeps (kept h pool a.table.now) a.s a.opened a.share a.runs (eight start)
-    (sym c.before.before.is_none.ensures ∙ c.before.if-is_none.false) (not-true _ c.if-not-opened.true-raw)
+    (sym c.is_none.ensures ∙ c.if-is_none.false) (not-true _ c.if-not-opened.true-raw)
 
 used-requires : tie.Need-used-requires
 used-requires c κs = search rules
@@ -47,7 +47,7 @@ kept-requires : tie.Need-kept-requires
 kept-requires c κs = search rules
 
 add-result : tie.Need-overflow_add-result
-add-result c = omega (arith, c.kept.ensures.small, c.before.used.ensures.small)
+add-result c = omega (arith, c.kept.ensures.1, c.used.ensures.1)
 
 abbrev start-of-kept : tie.After-kept → tie.Start
 start-of-kept c = start-of-else1 c.before.before.before
@@ -56,8 +56,8 @@ returns-3 : tie.Need-returns
 returns-3 c = λ h pool.
     let start = start-of-kept c in
     let a = start.args in
-    open-keeps (kept h pool a.table.now) a.s a.opened a.share a.runs (eight start) _ _ c.before.used.ensures.value c.kept.ensures.value
-    (not-false _ c.before.before.if-not-opened.false-raw)
+    open-keeps (kept h pool a.table.now) a.s a.opened a.share a.runs (eight start) _ _ c.used.ensures.0 c.kept.ensures.0
+    (not-false _ c.if-not-opened.false-raw)
 
 pub runs_ok_spec : {M : Type 1} → statement M
 runs_ok_spec = tie.close (tie.spec is-none-requires returns returns-2 used-requires kept-requires add-result returns-3)

@@ -28,7 +28,7 @@ kept-marks-of-struct-known c = c.before.before
 returns : tie.Need-returns-then-not-found
 returns c = λ table.
     let found = kept-marks-of-struct-known c.before in
-    let a = found.before.before.args in
+    let a = found.args in
     twice a.frames (kept a.held a.pool.now table) (rows a.sandboxes) found.kept_marks-found.result found.kept_marks-found.ensures
     (not-true _ c.if-not-found.true)
 
@@ -41,9 +41,9 @@ kept-marks-of-apart c = kept-marks-of-struct-known c.before.before
 returns-2 : tie.Need-returns-then-not-apart
 returns-2 c = λ table.
     let found = kept-marks-of-apart c.before in
-    let a = found.before.before.args in
+    let a = found.args in
     named-too a.frames (kept a.held a.pool.now table) (rows a.sandboxes) found.kept_marks-found.result found.kept_marks-found.ensures
-    (not-false _ c.before.before.if-not-found.false) (sym c.before.apart.ensures ∙ not-true _ c.if-not-apart.true-raw)
+    (not-false _ c.if-not-found.false) (sym c.apart.ensures ∙ not-true _ c.if-not-apart.true-raw)
 
 frames-ok-requires : tie.Need-frames_ok-requires
 frames-ok-requires c κs = search rules
@@ -52,10 +52,10 @@ returns-3 : tie.Need-returns
 returns-3 c = λ table.
     let apart = c.before.before in
     let found = kept-marks-of-apart apart in
-    let a = found.before.before.args in
+    let a = found.args in
     c.frames_ok.ensures
     ∙ frames-decide a.frames (kept a.held a.pool.now table) (rows a.sandboxes) found.kept_marks-found.result found.kept_marks-found.ensures
-    (not-false _ apart.before.if-not-found.false) (sym apart.apart.ensures ∙ not-false _ c.before.if-not-apart.false-raw)
+    (not-false _ apart.if-not-found.false) (sym apart.apart.ensures ∙ not-false _ c.if-not-apart.false-raw)
 
 pub spare_ok_spec : {M : Type 1} → statement M
 spare_ok_spec = tie.close (tie.spec kept-marks-requires returns apart-requires returns-2 frames-ok-requires returns-3)

@@ -14,14 +14,14 @@ same-requires c κs = search rules
 
 returns : tie.Need-returns-then-same
 returns c =
-    let a = c.before.before.before.args in
-    (sym (empty-count a.run _ c.before.before.none-none.ensures _ c.before.same.ensures c.if-same.true), omega arith)
+    let a = c.args in
+    (sym (empty-count a.run _ c.none-none.ensures _ c.same.ensures c.if-same.true), omega arith)
 
 count-requires : tie.Need-count-requires
 count-requires c κs = search rules
 
 returns-2 : tie.Need-returns
-returns-2 c = (c.count.ensures, omega (arith, c.count.ensures, count_small c.before.before.before.before.args.run))
+returns-2 c = (c.count.ensures, omega (arith, c.count.ensures, count_small c.args.run))
 
 pub frames_in_spec : {M : Type 1} → statement M
 frames_in_spec = tie.close (tie.spec none-requires same-requires returns count-requires returns-2)

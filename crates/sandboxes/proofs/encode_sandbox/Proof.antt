@@ -55,13 +55,13 @@ slice-write-out : tie.Need-bounds-out-0
 slice-write-out c = search rules
 
 slice-write-out-2 : tie.Need-bounds-out-1
-slice-write-out-2 c = simp length-set (omega (arith, c.before.before.out-3-1.given))
+slice-write-out-2 c = simp length-set (omega (arith, c.out-3-1.given))
 
 flag-requires-2 : tie.Need-flag-requires-2
 flag-requires-2 c κs = search rules
 
 slice-write-out-3 : tie.Need-bounds-out-2
-slice-write-out-3 c = simp length-set (omega (arith, c.before.before.before.out-3-1.given))
+slice-write-out-3 c = simp length-set (omega (arith, c.out-3-1.given))
 
 same_length : tie.Need-shape_of-out
 same_length c = simp length-set (search rules)
@@ -77,7 +77,7 @@ returns c =
     let r = s.rec in
     let bytes : List ℕ = one r.opened ∷ r.share ∷ one r.taken ∷ [] in
     let parts : List Part = part areas_size (areas_bytes r.present) ∷ part areas_size (areas_bytes r.snapshot) ∷ part runs_size (runs_bytes s.runs) ∷ [] in
-    rw (c.flag-2.ensures, c.before.flag.ensures, present.encode_areas.ensures, snapshot.encode_areas-2.ensures, runs.encode_runs.ensures)
+    rw (c.flag-2.ensures, c.flag.ensures, present.encode_areas.ensures, snapshot.encode_areas-2.ensures, runs.encode_runs.ensures)
     (laid_out bytes parts first.args.out.now first.requires (sized-sandbox s).1.1.1)
 
 pub encode_sandbox_spec : {M : Type 1} → statement M

@@ -50,26 +50,26 @@ returns : tie.Need-returns-in-1
 returns c images p =
     let start = c.before.before in
     let a = start.args in
-    exceeds-open a.frames images a.shares a.b a.q start.requires.1 p c.before.in-1.keys1
+    exceeds-open a.frames images a.shares a.b a.q start.requires.1 p c.in-1.is
 
 returns-2 : tie.Need-returns-in-2
 returns-2 c images p =
-    let a = c.before.before.before.before.args in
-    let charge = c.before.charge in
-    exceeds-map a.frames images a.shares a.b a.q p c.before.before.before.in-2.keys2 charge.result charge.ensures
+    let a = c.args in
+    let charge = c.charge in
+    exceeds-map a.frames images a.shares a.b a.q p c.in-2.is charge.result charge.ensures
 
 returns-3 : tie.Need-returns-in-7
 returns-3 c images p =
-    let a = c.before.before.before.before.args in
+    let a = c.args in
     let pages = c.mapped_pages in
-    exceeds-snapshot a.frames images a.shares a.b a.q c.before.before.before.in-7.keys3 pages.result pages.ensures
+    exceeds-snapshot a.frames images a.shares a.b a.q c.in-7.is pages.result pages.ensures
 
 returns-4 : tie.Need-returns-in_default
 returns-4 c images p =
     let start = c.before in
     let a = start.args in
     let s = settled-of start.requires.0 a.b start.requires.1.sound true a.frames images a.shares in
-    let no = c.in_default.rest in
+    let no = c.in_default.in_default-own.rest in
     exceeds-not a.frames images a.shares a.b a.q s p no.0.0.1 no.0.1 no.1
 
 pub share_exceeded_spec : {M : Type 1} → statement M

@@ -7,19 +7,19 @@ use Rattle.slots.proofs.advanced.Statement.{statement}
 use Rattle.slots.proofs.advanced.Tie as tie
 
 enum_told : tie.Need-enum_told-1
-enum_told c = c.in-Anonymous.keys1
+enum_told c = c.in-Anonymous-1.keys1
 
 enum-known-backing : tie.Need-enum_known-backing
-enum-known-backing c = c.in-Image.keys2
+enum-known-backing c = c.in-Image-1.keys2
 
 add-t5 : tie.Need-overflow_add-result
-add-t5 c = omega (arith, ap start_of c.before.before.backing-1.given.1)
+add-t5 c = omega (arith, ap start_of c.in-Image.is)
 
 returns : tie.Need-returns-in-Anonymous
 returns c = search rules
 
 returns-2 : tie.Need-returns-in-Image
-returns-2 c = rw c.before.before.backing-1.given.1
+returns-2 c = rw c.in-Image.is
 
 pub advanced_spec : {M : Type 1} → statement M
 advanced_spec = tie.close (tie.spec enum_told enum-known-backing add-t5 returns returns-2)

@@ -4,16 +4,16 @@ use Rattle.slots.proofs.with_committed.Statement.{statement}
 use Rattle.slots.proofs.with_committed.Tie as tie
 
 enum_told : tie.Need-enum_told-1
-enum_told c = c.in-Unmapped.keys1
+enum_told c = c.in-Unmapped-1.keys1
 
 enum-known-slot : tie.Need-enum_known-slot
-enum-known-slot c = c.in-Mapped.keys2
+enum-known-slot c = c.in-Mapped-1.keys2
 
 returns : tie.Need-returns-in-Unmapped
 returns c = search rules
 
 returns-2 : tie.Need-returns-in-Mapped
-returns-2 c = rw c.before.slot-1.given.1
+returns-2 c = rw c.in-Mapped.is
 
 pub with_committed_spec : {M : Type 1} → statement M
 with_committed_spec = tie.close (tie.spec enum_told enum-known-slot returns returns-2)

@@ -12,10 +12,10 @@ enum-told-2 : tie.Need-enum_told-in-Refused
 enum-told-2 c = search rules
 
 returns : tie.Need-returns-in-Value
-returns c = rw c.enum_told-1.given.1 refl
+returns c = rw c.in-Value.is refl
 
 returns-2 : tie.Need-returns-in-Refused
-returns-2 c = rw c.enum_told-in-Refused-1.given.1 (sym (some_number c.enum_told-in-Refused-1.given.0.0))
+returns-2 c = rw c.in-Refused.is (sym (some_number c.in-Refused.field-0))
 
 pub accepted_spec : {M : Type 1} → statement M
 accepted_spec = tie.close (tie.spec enum_told enum-told-2 returns returns-2)

@@ -24,14 +24,14 @@ returns : tie.Need-returns-then-not-lengths_ok
 returns c =
     let a = (start-of-lengths-ok c.before).args in
     start-refused a.pool.now a.table.now a.image.now
-    (sym c.before.lengths_ok.ensures ∙ not-true c.before.lengths_ok.result c.if-not-lengths_ok.true-raw) c.before.before.fresh-machine.result
-    c.before.before.fresh-machine.ensures
+    (sym c.lengths_ok.ensures ∙ not-true c.lengths_ok.result c.if-not-lengths_ok.true-raw) c.fresh-machine.result
+    c.fresh-machine.ensures
 
 -- the lengths are right, from behind their test
 lengths-hold : (c : tie.Else-not-lengths_ok) →
     let a = (start-of-lengths-ok c.before).args in
     lengths_ok (length a.pool.now) (length a.table.now) (length a.image.now) ≡ true
-lengths-hold c = sym c.before.lengths_ok.ensures ∙ not-false c.before.lengths_ok.result c.if-not-lengths_ok.false-raw
+lengths-hold c = sym c.lengths_ok.ensures ∙ not-false c.lengths_ok.result c.if-not-lengths_ok.false-raw
 
 abbrev start-of-start-arg2 : tie.After-start-arg-2-1 → tie.Start
 start-of-start-arg2 c = start-of-lengths-ok c.before.before.before

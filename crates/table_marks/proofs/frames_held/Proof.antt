@@ -16,7 +16,7 @@ count-requires : tie.Need-count-requires
 count-requires c κs = search rules
 
 returns : tie.Need-returns
-returns c = c.count.ensures ∙ ap (λ (m : Marks). count_held m.held) c.before.before.marks_of-found.ensures
+returns c = c.count.ensures ∙ ap (λ (m : Marks). count_held m.held) c.marks_of-found.ensures
 
 pub frames_held_spec : {M : Type 1} → statement M
 frames_held_spec = tie.close (tie.spec mul-first marks-of-requires count-requires returns)

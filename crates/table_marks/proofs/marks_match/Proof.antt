@@ -16,7 +16,7 @@ same-requires c κs = search rules
 
 returns : tie.Need-returns
 unfolding marksb
-returns c = rw (c.before.same.ensures, (at-marks-of c).marks_of-found.ensures)
+returns c = rw (c.same.ensures, (at-marks-of c).marks_of-found.ensures)
 
 pub marks_match_spec : {M : Type 1} → statement M
 marks_match_spec = tie.close (tie.spec marks-of-requires same-requires returns)

@@ -65,7 +65,7 @@ start-of-turn c = c.before.before.before
 loop-again : tie.Need-loop-s-preserved invariant-loop decreases-loop
 loop-again c =
     let start = start-of-turn (at_turn c) in
-    let l = (at_turn c).before.loop-s in
+    let l = (at_turn c).loop-s in
     let low = (at_turn c).loop-s-test.true in
     let same = get_d_any start.args.sandboxes l.s zero_sandbox closed_sandbox (let e = four start in omega (arith, low, e)) in (
       search rules,
@@ -78,7 +78,7 @@ start-of-loop-end c = c.before.before.before
 
 returns : tie.Need-returns invariant-loop decreases-loop
 returns c =
-    let l = c.before.loop-s in
+    let l = c.loop-s in
     let end : l.s ≡ 4 = omega (arith, l.invariant.0, c.loop-s-test.false) in
     l.invariant.1 ∙ ap (kept_to (rows (start-of-loop-end c).args.sandboxes)) end
 

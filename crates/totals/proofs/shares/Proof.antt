@@ -46,7 +46,7 @@ cast-n : tie.Need-overflow_cast-n invariant-loop decreases-loop
 cast-n c = search rules
 
 add-n : tie.Need-overflow_add-n invariant-loop decreases-loop
-add-n c = let l = (at-loop c).loop-k in omega (arith, l.invariant.2, c.before.before.loop-k-test.true, c.struct_known-1.given.0.1.0.fits)
+add-n c = let l = (at-loop c).loop-k in omega (arith, l.invariant.2, c.loop-k-test.true, c.struct_known-1.given.0.1.0.fits)
 
 add-k : tie.Need-overflow_step-k invariant-loop decreases-loop
 add-k c = search rules
@@ -58,7 +58,7 @@ loop-again : tie.Need-loop-k-preserved invariant-loop decreases-loop
 loop-again c =
     let start = (at-loop c).before in
     let l = (at-loop c).loop-k in
-    let low = c.before.before.loop-k-test.true in
+    let low = c.loop-k-test.true in
     let same = get_d_any start.args.sandboxes l.k zero_sandbox closed_sandbox (let e = four start in omega (arith, low, e)) in (
       search rules,
       sum_more (share_at start.args.sandboxes) l.k l.n _ l.invariant.1 (ap (λ (b : Sandbox). b.rec.share) same),
@@ -67,9 +67,9 @@ loop-again c =
 
 returns : tie.Need-returns invariant-loop decreases-loop
 returns c =
-    let l = c.before.loop-k in
+    let l = c.loop-k in
     let end : l.k ≡ 4 = omega (arith, l.invariant.0, c.loop-k-test.false) in
-    (l.invariant.1 ∙ ap (sum (share_at c.before.before.args.sandboxes)) end, omega (arith, l.invariant.2, end))
+    (l.invariant.1 ∙ ap (sum (share_at c.args.sandboxes)) end, omega (arith, l.invariant.2, end))
 
 pub shares_spec : {M : Type 1} → statement M
 shares_spec = tie.close (tie.spec invariant-loop decreases-loop loop-holds mul-b array-copy-out-b cast-n add-n add-k loop-less loop-again returns)

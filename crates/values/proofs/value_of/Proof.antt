@@ -14,7 +14,7 @@ use Rattle.values.proofs.value_of.Tie as tie
 -- the present areas are well formed
 formed-present : (s : tie.Start) → Formed s.args.b.rec.present
 formed-present s =
-    let ready = s.requires.ready in settled (pages_in (length s.args.image.now)) s.args.b.rec.present ready.sound.present ready.few
+    let ready = s.requires.1.1.0 in settled (pages_in (length s.args.image.now)) s.args.b.rec.present ready.sound.present ready.few
 
 -- the store that is lent, with these marks
 abbrev lent : tie.Start → Held → Store
@@ -33,7 +33,7 @@ comparing c = c.before.before
 -- ---- the needs
 
 first-of-requires : tie.Need-first_of-requires
-first-of-requires c κs = let s = behind c.before in (formed-present s, (c.in-2.keys1, s.requires.fit))
+first-of-requires c κs = let s = behind c.before in (formed-present s, (c.in-2.is, s.requires.1.0))
 
 cast-result : tie.Need-overflow_cast-result
 cast-result c = search rules
@@ -41,7 +41,7 @@ cast-result c = search rules
 read-requires : tie.Need-read-requires
 read-requires c κs =
     let s = behind c.before in
-    (c.in-5.keys2, (s.requires.sandbox_bound, (s.requires.fit, (s.requires.ready, s.requires.ranged))))
+    (c.in-5.is, (s.requires.0, (s.requires.1.0, (s.requires.1.1.0, s.requires.1.1.1.0))))
 
 cast-result-2 : tie.Need-overflow_cast-result-in-5
 cast-result-2 c = search rules
@@ -86,42 +86,42 @@ returns : tie.Need-returns-in-2
 returns c = λ h.
     let arm = c.before in
     let s = behind arm.before in
-    map-value s.args.image.now s.args.q s.args.b (lent s h) c.first_of.result arm.in-2.keys1 c.first_of.ensures
+    map-value s.args.image.now s.args.q s.args.b (lent s h) c.first_of.result arm.in-2.is c.first_of.ensures
 
 returns-2 : tie.Need-returns-in-5
 returns-2 c = λ h.
     let arm = c.before in
     let s = behind arm.before in
-    read-value s.args.image.now s.args.q s.args.b (lent s h) c.read.result arm.in-5.keys2 (c.read.ensures h)
+    read-value s.args.image.now s.args.q s.args.b (lent s h) c.read.result arm.in-5.is (c.read.ensures h)
 
 returns-3 : tie.Need-returns-in-7
 returns-3 c = λ h.
     let arm = c.before in
     let s = behind arm.before in
     let pages = c.mapped_pages in
-    snapshot-value s.args.image.now s.args.q s.args.b (lent s h) pages.result arm.in-7.keys3 pages.ensures
+    snapshot-value s.args.image.now s.args.q s.args.b (lent s h) pages.result arm.in-7.is pages.ensures
 
 returns-4 : tie.Need-returns-in-9
 returns-4 c = λ h.
     let frames = c.before in
     let arm = counting frames in
     let s = behind arm.before in
-    report-value s.args.image.now s.args.q s.args.b (lent s h) _ frames.frames_held.result c.kept.result arm.in-9.keys4
-    frames.frames_held.ensures c.kept.ensures.value refl
+    report-value s.args.image.now s.args.q s.args.b (lent s h) _ frames.frames_held.result c.kept.result arm.in-9.is
+    frames.frames_held.ensures c.kept.ensures.0 refl
 
 returns-5 : tie.Need-returns-in-10
 returns-5 c = λ h.
     let arm = comparing c in
     let s = behind arm.before in
     let page = c.lowest_difference in
-    compare-value s.args.image.now s.args.q s.args.b (lent s h) page.result arm.in-10.keys5 (page.ensures h)
+    compare-value s.args.image.now s.args.q s.args.b (lent s h) page.result arm.in-10.is (page.ensures h)
 
 returns-6 : tie.Need-returns-in_default
 returns-6 c = λ h.
     let s = behind c.before in
-    let none = c.in_default.rest in
+    let none = c.in_default.in_default-own.rest in
     no_value s.args.image.now s.args.q s.args.b (lent s h) none.0.0.0.0.1 none.0.0.0.1 none.0.0.1 none.0.1 none.1
-    s.requires.fact
+    s.requires.1.1.1.1.1
 
 pub value_of_spec : {M : Type 1} → statement M
 value_of_spec =

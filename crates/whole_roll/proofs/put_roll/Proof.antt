@@ -41,7 +41,7 @@ out s = s.args.out.now
 
 module _ (s : tie.Start) where
   abbrev room : Room (to s) (out s) (roll_of s.args.image.now s.args.pool.now s.args.table.now s.args.snapshot)
-  room = s.requires.room
+  room = s.requires.1
 
   starts : Room (to s) (out s) (start s)
   starts = room_open s.args.image.now s.args.pool.now s.args.table.now s.args.snapshot (to s) (out s) room
@@ -154,7 +154,7 @@ put-writes-requires : tie.Need-put_writes-written-requires
 put-writes-requires c κs =
     let s = behind_maps c in
     let last = (map_lines c).put_maps-mapped in
-    (s.requires.readable, next-room (to s) last.result (out s) last.last.1.0 (to_maps s.args.snapshot) (writes s) (written s) (mapped c))
+    (s.requires.0, next-room (to s) last.result (out s) last.last.1.0 (to_maps s.args.snapshot) (writes s) (written s) (mapped c))
 
 put-protects-requires : tie.Need-put_protects-protected-requires
 put-protects-requires c κs =
@@ -177,7 +177,7 @@ returns c =
     let before = c.before.before.before in
     let s = behind_protects before in
     let last = (protect_lines before).put_protects-protected in
-    let closed = c.before.before.put_line in
+    let closed = c.put_line in
     next-put (to s) last.result (out s) last.last.1.0 (until_protects s) (closing s.args.snapshot.sandbox) (all s) (locked before)
     closed.result closed.new.0
     (closed.ensures ∙ ap (λ (q : Request). put last.result last.last.1.0 (q ∷ [])) (lines_made before).line-closing.ensures)

@@ -39,10 +39,10 @@ Row s row = AskedOf s.args.image.now s.args.q s.args.b s.args.all (store_in s) r
 
 -- one such row is there
 abbrev there : tie.Start → List Sandbox
-there s = s.requires.some_row.0
+there s = s.requires.1.0
 
 abbrev its : (s : tie.Start) → Row s (there s)
-its s = s.requires.some_row.1
+its s = s.requires.1.1
 
 abbrev asked : (s : tie.Start) → Asked s.args.image.now s.args.q (world_in s (there s))
 asked s = (its s).1
@@ -52,7 +52,7 @@ same-sandbox : (s : tie.Start) (row : List Sandbox) → Row s row → s.args.b �
 same-sandbox s row a = a.0.own
 
 small : (s : tie.Start) → s.args.q.p1 / 256 < 64
-small s = page-small s.args.q.p1 ((asked s).fit.written s.requires.code_value).0
+small s = page-small s.args.q.p1 ((asked s).fit.written s.requires.0).0
 
 -- ---- what is known behind each part
 
@@ -66,18 +66,18 @@ abbrev bare : tie.Else-front-ne0 → tie.Start
 bare c = fronted c.before
 
 no_front : (c : tie.Else-front-ne0) (row : List Sandbox) → own_front (bare c).args.q (world_in (bare c) row).store ≡ 0
-no_front c row = sym c.before.front-front.ensures ∙ c.if-front-ne0.false
+no_front c row = sym c.front-front.ensures ∙ c.if-front-ne0.false
 
 abbrev spared : tie.After-give_up-given → tie.Else-front-ne0
 spared c = c.before.before
 
 -- what was given up
 gave : (c : tie.After-give_up-given) (row : List Sandbox) (a : Row (bare (spared c)) row) → let s = bare (spared c) in
-    GaveUp (gives s.args.image.now s.args.q (world_in s row) a.1 s.requires.code_value (no_front (spared c) row))
+    GaveUp (gives s.args.image.now s.args.q (world_in s row) a.1 s.requires.0 (no_front (spared c) row))
     (own_sandbox s.args.q (world_in s row)).runs (kept_to (rows_of (world_in s row)) 4).held c.give_up-given.result
 gave c row a =
     let s = bare (spared c) in
-    rw (← a.0.kept s.requires.code_value, ← same-sandbox s row a) c.give_up-given.ensures
+    rw (← a.0.kept s.requires.0, ← same-sandbox s row a) c.give_up-given.ensures
 
 abbrev framed : tie.After-unheld_frame-f → tie.After-give_up-given
 framed c = c.before.before.before
@@ -124,14 +124,14 @@ returns : tie.Need-returns-then-front-ne0
 returns c row a =
     let s = fronted c.before in
     rw (same-sandbox s row a)
-    (touch-kept s.args.image.now s.args.q (world_in s row) a.1 s.requires.code_value (λ z. c.if-front-ne0.true (c.before.front-front.ensures ∙ z)))
+    (touch-kept s.args.image.now s.args.q (world_in s row) a.1 s.requires.0 (λ z. c.if-front-ne0.true (c.front-front.ensures ∙ z)))
 
 give-up-requires : tie.Need-give_up-given-requires
 give-up-requires c κs =
     let bared = c.before in
     let s = bare bared in
     let row = there s in
-    ((asked s).row, ((asked s).filed.entries, rw (same-sandbox s row (its s)) ((asked s).fits s.requires.code_value (no_front bared row))))
+    ((asked s).row, ((asked s).filed.entries, rw (same-sandbox s row (its s)) ((asked s).fits s.requires.0 (no_front bared row))))
 
 cast-frames : tie.Need-overflow_cast-frames
 cast-frames c = omega (arith, (asked (bare (spared c.before.before))).filed.few)
@@ -142,7 +142,7 @@ unheld-frame-requires c κs =
     let s = bare (spared g) in
     let row = there s in (
       (asked s).filed.few,
-      frame-there s.args.image.now s.args.q (world_in s row) (asked s) s.requires.code_value (no_front (spared g) row) g.give_up-given.result
+      frame-there s.args.image.now s.args.q (world_in s row) (asked s) s.requires.0 (no_front (spared g) row) g.give_up-given.result
           (gave g row (its s)),
     )
 
@@ -159,7 +159,7 @@ take-requires : tie.Need-take-h-requires
 take-requires c κs =
     let found = c.before.before in
     let s = behind found in
-    let low = (looked found).unheld_frame-f.ensures.result_lt_frames in
+    let low = (looked found).unheld_frame-f.ensures.0 in
     let filed = (asked s).filed in (
       record { row = (asked s).row; inside = small s; backed = backing-here found },
       (
@@ -184,7 +184,7 @@ returns-2 c row h =
     let g = framed (looked found) in
     let f = (looked found).unheld_frame-f in
     let front = front_of a.q.sandbox (page_of a.q) in
-    touch-made a.image.now a.q w h.1 s.requires.code_value _ g.give_up-given.result f.result.0 (no_front (spared g) row) (gave g row h)
+    touch-made a.image.now a.q w h.1 s.requires.0 _ g.give_up-given.result f.result.0 (no_front (spared g) row) (gave g row h)
     f.ensures.0 f.ensures.1.0 f.ensures.1.1
     (taken.take-h.ensures ∙ ap (λ (bytes : List ℕ). take 256 front f.result.0 bytes w.store)
     (under-is a.image.now w.store (own_sandbox a.q w).rec a.q.sandbox _ found.slot-slot.result (slot_is found row h)))

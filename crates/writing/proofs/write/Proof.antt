@@ -20,13 +20,13 @@ world_in s row = record { sandboxes = row; store = store_in s }
 
 -- a row from which the sandbox is
 abbrev there : tie.Start → List Sandbox
-there s = s.requires.some_row.0
+there s = s.requires.1.0
 
 abbrev asked : (s : tie.Start) → Asked s.args.image.now s.args.q (world_in s (there s))
-asked s = s.requires.some_row.1.1
+asked s = s.requires.1.1.1
 
 small : (s : tie.Start) → s.args.q.p1 / 256 < 64
-small s = page-small s.args.q.p1 ((asked s).fit.written s.requires.code_value).0
+small s = page-small s.args.q.p1 ((asked s).fit.written s.requires.0).0
 
 -- behind the touch, and where the byte is stored
 abbrev behind : tie.After-touch-left → tie.Start
@@ -62,15 +62,15 @@ cast-store-byte-4 : tie.Need-overflow_cast-q
 cast-store-byte-4 c = search rules
 
 cast-store-byte-5 : tie.Need-overflow_cast-q-2
-cast-store-byte-5 c = let s = behind (touched c) in omega (arith, ((asked s).fit.written s.requires.code_value).1)
+cast-store-byte-5 c = let s = behind (touched c) in omega (arith, ((asked s).fit.written s.requires.0).1)
 
 store-byte-requires : tie.Need-store_byte-requires
 store-byte-requires c κs =
     let touching = touched c in
     let s = behind touching in
     let row = there s in
-    let left = touching.touch-left.ensures row s.requires.some_row.1 in
-    let ranged = touch-ranged s.args.image.now s.args.q (world_in s row) (asked s) s.requires.code_value _ _ (small s) left in
+    let left = touching.touch-left.ensures row s.requires.1.1 in
+    let ranged = touch-ranged s.args.image.now s.args.q (world_in s row) (asked s) s.requires.0 _ _ (small s) left in
     ((asked s).row, (small s, ranged))
 
 same_length : tie.Need-shape_of-pool
@@ -84,7 +84,7 @@ returns c row a =
     let stored = c.before.before in
     let touch = (touched stored.before).touch-left in
     let s = behind (touched stored.before) in
-    written s.args.image.now s.args.q (world_in s row) _ _ touch.result.runs (touch.ensures row a) s.requires.code_value
+    written s.args.image.now s.args.q (world_in s row) _ _ touch.result.runs (touch.ensures row a) s.requires.0
     (stored.IsStore-byte.ensures touch.result.held)
 
 pub write_spec : {M : Type 1} → statement M

@@ -100,7 +100,7 @@ same-length-2 c = search rules
 
 returns : tie.Need-returns-then-not-is_whole invariant-loop decreases-loop
 returns c =
-    let told = c.before.is_whole in
+    let told = c.is_whole in
     let playing = c.before.before.before.before.before.before.before in
     let reading = read_of playing in
     let at = loop_of reading in
@@ -117,7 +117,7 @@ loop-less c = search rules
 
 loop-again : tie.Need-loop-number-preserved invariant-loop decreases-loop
 loop-again c =
-    let told = c.before.is_whole in
+    let told = c.is_whole in
     let playing = c.before.before.before.before.before.before.before in
     let reading = read_of playing in
     let at = loop_of reading in

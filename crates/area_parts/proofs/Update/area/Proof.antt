@@ -13,13 +13,13 @@ enum-told-2 : tie.Need-enum_told-in-Commit
 enum-told-2 c = search rules
 
 returns : tie.Need-returns-in-Keep
-returns c = rw c.enum_told-1.given.1
+returns c = rw c.in-Keep.is
 
 returns-2 : tie.Need-returns-in-Rights
-returns-2 c = rw c.before.self-1.given.1
+returns-2 c = rw c.in-Rights.is
 
 returns-3 : tie.Need-returns-in-Commit
-returns-3 c = rw c.enum_told-in-Commit-1.given.1
+returns-3 c = rw c.in-Commit.is
 
 pub area_spec : {M : Type 1} → statement M
 area_spec = tie.close (tie.spec enum_told enum-known-self enum-told-2 returns returns-2 returns-3)

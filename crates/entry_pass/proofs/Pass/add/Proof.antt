@@ -11,7 +11,7 @@ returns c = simp (eq-eqb _ _ c.if-entry-eq0.true)
 
 returns-2 : tie.Need-returns-then-entry-frames
 unfolding pass_entry
-returns-2 c = simp (ne_eqb _ _ c.before.before.if-entry-eq0.false, lt-ltb _ _ c.if-entry-frames.true)
+returns-2 c = simp (ne_eqb _ _ c.if-entry-eq0.false, lt-ltb _ _ c.if-entry-frames.true)
 
 add-t7 : tie.Need-overflow_add-result
 add-t7 c = search rules
@@ -29,7 +29,7 @@ returns-3 : tie.Need-returns
 unfolding pass_entry
 returns-3 c =
     let tests = c.before.before in
-    simp (ne_eqb _ _ tests.before.before.if-entry-eq0.false, le-ltb _ _ tests.if-entry-frames.false, c.with.ensures)
+    simp (ne_eqb _ _ tests.if-entry-eq0.false, le-ltb _ _ tests.if-entry-frames.false, c.with.ensures)
 
 pub add_spec : {M : Type 1} → statement M
 add_spec = tie.close (tie.spec returns returns-2 add-t7 sub-t6 cast-t9 with-requires returns-3)

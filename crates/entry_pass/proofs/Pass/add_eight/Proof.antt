@@ -27,7 +27,7 @@ add-j-end : tie.Need-overflow_add-j-end invariant-loop decreases-loop
 add-j-end c = search rules
 
 loop-holds : tie.Need-loop-j-init invariant-loop decreases-loop
-loop-holds c = (omega arith, omega arith, refl, c.before.requires.self_value)
+loop-holds c = (omega arith, omega arith, refl, c.requires.1.1)
 
 add-add : tie.Need-overflow_add-first invariant-loop decreases-loop
 add-add c = search rules
@@ -40,12 +40,12 @@ shared-slice-read-add c = search rules
 
 add-requires : tie.Need-add-found-requires invariant-loop decreases-loop
 add-requires c κs =
-    let l = c.before.before.loop-j in
+    let l = c.loop-j in
     let s = c.before.before.before.before in
     let a = s.args in
     let most = pass-small a.frames (from a.first a.table.now) l.j in
     let same = ap (λ (x : Pass). x.named) l.invariant.3 in
-    (s.requires.frames_bound, omega (arith, most, same, c.before.loop-j-test.true, s.requires.i_in_bounds))
+    (s.requires.1.0, omega (arith, most, same, c.loop-j-test.true, s.requires.0))
 
 add-j : tie.Need-overflow_step-j invariant-loop decreases-loop
 add-j c = search rules
@@ -61,8 +61,8 @@ loop-again c =
 
 returns : tie.Need-returns invariant-loop decreases-loop
 returns c =
-    let a = c.before.before.before.args in
-    let l = c.before.loop-j in
+    let a = c.args in
+    let l = c.loop-j in
     let end : l.j ≡ a.i + 8 = omega (arith, l.invariant.1, l.invariant.2, c.loop-j-test.false) in
     l.invariant.3 ∙ ap (pass_to a.frames (from a.first a.table.now)) end
 

@@ -28,10 +28,10 @@ abbrev request : tie.Start → Request
 request s = s.args.q
 
 ready : (s : tie.Start) → Ready s.args.images s.args.b
-ready s = s.requires.ready
+ready s = s.requires.1.1
 
 few : (s : tie.Start) → Few (request s)
-few s = few-access (request s) s.requires.is_value
+few s = few-access (request s) s.requires.0
 
 abbrev at6 : tie.After-within_limits → tie.Start
 at6 c = c.before.before.before
@@ -65,13 +65,13 @@ module _ (frames shares : ℕ) where
   past-8 : (c : tie.Else-not-within_limits) → Past NotMapped (at6 c.before)
   past-8 c =
       let s = at6 c.before in
-      past8 (view s) (request s) s.requires.is_value (past6 (view s) (request s) (few s) (past-6 c).0 (past-6 c).1)
+      past8 (view s) (request s) s.requires.0 (past6 (view s) (request s) (few s) (past-6 c).0 (past-6 c).1)
 
 -- the limits place the address
 address : (c : tie.Else-not-within_limits) → (request (at6 c.before)).p1 < 16384
 address c =
     let s = at6 c.before in
-    named-address (request s) (fit_of (view 0 0 s) (request s) (ready s).few (past-6 0 0 c)) s.requires.is_value
+    named-address (request s) (fit_of (view 0 0 s) (request s) (ready s).few (past-6 0 0 c)) s.requires.0
 
 abbrev mapped : tie.After-rights_at → tie.Else-not-is_mapped
 mapped c = c.before.before
@@ -84,13 +84,13 @@ abbrev start : tie.After-slot-slot → tie.Start
 start c = at6 (limited c).before
 
 slot_is : (c : tie.After-slot-slot) → c.slot-slot.result ≡ slots (start c).args.b.present (page_of (request (start c)))
-slot_is c = c.slot-slot.ensures ∙ ap (slots (start c).args.b.present) c.before.page_of.ensures
+slot_is c = c.slot-slot.ensures ∙ ap (slots (start c).args.b.present) c.page_of.ensures
 
 module _ (frames shares : ℕ) where
   row-9 : (c : tie.After-is_mapped) → let s = start c.before in not c.is_mapped.result ≡ applies (view frames shares s) (request s) NotMapped
   row-9 c =
       let s = start c.before in
-      ap not (c.is_mapped.ensures ∙ ap is_mapped (slot_is c.before)) ∙ row9 (view frames shares s) (request s) s.requires.is_value
+      ap not (c.is_mapped.ensures ∙ ap is_mapped (slot_is c.before)) ∙ row9 (view frames shares s) (request s) s.requires.0
 
   past-9 : (c : tie.Else-not-is_mapped) → Past frames shares NotWritable (start c.before.before)
   past-9 c =
@@ -158,7 +158,7 @@ returns-5 c frames shares =
     let here = mapped c.before in
     let looked = here.before.before in
     let s = start looked in (
-      access-accepts (view frames shares s) (request s) s.requires.is_value (settled frames shares s) (sym (row-12 frames shares c.before) ∙ c.if-q-rights_at.false)
+      access-accepts (view frames shares s) (request s) s.requires.0 (settled frames shares s) (sym (row-12 frames shares c.before) ∙ c.if-q-rights_at.false)
           (past-9 frames shares here),
       slot_is looked,
     )

@@ -20,7 +20,7 @@ abbrev request : tie.Start → Request
 request s = s.args.q
 
 few : (s : tie.Start) → Few (request s)
-few s = few-unpaged (request s) s.requires.q_value
+few s = few-unpaged (request s) s.requires.0
 
 abbrev at6 : tie.After-within_limits → tie.Start
 at6 c = c.before.before.before
@@ -34,7 +34,7 @@ module _ (frames shares : ℕ) where
   view s = view_from true frames s.args.images shares s.args.b
 
   settled : (s : tie.Start) → Settled (view s)
-  settled s = settled-of s.args.images s.args.b s.requires.ready.sound true frames s.args.images shares
+  settled s = settled-of s.args.images s.args.b s.requires.1.1.sound true frames s.args.images shares
 
   -- ---- what each test says of its row
 
@@ -85,7 +85,7 @@ returns-3 c frames shares =
 returns-4 : tie.Need-returns
 returns-4 c frames shares =
     let s = at8 c.before in
-    sym (unpaged-accepts (view frames shares s) (request s) s.requires.q_value (settled frames shares s)
+    sym (unpaged-accepts (view frames shares s) (request s) s.requires.0 (settled frames shares s)
     (sym (row-8 frames shares c.before) ∙ c.if-no_snapshot.false, past-6 frames shares c.before.before))
 
 pub decide_spec : {M : Type 1} → statement M

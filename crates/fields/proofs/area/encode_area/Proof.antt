@@ -26,13 +26,13 @@ kind-of-requires : tie.Need-kind_of-requires
 kind-of-requires c κs = search rules
 
 slice-write-out-5 : tie.Need-bounds-out-4
-slice-write-out-5 c = simp length-set (omega (arith, c.before.before.before.requires))
+slice-write-out-5 c = simp length-set (omega (arith, c.requires))
 
 start-of-requires : tie.Need-start_of-requires
 start-of-requires c κs = search rules
 
 slice-write-out-6 : tie.Need-bounds-out-5
-slice-write-out-6 c = simp length-set (omega (arith, c.before.before.before.before.requires))
+slice-write-out-6 c = simp length-set (omega (arith, c.requires))
 
 same_length : tie.Need-shape_of-out
 same_length c = search rules
@@ -41,7 +41,7 @@ returns : tie.Need-returns
 unfolding area_bytes
 returns c =
     let first = c.before.before.before.before in
-    rw (c.start_of_lem.ensures, c.before.kind_of.ensures, c.before.before.flag.ensures)
+    rw (c.start_of_lem.ensures, c.kind_of.ensures, c.flag.ensures)
     (stored-all (area_bytes first.args.area) first.args.out.now first.requires)
 
 pub encode_area_spec : {M : Type 1} → statement M

@@ -31,7 +31,7 @@ decode-word-requires-2 c κs = search rules
 
 returns : tie.Need-returns
 unfolding marks_from part_at
-returns c = λ i. record { low = c.before.before.decode_word.ensures i; high = c.decode_word-2.ensures i }
+returns c = λ i. record { low = c.decode_word.ensures i; high = c.decode_word-2.ensures i }
 
 pub decode_marks_spec : {M : Type 1} → statement M
 decode_marks_spec =

@@ -26,18 +26,18 @@ front-requires c κs = search rules
 
 returns : tie.Need-returns-then-front-eq0
 unfolding store_byte
-returns c = λ h. sym (fill_none 256 _ _ _ (sym c.before.front-front.ensures ∙ c.if-front-eq0.true))
+returns c = λ h. sym (fill_none 256 _ _ _ (sym c.front-front.ensures ∙ c.if-front-eq0.true))
 
 frame-of-requires : tie.Need-frame_of-requires
 frame-of-requires c κs =
     let front = c.before.before in
-    (omega arith, rw front.front-front.ensures ((behind front).requires.ranged.few _))
+    (omega arith, rw front.front-front.ensures ((behind front).requires.1.1.few _))
 
 store-byte-requires : tie.Need-store_byte-requires
 store-byte-requires c κs =
     let front = framed c in
     let s = behind front in
-    omega (arith, s.requires.ranged.room (front_of s.args.sandbox s.args.page.0), front.front-front.ensures, c.frame_of.ensures)
+    omega (arith, s.requires.1.1.room (front_of s.args.sandbox s.args.page.0), front.front-front.ensures, c.frame_of.ensures)
 
 same_length : tie.Need-shape_of-pool
 same_length c = search rules
@@ -49,7 +49,7 @@ returns-2 c = λ h.
     let front = framed frame in
     let a = (behind front).args in
     store-some 256 (front_of a.sandbox a.page.0) a.offset a.byte (kept h a.pool.now a.table.now) front.front-front.result
-    frame.frame_of.result.0 byte.IsStore-byte.new.0 front.front-front.ensures frame.before.before.if-front-eq0.left frame.frame_of.ensures
+    frame.frame_of.result.0 byte.IsStore-byte.new.0 front.front-front.ensures frame.if-front-eq0.left frame.frame_of.ensures
     byte.IsStore-byte.ensures
 
 pub store_byte_spec : {M : Type 1} → statement M

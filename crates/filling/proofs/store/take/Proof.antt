@@ -26,7 +26,7 @@ under-is : (c : tie.After-back_if-under) → let s = behind c in
 under-is c =
     let s = behind c in
     c.back_if-under.ensures
-    ∙ ap (λ (b : Bool). get_or s.args.table.now (back_at s.args.page) 0 when b else 0) c.before.is_committed.ensures
+    ∙ ap (λ (b : Bool). get_or s.args.table.now (back_at s.args.page) 0 when b else 0) c.is_committed.ensures
 
 -- ---- the needs
 
@@ -43,13 +43,13 @@ fill-frame-requires : tie.Need-fill_frame-requires
 fill-frame-requires c κs =
     let under = c.before in
     let s = behind under in
-    let ranged = s.requires.ranged in (
-      s.requires.f_in_bounds,
+    let ranged = s.requires.1.0 in (
+      s.requires.1.1.1,
       (
         rw (under-is under) (few-if 256 _ _ ranged _ (committed s)),
         (
           rw (under-is under) (room-if 256 _ _ ranged _ (committed s)),
-          omega (arith, ap backing_end under.before.before.before.backing-at.ensures, s.requires.placed.backed),
+          omega (arith, ap backing_end under.backing-at.ensures, s.requires.0.backed),
         ),
       ),
     )
@@ -89,10 +89,10 @@ returns c =
     rw (
       ← under-if 256 (kept a.held a.pool.now a.table.now) (back_at a.page) bytes (committed s),
       ← under-is under,
-      ← under.before.before.before.backing-at.ensures,
+      ← under.backing-at.ensures,
       c.with.ensures,
       filled.fill_frame.ensures,
-      c.before.before.front_index-at.ensures,
+      c.front_index-at.ensures,
     )
 
 pub take_spec : {M : Type 1} → statement M

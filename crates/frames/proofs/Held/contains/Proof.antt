@@ -13,11 +13,11 @@ has-requires-2 c κs = search rules
 
 returns : tie.Need-returns-then-n-lt-WORD
 unfolding held
-returns c = simp (lt-ltb _ 64 c.before.if-n-lt-WORD.true) c.has.ensures
+returns c = simp (lt-ltb _ 64 c.if-n-lt-WORD.true) c.has.ensures
 
 returns-2 : tie.Need-returns-else-n-lt-WORD
 unfolding held
-returns-2 c = simp (le-ltb _ 64 c.before.if-n-lt-WORD.false) c.has-else-n-lt-WORD.ensures
+returns-2 c = simp (le-ltb _ 64 c.if-n-lt-WORD.false) c.has-else-n-lt-WORD.ensures
 
 pub contains_spec : {M : Type 1} → statement M
 contains_spec = tie.close (tie.spec has-requires has-requires-2 returns returns-2)

@@ -19,8 +19,8 @@ lowest-set-requires c κs = search rules
 
 returns : tie.Need-returns-then-low-lt-WORD
 returns c =
-    let self = c.before.before.args.self in
-    sym (rw (lt-ltb _ 64 c.if-low-lt-WORD.true)) ∙ least-words self c.before.lowest_set-low.result _ c.before.lowest_set-low.ensures refl
+    let self = c.args.self in
+    sym (rw (lt-ltb _ 64 c.if-low-lt-WORD.true)) ∙ least-words self c.lowest_set-low.result _ c.lowest_set-low.ensures refl
 
 lowest-set-requires-2 : tie.Need-lowest_set-requires
 lowest-set-requires-2 c κs = search rules
@@ -34,8 +34,8 @@ add-result c =
 returns-2 : tie.Need-returns
 returns-2 c =
     let self = (at-start c).args.self in
-    sym (rw (le-ltb _ 64 c.before.if-low-lt-WORD.false))
-    ∙ least-words self c.before.before.lowest_set-low.result c.lowest_set.result c.before.before.lowest_set-low.ensures c.lowest_set.ensures
+    sym (rw (le-ltb _ 64 c.if-low-lt-WORD.false))
+    ∙ least-words self c.lowest_set-low.result c.lowest_set.result c.lowest_set-low.ensures c.lowest_set.ensures
 
 pub least_spec : {M : Type 1} → statement M
 least_spec = tie.close (tie.spec lowest-set-requires returns lowest-set-requires-2 add-result returns-2)

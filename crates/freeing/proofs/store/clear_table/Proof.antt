@@ -29,13 +29,13 @@ loop-less : tie.Need-loop-i-smaller invariant-loop decreases-loop
 loop-less c = search rules
 
 loop-again : tie.Need-loop-i-preserved invariant-loop decreases-loop
-loop-again c = cleared-next _ _ c.before.loop-i.i c.before.loop-i.invariant (omega arith)
+loop-again c = cleared-next _ _ c.loop-i.i c.loop-i.invariant (omega arith)
 
 same_length : tie.Need-shape_of-table invariant-loop decreases-loop
 same_length c = search rules
 
 returns : tie.Need-returns invariant-loop decreases-loop
-returns c = cleared-last _ _ c.before.loop-i.i c.before.loop-i.invariant (omega arith)
+returns c = cleared-last _ _ c.loop-i.i c.loop-i.invariant (omega arith)
 
 pub clear_table_spec : {M : Type 1} → statement M
 clear_table_spec =

@@ -25,7 +25,7 @@ behind c = c.before.before.before.before
 
 loop-holds : tie.Need-loop-i-init invariant-loop decreases-loop
 unfolding free_to
-loop-holds c = (search rules, refl, refl, c.before.before.requires.ranged, refl)
+loop-holds c = (search rules, refl, refl, c.requires.1, refl)
 
 cast-free-entry : tie.Need-overflow_cast-i invariant-loop decreases-loop
 cast-free-entry c = search rules
@@ -34,7 +34,7 @@ add-free-entry : tie.Need-overflow_add-at invariant-loop decreases-loop
 add-free-entry c = search rules
 
 free-entry-requires : tie.Need-free_entry-h-requires invariant-loop decreases-loop
-free-entry-requires c κs = (omega arith, (turning c).before.loop-i.invariant.3)
+free-entry-requires c κs = (omega arith, (turning c).loop-i.invariant.3)
 
 add-i : tie.Need-overflow_step-i invariant-loop decreases-loop
 add-i c = search rules
@@ -46,7 +46,7 @@ loop-again : tie.Need-loop-i-preserved invariant-loop decreases-loop
 loop-again c =
     let freed = c.before.before.before.before in
     let turn = turning freed.before in
-    let l = turn.before.loop-i in
+    let l = turn.loop-i in
     let at = (behind turn).args.at in
     let f = freed.free_entry-h in
     let r = kept l.h l.pool l.table in
@@ -62,8 +62,8 @@ same-length-2 c = search rules
 
 returns : tie.Need-returns invariant-loop decreases-loop
 returns c =
-    let at = c.before.before.before.before.args.at in
-    c.before.loop-i.invariant.4 ∙ ap (free_to 256 at _) (omega arith)
+    let at = c.args.at in
+    c.loop-i.invariant.4 ∙ ap (free_to 256 at _) (omega arith)
 
 pub free_each_spec : {M : Type 1} → statement M
 free_each_spec =

@@ -22,10 +22,10 @@ behind c = c.before.before.before
 
 loop-holds : tie.Need-loop-k-init invariant-loop decreases-loop
 unfolding free_to
-loop-holds c = (omega arith, refl, refl, c.before.before.requires.ranged, refl)
+loop-holds c = (omega arith, refl, refl, c.requires.1.0, refl)
 
 mul-i : tie.Need-overflow_mul-i invariant-loop decreases-loop
-mul-i c = let s = behind c.before in omega (arith, group-in s.args.n c.before.loop-k.k c.loop-k-test.true, s.requires.n_bound_2)
+mul-i c = let s = behind c.before in omega (arith, group-in s.args.n c.loop-k.k c.loop-k-test.true, s.requires.1.1)
 
 cast-free-group : tie.Need-overflow_cast-i invariant-loop decreases-loop
 cast-free-group c = search rules
@@ -34,13 +34,13 @@ add-free-group : tie.Need-overflow_add-at invariant-loop decreases-loop
 add-free-group c =
     let turn = c.before.before in
     let s = behind turn.before in
-    omega (arith, group-in s.args.n turn.before.loop-k.k turn.loop-k-test.true, s.requires.n_bound)
+    omega (arith, group-in s.args.n turn.loop-k.k turn.loop-k-test.true, s.requires.0)
 
 free-group-requires : tie.Need-free_group-h-requires invariant-loop decreases-loop
 free-group-requires c κs =
     let turn = c.before.before in
     let s = behind turn.before in
-    (omega (arith, group-in s.args.n turn.before.loop-k.k turn.loop-k-test.true, s.requires.n_bound), turn.before.loop-k.invariant.3)
+    (omega (arith, group-in s.args.n turn.loop-k.k turn.loop-k-test.true, s.requires.0), turn.loop-k.invariant.3)
 
 add-k : tie.Need-overflow_step-k invariant-loop decreases-loop
 add-k c = search rules
@@ -69,13 +69,13 @@ loop-again c =
     )
 
 mul-done : tie.Need-overflow_mul-done invariant-loop decreases-loop
-mul-done c = omega (arith, all-groups (behind c.before).args.n, (behind c.before).requires.n_bound_2)
+mul-done c = omega (arith, all-groups (behind c.before).args.n, (behind c.before).requires.1.1)
 
 cast-free-each : tie.Need-overflow_cast-done invariant-loop decreases-loop
 cast-free-each c = search rules
 
 add-free-each : tie.Need-overflow_add-at-2 invariant-loop decreases-loop
-add-free-each c = let loop = c.before.before.before in omega (arith, all-groups (behind loop).args.n, (behind loop).requires.n_bound)
+add-free-each c = let loop = c.before.before.before in omega (arith, all-groups (behind loop).args.n, (behind loop).requires.0)
 
 sub-free-each : tie.Need-overflow_sub-n invariant-loop decreases-loop
 sub-free-each c = let loop = c.before.before.before in omega (arith, all-groups (behind loop).args.n)
@@ -83,7 +83,7 @@ sub-free-each c = let loop = c.before.before.before in omega (arith, all-groups 
 free-each-requires : tie.Need-free_each-requires invariant-loop decreases-loop
 free-each-requires c κs =
     let loop = c.before.before.before in
-    (omega (arith, all-groups (behind loop).args.n, (behind loop).requires.n_bound), loop.loop-k.invariant.3)
+    (omega (arith, all-groups (behind loop).args.n, (behind loop).requires.0), loop.loop-k.invariant.3)
 
 same_length : tie.Need-shape_of-pool invariant-loop decreases-loop
 same_length c = search rules

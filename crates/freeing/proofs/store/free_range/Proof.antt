@@ -21,7 +21,7 @@ free-entries-requires : tie.Need-free_entries-requires
 free-entries-requires c κs =
     let at = c.before.before in
     let s = behind at in
-    (omega (arith, at.front_index-at.ensures, s.requires.sandbox_bound, s.requires.n_bound), (s.requires.ranged, omega (arith, s.requires.n_bound)))
+    (omega (arith, at.front_index-at.ensures, s.requires.0, s.requires.1.0), (s.requires.1.1, omega (arith, s.requires.1.0)))
 
 same_length : tie.Need-shape_of-pool
 same_length c = search rules

@@ -42,10 +42,10 @@ abbrev written : tie.After-by → tie.After-encode
 written c = c.before.before.before
 
 no-state : (c : tie.Then-not-is_state) → is_state (behind_no c).args.state.now ≡ false
-no-state c = fails-test (behind_no c).args.state.now c.before.is_state.result c.before.is_state.ensures c.if-not-is_state.true-raw
+no-state c = fails-test (behind_no c).args.state.now c.is_state.result c.is_state.ensures c.if-not-is_state.true-raw
 
 a-state : (c : tie.Else-not-is_state) → is_state (behind_yes c).args.state.now ≡ true
-a-state c = passes-test (behind_yes c).args.state.now c.before.is_state.result c.before.is_state.ensures c.if-not-is_state.false-raw
+a-state c = passes-test (behind_yes c).args.state.now c.is_state.result c.is_state.ensures c.if-not-is_state.false-raw
 
 -- ---- the answers
 
@@ -99,7 +99,7 @@ returns-2 c =
     let decoding = decoded calling in
     let branch = passed decoding in
     let first = behind_yes branch in
-    let known = (asking branch.before).before.before.before.before.slice_known-1.given in
+    let known = (asking branch.before).slice_known-1.given in
     let bytes : Bytes first.args.state.now = record { at = λ i. omega (arith, known i) } in
     let reply = calling.call in
     let request = (asking branch.before).request-q in

@@ -13,7 +13,7 @@ value-requires : tie.Need-value-requires
 value-requires c κs = search rules
 
 returns : tie.Need-returns
-returns c = rw (c.value.ensures, c.before.number.ensures)
+returns c = rw (c.value.ensures, c.number.ensures)
 
 pub by_spec : {M : Type 1} → statement M
 by_spec = tie.close (tie.spec number-requires cast-t3 value-requires returns)

@@ -13,16 +13,16 @@ by-requires c κs = search rules
 
 returns : tie.Need-returns-then-not-is_call
 returns c =
-    let code = c.before.before.is_call in
-    rw (c.by.ensures, sym code.ensures ∙ not-true code.result c.before.if-not-is_call.true-raw) refl
+    let code = c.is_call in
+    rw (c.by.ensures, sym code.ensures ∙ not-true code.result c.if-not-is_call.true-raw) refl
 
 by-requires-2 : tie.Need-by-requires-2
 by-requires-2 c κs = search rules
 
 returns-2 : tie.Need-returns
 returns-2 c =
-    let code = c.before.before.is_call in
-    rw (c.by-2.ensures, sym code.ensures ∙ not-false code.result c.before.if-not-is_call.false-raw) refl
+    let code = c.is_call in
+    rw (c.by-2.ensures, sym code.ensures ∙ not-false code.result c.if-not-is_call.false-raw) refl
 
 pub without_state_spec : {M : Type 1} → statement M
 without_state_spec =

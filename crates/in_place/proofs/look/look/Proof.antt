@@ -40,7 +40,7 @@ accepted c w A e = sym (number c w A) ∙ ap verdict_number e
 -- ---- the needs
 
 cast-images : tie.Need-overflow_cast-images
-cast-images c = omega (arith, (state (start c).requires.stands.1).images)
+cast-images c = omega (arith, (state (start c).requires.1.1.1).images)
 
 decide-requires : tie.Need-decide-verdict-requires
 decide-requires c κs = let p = (start c).requires in (look-unpaged (start c).args.q p.0, (p.1.0, ready-here p.1.1.1 p.1.0))
@@ -53,29 +53,29 @@ enum_told c = search rules
 
 value-of-requires : tie.Need-value_of-requires
 value-of-requires c κs =
-    let deciding = c.before.before in
+    let deciding = c.before in
     let s = decided deciding in
-    let row = s.requires.sandbox_bound in
-    let w = s.requires.stands.0 in
-    let A = s.requires.stands.1 in
-    let parts = asked s.args.image.now w s.args.q (state A) (accepted deciding w A c.enum_told-1.given.1) in
-    (row, (parts.fit, (ready-here A row, (ranged-here A, (few-frames A, eqb-false s.args.q.code rewind_code (look-stays s.args.q s.requires.is_value))))))
+    let row = s.requires.1.0 in
+    let w = s.requires.1.1.0 in
+    let A = s.requires.1.1.1 in
+    let parts = asked s.args.image.now w s.args.q (state A) (accepted deciding w A c.in-Accepted.is) in
+    (row, (parts.fit, (ready-here A row, (ranged-here A, (few-frames A, eqb-false s.args.q.code rewind_code (look-stays s.args.q s.requires.0))))))
 
 returns : tie.Need-returns-in-Refused
 returns c w A =
-    let arm = c.before in
-    let deciding = arm.before.before in
+    let arm = c. in
+    let deciding = arm.before in
     let a = (decided deciding).args in
-    stepped-refused a.image.now w a.q arm.verdict-1.given.0.0 (ap verdict_number (sym arm.verdict-1.given.1) ∙ number deciding w A)
+    stepped-refused a.image.now w a.q arm.in-Refused.why (ap verdict_number (sym arm.in-Refused.is) ∙ number deciding w A)
 
 returns-2 : tie.Need-returns-in-Accepted
 returns-2 c w A =
     let arm = c.before in
-    let deciding = arm.before.before in
+    let deciding = arm.before in
     let s = decided deciding in
     let q = s.args.q in
-    let unpaged = look-unpaged q s.requires.is_value in
-    looked A (few-unpaged q unpaged) (look-stays q s.requires.is_value) (accepted deciding w A arm.enum_told-1.given.1) (no_write q unpaged) c.value_of_lem.result
+    let unpaged = look-unpaged q s.requires.0 in
+    looked A (few-unpaged q unpaged) (look-stays q s.requires.0) (accepted deciding w A arm.in-Accepted.is) (no_write q unpaged) c.value_of_lem.result
     c.value_of_lem.ensures
 
 pub look_spec : {M : Type 1} → statement M

@@ -35,7 +35,7 @@ goes-on-requires c κs = search rules
 
 returns-2 : tie.Need-returns
 unfolding continues
-returns-2 c = let some : 0 < (at-start c).args.areas.count = omega arith in rw (c.goes_on.ensures, c.before.attributes.ensures, lt-ltb 0 _ some)
+returns-2 c = let some : 0 < (at-start c).args.areas.count = omega arith in rw (c.goes_on.ensures, c.attributes.ensures, lt-ltb 0 _ some)
 
 pub continues_spec : {M : Type 1} → statement M
 continues_spec =

@@ -12,7 +12,7 @@ abbrev cleared : tie.After-clear_frame → tie.In-Anonymous
 cleared c = c.before.before
 
 abbrev paged : tie.After-struct_known-1 → tie.In-Image-2
-paged c = c.before.before
+paged c = c.before
 
 abbrev behind : tie.In-Image-2 → tie.Start
 behind c = c.before.before.before.before
@@ -60,7 +60,7 @@ same_length : tie.Need-shape_of-pool-in-Anonymous
 same_length c = search rules
 
 returns : tie.Need-returns-in-Anonymous
-returns c = let clear = c.before.before in rw (cleared clear).enum_told-1.given.1 clear.clear_frame.ensures
+returns c = let clear = c.before.before in rw (cleared clear).in-Anonymous.is clear.clear_frame.ensures
 
 same-length-2 : tie.Need-shape_of-pool-in-Image
 same-length-2 c = search rules

@@ -26,7 +26,7 @@ decreases-loop bytes areas₀ k₀ areas k = 8 - k
 
 -- the bytes, seen from the loop
 abbrev bytes_of : tie.At-loop-k invariant-loop decreases-loop → List ℕ
-bytes_of c = c.before.before.before.before.args.bytes.now
+bytes_of c = c.args.bytes.now
 
 empty-requires : tie.Need-empty-areas-requires invariant-loop decreases-loop
 empty-requires c κs = search rules
@@ -36,8 +36,8 @@ shared-slice-read-areas c = search rules
 
 loop-holds : tie.Need-loop-k-init invariant-loop decreases-loop
 loop-holds c =
-    let bytes = c.before.before.before.args.bytes.now in
-    let none_yet = c.before.empty-areas in
+    let bytes = c.args.bytes.now in
+    let none_yet = c.empty-areas in
     (refl, filled_none (area_in bytes) 8 (replicate 8 none) none_yet.result.list (ap (λ a. a.list) none_yet.ensures))
 
 mul_at : tie.Need-overflow_mul-at invariant-loop decreases-loop
@@ -76,7 +76,7 @@ loop-less c = search rules
 loop-again : tie.Need-loop-k-preserved invariant-loop decreases-loop
 loop-again c =
     let turn = c.before.before in
-    let at = turn.before.loop-k in
+    let at = turn.loop-k in
     let bytes = bytes_of turn.before in
     let got : c.decode_area-area.result ≡ area_in bytes at.k
     = c.decode_area-area.ensures ∙ ap area_from (part-lent-behind bytes 1 (at.k * area_size) area_size) in
@@ -86,7 +86,7 @@ loop-again c =
 returns : tie.Need-returns invariant-loop decreases-loop
 unfolding areas_from
 returns c =
-    let at = c.before.loop-k in
+    let at = c.loop-k in
     let bytes = bytes_of c.before in
     let all = filled-all (area_in bytes) 8 (replicate 8 none) at.areas.list at.k refl at.invariant.1 (omega (arith, c.loop-k-test.false)) in
     λ i. record { count = at.invariant.0 i; list = all i }

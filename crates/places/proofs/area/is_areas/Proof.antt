@@ -20,10 +20,10 @@ decreases-loop bytes all₀ k₀ all k = 8 - k
 
 -- the bytes, seen from the loop
 abbrev bytes_of : tie.At-loop-k invariant-loop decreases-loop → List ℕ
-bytes_of c = c.before.before.args.bytes.now
+bytes_of c = c.args.bytes.now
 
 loop-holds : tie.Need-loop-k-init invariant-loop decreases-loop
-loop-holds c = let bytes = c.before.args.bytes.now in tested-none (λ j. is_area (part_in area_size (drop 1 bytes) j)) 8
+loop-holds c = let bytes = c.args.bytes.now in tested-none (λ j. is_area (part_in area_size (drop 1 bytes) j)) 8
 
 mul_at : tie.Need-overflow_mul-at invariant-loop decreases-loop
 mul_at c = search rules
@@ -55,7 +55,7 @@ loop-less c = search rules
 loop-again : tie.Need-loop-k-preserved invariant-loop decreases-loop
 loop-again c =
     let turn = c.before.before in
-    let at = turn.before.loop-k in
+    let at = turn.loop-k in
     let bytes = bytes_of turn.before in
     let got = c.is_area-all.ensures ∙ ap is_area (part-lent-behind bytes 1 (at.k * area_size) area_size) in
     tested-next (λ j. is_area (part_in area_size (drop 1 bytes) j)) 8 at.all c.is_area-all.result at.k at.invariant turn.loop-k-test.true got
@@ -63,7 +63,7 @@ loop-again c =
 returns : tie.Need-returns invariant-loop decreases-loop
 unfolding is_areas
 returns c =
-    let at = c.before.loop-k in
+    let at = c.loop-k in
     let bytes = bytes_of c.before in
     tested-all (λ j. is_area (part_in area_size (drop 1 bytes) j)) 8 at.all at.k at.invariant (omega (arith, c.loop-k-test.false))
 

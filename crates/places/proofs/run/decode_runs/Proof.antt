@@ -26,14 +26,14 @@ decreases-loop bytes runs₀ k₀ runs k = 8 - k
 
 -- the bytes, seen from the loop
 abbrev bytes_of : tie.At-loop-k invariant-loop decreases-loop → List ℕ
-bytes_of c = c.before.before.before.args.bytes.now
+bytes_of c = c.args.bytes.now
 
 none-requires : tie.Need-none-runs-requires invariant-loop decreases-loop
 none-requires c κs = search rules
 
 loop-holds : tie.Need-loop-k-init invariant-loop decreases-loop
 loop-holds c =
-    filled_none (run_in c.before.before.args.bytes.now) 8 (replicate 8 none_held) c.none-runs.result.list (ap (λ r. r.list) c.none-runs.ensures)
+    filled_none (run_in c.args.bytes.now) 8 (replicate 8 none_held) c.none-runs.result.list (ap (λ r. r.list) c.none-runs.ensures)
 
 mul_at : tie.Need-overflow_mul-at invariant-loop decreases-loop
 mul_at c = search rules
@@ -68,7 +68,7 @@ loop-less c = search rules
 loop-again : tie.Need-loop-k-preserved invariant-loop decreases-loop
 loop-again c =
     let turn = c.before.before in
-    let at = turn.before.loop-k in
+    let at = turn.loop-k in
     let bytes = bytes_of turn.before in
     let got = c.decode_marks-run.ensures ∙ ap marks_from (part-lent bytes (at.k * marks_size) marks_size) in
     let more = turn.loop-k-test.true in
@@ -77,7 +77,7 @@ loop-again c =
 returns : tie.Need-returns invariant-loop decreases-loop
 unfolding runs_from
 returns c =
-    let at = c.before.loop-k in
+    let at = c.loop-k in
     let bytes = bytes_of c.before in
     let all = filled-all (run_in bytes) 8 (replicate 8 none_held) at.runs.list at.k refl at.invariant (omega (arith, c.loop-k-test.false)) in
     λ i. record { list = all i }

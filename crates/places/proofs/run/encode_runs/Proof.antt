@@ -24,7 +24,7 @@ abbrev start_of : tie.At-loop-k invariant-loop decreases-loop → tie.Start inva
 start_of c = c.before.before
 
 loop-holds : tie.Need-loop-k-init invariant-loop decreases-loop
-loop-holds c = written_none (λ j. marks_bytes (row c.before.args.runs j)) marks_size 8 c.before.args.out.now c.before.requires
+loop-holds c = written_none (λ j. marks_bytes (row c.args.runs j)) marks_size 8 c.args.out.now c.requires
 
 mul_at : tie.Need-overflow_mul-at invariant-loop decreases-loop
 mul_at c = search rules
@@ -60,7 +60,7 @@ loop-again : tie.Need-loop-k-preserved invariant-loop decreases-loop
 loop-again c =
     let got = c.before.before in
     let turn = turn_of got in
-    let at = turn.before.loop-k in
+    let at = turn.loop-k in
     let a = (start_of turn.before).args in
     let f : ℕ → List ℕ = λ j. marks_bytes (row a.runs j) in
     written_next f marks_size 8 a.out.now (λ j. length-marks (row a.runs j)) at.out got.encode_marks.new.1.0 at.k at.invariant
@@ -73,7 +73,7 @@ returns : tie.Need-returns invariant-loop decreases-loop
 unfolding runs_bytes
 returns c =
     let a = (start_of c.before).args in
-    let at = c.before.loop-k in
+    let at = c.loop-k in
     written_all (λ j. marks_bytes (row a.runs j)) marks_size 8 a.out.now at.out at.k at.invariant (omega (arith, c.loop-k-test.false))
 
 pub encode_runs_spec : {M : Type 1} → statement M

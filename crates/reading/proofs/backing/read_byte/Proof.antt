@@ -9,7 +9,7 @@ use Rattle.reading.proofs.backing.read_byte.Tie as tie
 
 -- behind the page of the image
 abbrev paged : tie.After-read → tie.In-Image-2
-paged c = c.before.before.before.before
+paged c = c.before.before.before
 
 abbrev behind : tie.In-Image-2 → tie.Start
 behind c = c.before.before.before
@@ -36,13 +36,13 @@ part-read-start : tie.Need-slice_bounds-read-start
 part-read-start c = search rules
 
 part-read-end : tie.Need-slice_bounds-read-end
-part-read-end c = omega (arith, ap backing_end c.before.before.backing-1.given.1)
+part-read-end c = omega (arith, ap backing_end c.in-Image.is)
 
 read-requires : tie.Need-read-requires
 read-requires c κs = search rules
 
 returns : tie.Need-returns-in-Anonymous
-returns c = rw (c.enum_told-1.given.1, get_or-zeros)
+returns c = rw (c.in-Anonymous.is, get_or-zeros)
 
 returns-2 : tie.Need-returns-in-Image
 returns-2 c =

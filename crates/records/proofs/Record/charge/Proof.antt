@@ -21,7 +21,7 @@ start-of-mapped-pages c = c.before.before.before.before.before
 
 returns : tie.Need-returns-then-not-self
 unfolding charge_of
-returns c = rw (not-true (start-of-mapped-pages c).args.self.taken c.before.if-not-self.true) c.mapped_pages.ensures
+returns c = rw (not-true (start-of-mapped-pages c).args.self.taken c.if-not-self.true) c.mapped_pages.ensures
 
 mapped-pages-requires-2 : tie.Need-mapped_pages-requires-2
 mapped-pages-requires-2 c κs = search rules
@@ -42,7 +42,7 @@ add-result : tie.Need-overflow_add-result
 add-result c =
     omega (
       arith,
-      c.before.mapped_pages-2.ensures,
+      c.mapped_pages-2.ensures,
       c.uncommitted_pages.ensures,
       mapped-small (slots (start-of-uncommitted-pages c).args.self.snapshot),
       uncommitted-small (slots (start-of-uncommitted-pages c).args.self.present),
@@ -52,8 +52,8 @@ returns-2 : tie.Need-returns
 unfolding charge_of
 returns-2 c =
     rw (
-      not-false (start-of-uncommitted-pages c).args.self.taken c.before.before.if-not-self.false,
-      c.before.mapped_pages-2.ensures,
+      not-false (start-of-uncommitted-pages c).args.self.taken c.if-not-self.false,
+      c.mapped_pages-2.ensures,
       c.uncommitted_pages.ensures,
     )
 

@@ -10,7 +10,7 @@ empty-requires-2 : tie.Need-empty-snapshot-requires
 empty-requires-2 c κs = search rules
 
 returns : tie.Need-returns
-returns c = rw (c.empty-snapshot.ensures, c.before.empty-present.ensures)
+returns c = rw (c.empty-snapshot.ensures, c.empty-present.ensures)
 
 pub closed_spec : {M : Type 1} → statement M
 closed_spec = tie.close (tie.spec empty-requires empty-requires-2 returns)

@@ -37,7 +37,7 @@ abbrev Start : Type 0
 Start = tie.Start invariant-loop decreases-loop
 
 formed : (s : Start) → WellFormed (pages_in (length s.args.image.now)) s.args.b.present
-formed s = s.requires.ready.sound.present
+formed s = s.requires.1.0.sound.present
 
 abbrev behind : tie.At-loop-k invariant-loop decreases-loop → Start
 behind c = c.before.before.before.before.before
@@ -63,7 +63,7 @@ loop-holds : tie.Need-loop-k-init invariant-loop decreases-loop
 unfolding rewind_to changed_to
 loop-holds c =
     let s = c.before.before.before.before in
-    (omega arith, refl, refl, filed-ranged 256 _ _ s.requires.filed, omega arith, refl, refl, left-start s.args.b.present)
+    (omega arith, refl, refl, filed-ranged 256 _ _ s.requires.1.1, omega arith, refl, refl, left-start s.args.b.present)
 
 mul-area : tie.Need-offset_bounds-present-k invariant-loop decreases-loop
 mul-area c = search rules
@@ -74,13 +74,13 @@ element-copy-out-area c = search rules
 with-area-requires : tie.Need-with_area-done-requires invariant-loop decreases-loop
 with-area-requires c κs =
     let turn = c.before.before.before in
-    let l = turn.before.loop-k in
+    let l = turn.loop-k in
     let s = behind turn.before in
     let a = s.args in
-    let ready = s.requires.ready in
+    let ready = s.requires.1.0 in
     let more = turn.loop-k-test.true in
     let area = (formed s).each l.k more in (
-      s.requires.s_bound,
+      s.requires.0,
       (
         left-first a.image.now ready.few a.b.present (formed s) l.k l.done.page.0 l.invariant.7 more,
         (area.inside, (area.some, (l.invariant.3, (backed-area a.image.now ready.few a.b.present (formed s) l.k more, few-found turn.before)))),
@@ -97,10 +97,10 @@ loop-again : tie.Need-loop-k-preserved invariant-loop decreases-loop
 loop-again c =
     let one = c.before.before.before.before in
     let turn = one.before.before.before.before in
-    let l = turn.before.loop-k in
+    let l = turn.loop-k in
     let s = behind turn.before in
     let a = s.args in
-    let few = s.requires.ready.few in
+    let few = s.requires.1.0.few in
     let more = turn.loop-k-test.true in
     let f = one.with_area-done in
     let st : Store = kept a.held a.pool.now a.table.now in
@@ -122,9 +122,9 @@ loop-again c =
 
 free-before-requires : tie.Need-free_before-marks-requires invariant-loop decreases-loop
 free-before-requires c κs =
-    let l = c.before.before.before.loop-k in
+    let l = c.loop-k in
     let s = behind c.before.before.before in
-    (s.requires.s_bound, (l.invariant.4, (omega arith, l.invariant.3)))
+    (s.requires.0, (l.invariant.4, (omega arith, l.invariant.3)))
 
 same_length : tie.Need-shape_of-pool invariant-loop decreases-loop
 same_length c = search rules
@@ -139,18 +139,18 @@ returns c =
     let l = loop.loop-k in
     let s = behind loop in
     let a = s.args in
-    let few = s.requires.ready.few in
+    let few = s.requires.1.0.few in
     let st : Store = kept a.held a.pool.now a.table.now in
     let page : ℕ = l.done.page.0 in
-    let none : a.b.present.count ≤ l.k = omega (arith, last.before.before.before.loop-k-test.false) in (
+    let none : a.b.present.count ≤ l.k = omega (arith, last.loop-k-test.false) in (
       last.free_before-marks.ensures
           ∙ ap (λ (x : Store). free_to 256 (front_of a.s page) x (64 - page)) l.invariant.5
           ∙ area-last a.image.now few a.b.present (formed s) a.s st l.k page l.invariant.7 none l.invariant.4
           ∙ rewind_to-same a.image.now (a.s * 128) (keeps_front a.b) (backings a.b.present) st (keeps_front a.b) (copy_backing a.b) 64
-          (λ i l. (refl, s.requires.ready.sound.backing i)),
+          (λ i l. (refl, s.requires.1.0.sound.backing i)),
       l.invariant.6
           ∙ count-last a.image.now few a.b.present (formed s) a.s st l.k page l.invariant.7 none l.invariant.4
-          ∙ found-changed a.image.now a.b s.requires.ready a.s st _ s.requires.filed,
+          ∙ found-changed a.image.now a.b s.requires.1.0 a.s st _ s.requires.1.1,
     )
 
 pub rewind_spec : {M : Type 1} → statement M

@@ -5,13 +5,13 @@ use Rattle.rules.proofs.after.backing_of.Statement.{statement}
 use Rattle.rules.proofs.after.backing_of.Tie as tie
 
 returns : tie.Need-returns-then-q-eq-ANONYMOUS
-returns c = rw (eq-eqb c.before.before.args.q.p3 0 c.if-q-eq-ANONYMOUS.true)
+returns c = rw (eq-eqb c.args.q.p3 0 c.if-q-eq-ANONYMOUS.true)
 
 cast-t3 : tie.Need-overflow_cast-result
-cast-t3 c = omega (arith, c.before.before.before.requires.fit.image c.before.before.before.requires.code_value c.before.if-q-eq-ANONYMOUS.false)
+cast-t3 c = omega (arith, c.requires.1.image c.requires.0 c.if-q-eq-ANONYMOUS.false)
 
 returns-2 : tie.Need-returns
-returns-2 c = rw (ne_eqb c.before.before.before.args.q.p3 0 c.before.if-q-eq-ANONYMOUS.false)
+returns-2 c = rw (ne_eqb c.args.q.p3 0 c.if-q-eq-ANONYMOUS.false)
 
 pub backing_of_spec : {M : Type 1} → statement M
 backing_of_spec = tie.close (tie.spec returns cast-t3 returns-2)

@@ -8,10 +8,10 @@ backing-of-requires : tie.Need-backing_of-backing-requires
 backing-of-requires c κs = search rules
 
 cast-t3 : tie.Need-overflow_cast-result
-cast-t3 c = omega (arith, (c.before.before.requires.fit.place c.before.before.requires.code_value).2)
+cast-t3 c = omega (arith, (c.requires.1.place c.requires.0).2)
 
 returns : tie.Need-returns
-returns c = rw c.before.backing_of-backing.ensures
+returns c = rw c.backing_of-backing.ensures
 
 pub new_page_spec : {M : Type 1} → statement M
 new_page_spec = tie.close (tie.spec backing-of-requires cast-t3 returns)

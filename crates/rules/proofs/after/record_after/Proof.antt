@@ -33,9 +33,9 @@ returns c =
     let placed = shared.before in
     let marked = placed.before in
     let copied = marked.before in
-    let share = copied.before.share_after-share in
-    let taken = copied.before.before.taken_after-taken in
-    let snapshot = copied.before.before.before.snapshot_after-snapshot in
+    let share = copied.share_after-share in
+    let taken = copied.taken_after-taken in
+    let snapshot = copied.snapshot_after-snapshot in
     rw (c.with_opened.ensures, shared.with_share-shared.ensures, placed.with_present-mapped.ensures, marked.with_taken-marked.ensures, copied.with_snapshot-copied.ensures)
     (rw (share.ensures, taken.ensures, snapshot.ensures))
 

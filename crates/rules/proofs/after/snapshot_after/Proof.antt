@@ -6,11 +6,11 @@ use Rattle.rules.proofs.after.snapshot_after.Tie as tie
 
 returns : tie.Need-returns-then-q-eq-SNAPSHOT
 unfolding snapshot_after
-returns c = rw (eq-eqb c.before.before.args.q.code 7 c.if-q-eq-SNAPSHOT.true)
+returns c = rw (eq-eqb c.args.q.code 7 c.if-q-eq-SNAPSHOT.true)
 
 returns-2 : tie.Need-returns
 unfolding snapshot_after
-returns-2 c = rw (ne_eqb c.before.before.args.q.code 7 c.if-q-eq-SNAPSHOT.false)
+returns-2 c = rw (ne_eqb c.args.q.code 7 c.if-q-eq-SNAPSHOT.false)
 
 pub snapshot_after_spec : {M : Type 1} → statement M
 snapshot_after_spec = tie.close (tie.spec returns returns-2)

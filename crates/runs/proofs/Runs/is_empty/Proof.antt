@@ -15,7 +15,7 @@ same-requires : tie.Need-same-requires
 same-requires c κs = search rules
 
 returns : tie.Need-returns
-returns c = c.same.ensures ∙ ap₂ same_held c.before.before.at-run.ensures c.before.none-none.ensures
+returns c = c.same.ensures ∙ ap₂ same_held c.at-run.ensures c.none-none.ensures
 
 pub is_empty_spec : {M : Type 1} → statement M
 is_empty_spec = tie.close (tie.spec at-requires none-requires same-requires returns)

@@ -42,12 +42,12 @@ loop-less c = search rules
 loop-again : tie.Need-loop-i-preserved invariant-loop decreases-loop
 loop-again c =
     let l = (at-loop c).loop-i in
-    (search rules, (λ j. l.invariant.1 j && c.is_empty-none.ensures j) ∙ sym (every-last (of (at-loop c).before.args.self) l.i))
+    (search rules, (λ j. l.invariant.1 j && c.is_empty-none.ensures j) ∙ sym (every-last (of (at-loop c).args.self) l.i))
 
 returns : tie.Need-returns invariant-loop decreases-loop
 returns c =
-    let l = c.before.loop-i in
-    l.invariant.1 ∙ ap (every (of c.before.before.args.self) 0) (omega (arith, l.invariant.0, c.loop-i-test.false))
+    let l = c.loop-i in
+    l.invariant.1 ∙ ap (every (of c.args.self) 0) (omega (arith, l.invariant.0, c.loop-i-test.false))
 
 pub is_none_spec : {M : Type 1} → statement M
 is_none_spec = tie.close (tie.spec invariant-loop decreases-loop loop-holds is-empty-requires add-i loop-less loop-again returns)

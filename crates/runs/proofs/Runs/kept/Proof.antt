@@ -36,7 +36,7 @@ abbrev at-loop : tie.After-frames_in invariant-loop decreases-loop → tie.At-lo
 at-loop c = c.before.before.before
 
 add-n : tie.Need-overflow_add-n invariant-loop decreases-loop
-add-n c = let l = (at-loop c).loop-k in omega (arith, l.invariant.1, l.invariant.0, c.frames_in.ensures.small)
+add-n c = let l = (at-loop c).loop-k in omega (arith, l.invariant.1, l.invariant.0, c.frames_in.ensures.1)
 
 add-k : tie.Need-overflow_step-k invariant-loop decreases-loop
 add-k c = search rules
@@ -48,15 +48,15 @@ loop-again : tie.Need-loop-k-preserved invariant-loop decreases-loop
 loop-again c =
     let l = (at-loop c).loop-k in (
       search rules,
-      omega (arith, l.invariant.1, c.frames_in.ensures.small),
-      sum_more (lengths_of (at-loop c).before.args.self) l.k l.n _ l.invariant.2 c.frames_in.ensures.value,
+      omega (arith, l.invariant.1, c.frames_in.ensures.1),
+      sum_more (lengths_of (at-loop c).args.self) l.k l.n _ l.invariant.2 c.frames_in.ensures.0,
     )
 
 returns : tie.Need-returns invariant-loop decreases-loop
 returns c =
-    let l = c.before.loop-k in
+    let l = c.loop-k in
     let end : l.k ≡ 8 = omega (arith, l.invariant.0, c.loop-k-test.false) in
-    (l.invariant.2 ∙ ap (sum (lengths_of c.before.before.args.self)) end, omega (arith, l.invariant.1, l.invariant.0))
+    (l.invariant.2 ∙ ap (sum (lengths_of c.args.self)) end, omega (arith, l.invariant.1, l.invariant.0))
 
 pub kept_spec : {M : Type 1} → statement M
 kept_spec =

@@ -12,7 +12,7 @@ frames-in-requires : tie.Need-frames_in-requires
 frames-in-requires c κs = search rules
 
 returns : tie.Need-returns
-returns c = (c.frames_in.ensures.value ∙ ap count_held c.before.at.ensures, c.frames_in.ensures.small)
+returns c = (c.frames_in.ensures.0 ∙ ap count_held c.at.ensures, c.frames_in.ensures.1)
 
 pub length_spec : {M : Type 1} → statement M
 length_spec = tie.close (tie.spec at-requires frames-in-requires returns)

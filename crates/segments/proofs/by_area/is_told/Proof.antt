@@ -10,10 +10,10 @@ enum-told-2 : tie.Need-enum_told-in-Protects
 enum-told-2 c = search rules
 
 returns : tie.Need-returns-in-Maps
-returns c = rw c.before.enum_told-1.given.1
+returns c = rw c.in-Maps.is
 
 returns-2 : tie.Need-returns-in-Protects
-returns-2 c = rw c.before.enum_told-in-Protects-1.given.1
+returns-2 c = rw c.in-Protects.is
 
 pub is_told_spec : {M : Type 1} → statement M
 is_told_spec = tie.close (tie.spec enum_told enum-told-2 returns returns-2)

@@ -16,10 +16,10 @@ protect-line-requires : tie.Need-protect_line-requires
 protect-line-requires c κs = search rules
 
 returns : tie.Need-returns-in-Maps
-returns c = rw c.before.enum_told-1.given.1 c.map_line.ensures
+returns c = rw c.in-Maps.is c.map_line.ensures
 
 returns-2 : tie.Need-returns-in-Protects
-returns-2 c = rw c.before.enum_told-in-Protects-1.given.1 c.protect_line.ensures
+returns-2 c = rw c.in-Protects.is c.protect_line.ensures
 
 pub line_of_spec : {M : Type 1} → statement M
 line_of_spec =

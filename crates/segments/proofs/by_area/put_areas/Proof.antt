@@ -32,10 +32,10 @@ turn_of c = c.before.before.before.before
 abbrev start_of : At → tie.Start invariant-loop decreases-loop
 start_of c = (turn_of c).before.before.before.before
 
-put-here : (c : At) → only c.is_told.result c.before.before.Line-of.result ≡ lines (start_of c) (turn_of c).before.loop-k.k
+put-here : (c : At) → only c.is_told.result c.before.before.Line-of.result ≡ lines (start_of c) (turn_of c).loop-k.k
 put-here c =
     let a = (start_of c).args in
-    let area : Area = get_or a.snapshot.areas.list (turn_of c).before.loop-k.k none in
+    let area : Area = get_or a.snapshot.areas.list (turn_of c).loop-k.k none in
     ap (λ b. only b c.before.before.Line-of.result) c.is_told.ensures ∙ ap (only (is_told a.segment area)) c.before.before.Line-of.ensures
 
 loop-holds : tie.Need-loop-k-init invariant-loop decreases-loop
@@ -56,7 +56,7 @@ is-told-requires c κs = search rules
 put-if-requires : tie.Need-put_if-next-requires invariant-loop decreases-loop
 put-if-requires c κs =
     let start = start_of c in
-    let l = (turn_of c).before.loop-k in
+    let l = (turn_of c).loop-k in
     turn-room start.args.to start.args.out.now (lines start) 8 start.requires l.next l.out l.k l.invariant (turn_of c).loop-k-test.true _
     (put-here c)
 
@@ -70,8 +70,8 @@ loop-again : tie.Need-loop-k-preserved invariant-loop decreases-loop
 loop-again c =
     let here = c.before.before.before in
     let start = start_of here in
-    let l = (turn_of here).before.loop-k in
-    let line = c.before.before.put_if-next in
+    let l = (turn_of here).loop-k in
+    let line = c.put_if-next in
     turn-next start.args.to start.args.out.now (lines start) 8 start.requires l.next l.out l.k l.invariant (turn_of here).loop-k-test.true _
     (put-here here) line.result line.new.0 line.ensures
 
@@ -81,7 +81,7 @@ same_length c = search rules
 returns : tie.Need-returns invariant-loop decreases-loop
 returns c =
     let start = c.before.before.before.before in
-    let l = c.before.loop-k in
+    let l = c.loop-k in
     turn_last start.args.to start.args.out.now (lines start) 8 l.next l.out l.k l.invariant c.loop-k-test.false
 
 pub put_areas_spec : {M : Type 1} → statement M

@@ -32,11 +32,11 @@ slot-requires c κs = search rules
 put-page-requires : tie.Need-put_page-next-requires invariant-loop decreases-loop
 put-page-requires c κs =
     let turn = c.before.before in
-    let l = turn.before.loop-i in
+    let l = turn.loop-i in
     let start = start_of turn.before in
     let a = start.args in
-    let asked = start.requires.readable in
-    let e = c.before.slot-slot.ensures in (
+    let asked = start.requires.0 in
+    let e = c.slot-slot.ensures in (
       asked.row,
       (
         turn.loop-i-test.true,
@@ -44,7 +44,7 @@ put-page-requires c κs =
           asked.ranged,
           (
             rw e (asked.backed l.i),
-            rw e (turn-room a.to a.out.now (lines start) 64 start.requires.room l.next l.out l.i l.invariant turn.loop-i-test.true _ refl),
+            rw e (turn-room a.to a.out.now (lines start) 64 start.requires.1 l.next l.out l.i l.invariant turn.loop-i-test.true _ refl),
           ),
         ),
       ),
@@ -58,13 +58,13 @@ loop-less c = search rules
 
 loop-again : tie.Need-loop-i-preserved invariant-loop decreases-loop
 loop-again c =
-    let page = c.before.before.put_page-next in
+    let page = c.put_page-next in
     let turn = c.before.before.before.before.before in
-    let l = turn.before.loop-i in
+    let l = turn.loop-i in
     let start = start_of turn.before in
     let a = start.args in
-    turn-next a.to a.out.now (lines start) 64 start.requires.room l.next l.out l.i l.invariant turn.loop-i-test.true _
-    (ap (page_lines a.image.now a.pool.now a.table.now a.snapshot.sandbox l.i) c.before.before.before.before.slot-slot.ensures)
+    turn-next a.to a.out.now (lines start) 64 start.requires.1 l.next l.out l.i l.invariant turn.loop-i-test.true _
+    (ap (page_lines a.image.now a.pool.now a.table.now a.snapshot.sandbox l.i) c.slot-slot.ensures)
     page.result page.new.1.1.1.1.0 page.ensures
 
 same_length : tie.Need-shape_of-out invariant-loop decreases-loop
@@ -73,7 +73,7 @@ same_length c = search rules
 returns : tie.Need-returns invariant-loop decreases-loop
 returns c =
     let start = start_of c.before in
-    let l = c.before.loop-i in
+    let l = c.loop-i in
     turn_last start.args.to start.args.out.now (lines start) 64 l.next l.out l.i l.invariant c.loop-i-test.false
 
 pub put_writes_spec : {M : Type 1} → statement M

@@ -13,22 +13,22 @@ record-ok-requires : tie.Need-record_ok-requires
 record-ok-requires c κs = search rules
 
 returns : tie.Need-returns-then-not-record_ok
-returns c = λ h pool. rw (← c.before.record_ok.ensures, not-true c.before.record_ok.result c.if-not-record_ok.true-raw)
+returns c = λ h pool. rw (← c.record_ok.ensures, not-true c.record_ok.result c.if-not-record_ok.true-raw)
 
 -- the way back from where a fact is needed to where it was learned
 abbrev start-of-else1 : tie.Else-not-record_ok → tie.Start
 start-of-else1 c = c.before.before.before
 
 record-hold : (c : tie.Else-not-record_ok) → record_ok (start-of-else1 c).args.images (start-of-else1 c).args.rec ≡ true
-record-hold c = sym c.before.record_ok.ensures ∙ not-false _ c.if-not-record_ok.false-raw
+record-hold c = sym c.record_ok.ensures ∙ not-false _ c.if-not-record_ok.false-raw
 
 pages-ok-requires : tie.Need-pages_ok-requires
 pages-ok-requires c κs =
     let p = c.before.before in
     let s = start-of-else1 p in
     let a = s.args in
-    let f = both-formed a.images a.rec (record-true a.images a.rec (record-hold p)) s.requires.images_bound in
-    (s.requires.s_bound, (s.requires.table_len, (f.0, f.1)))
+    let f = both-formed a.images a.rec (record-true a.images a.rec (record-hold p)) s.requires.1.0 in
+    (s.requires.0, (s.requires.1.1, (f.0, f.1)))
 
 returns-2 : tie.Need-returns
 returns-2 c = λ h pool. rw (record-hold c.before.before.before) (c.pages_ok.ensures h pool)

@@ -62,24 +62,24 @@ start-of-turn c = c.before.before.before
 -- what the first call says of the array's sandbox
 told : (c : tie.After-sandbox_ok invariant-loop decreases-loop) (h : Held) (pool : List ℕ) →
     let a = (start-of-turn (turn-of-sandbox-ok c)).args in
-    let s : ℕ = (turn-of-sandbox-ok c).before.loop-s.s in
+    let s : ℕ = (turn-of-sandbox-ok c).loop-s.s in
     c.sandbox_ok.result ≡ sandbox_ok a.images (kept h pool a.table.now) s (get_or a.sandboxes s zero_sandbox)
 told c h pool =
     let a = (start-of-turn (turn-of-sandbox-ok c)).args in
-    let s : ℕ = (turn-of-sandbox-ok c).before.loop-s.s in
+    let s : ℕ = (turn-of-sandbox-ok c).loop-s.s in
     sandbox-tested a.images (kept h pool a.table.now) s (get_or a.sandboxes s zero_sandbox) _ (c.sandbox_ok.ensures h pool)
 
 -- what the two calls say of the world's sandbox
 here : (c : tie.After-runs_ok invariant-loop decreases-loop) (h : Held) (pool : List ℕ) →
     let a = (start-of-turn (turn-of-runs-ok c)).args in
-    c.runs_ok.result ≡ tests h pool a.table.now a.images a.sandboxes (turn-of-runs-ok c).before.loop-s.s
+    c.runs_ok.result ≡ tests h pool a.table.now a.images a.sandboxes (turn-of-runs-ok c).loop-s.s
 here c h pool =
     let start = start-of-turn (turn-of-runs-ok c) in
     let a = start.args in
-    let s : ℕ = (turn-of-runs-ok c).before.loop-s.s in
+    let s : ℕ = (turn-of-runs-ok c).loop-s.s in
     let t = (at-sandbox-ok c).sandbox_ok in
     runs-decide a.images (kept h pool a.table.now) s (get_or a.sandboxes s zero_sandbox) (get_or a.sandboxes s closed_sandbox)
-    (same start s (turn-of-runs-ok c).loop-s-test.true) t.result (told (at-sandbox-ok c) h pool) (not-false _ c.before.before.before.if-not-sandbox_ok.false-raw)
+    (same start s (turn-of-runs-ok c).loop-s-test.true) t.result (told (at-sandbox-ok c) h pool) (not-false _ c.if-not-sandbox_ok.false-raw)
     c.runs_ok.result
     (c.runs_ok.ensures h pool)
 
@@ -96,7 +96,7 @@ array-copy-out-b : tie.Need-bounds-sandboxes-k invariant-loop decreases-loop
 array-copy-out-b c = search rules
 
 sandbox-ok-requires : tie.Need-sandbox_ok-requires invariant-loop decreases-loop
-sandbox-ok-requires c κs = (c.before.before.loop-s-test.true, (start-of-turn c.before.before).requires)
+sandbox-ok-requires c κs = (c.loop-s-test.true, (start-of-turn c.before.before).requires)
 
 abbrev at-loop : tie.After-sandbox_ok invariant-loop decreases-loop → tie.At-loop-s invariant-loop decreases-loop
 at-loop c = (turn-of-sandbox-ok c).before
@@ -107,7 +107,7 @@ returns c = λ h pool.
     let a = start.args in
     let l = (at-loop c.before).loop-s in
     let low = (turn-of-sandbox-ok c.before).loop-s-test.taken in
-    let t = c.before.sandbox_ok in
+    let t = c.sandbox_ok in
     sym (l.invariant.1 h pool ∙ every-stop (tests h pool a.table.now a.images a.sandboxes) 4 l.s low
     (sandbox-stops a.images (kept h pool a.table.now) l.s (get_or a.sandboxes l.s zero_sandbox) (get_or a.sandboxes l.s closed_sandbox)
     (same start l.s low) t.result (told c.before h pool) (not-true _ c.if-not-sandbox_ok.true-raw)))
@@ -123,16 +123,16 @@ runs-ok-requires : tie.Need-runs_ok-requires invariant-loop decreases-loop
 runs-ok-requires c κs =
     let start = start-of-turn (turn-of-runs c) in
     let a = start.args in
-    let s : ℕ = (turn-of-runs c).before.loop-s.s in
+    let s : ℕ = (turn-of-runs c).loop-s.s in
     let b : Sandbox = get_or a.sandboxes s zero_sandbox in
     let st : Store = kept none_held [] a.table.now in
-    let passed = passed-true a.images st s b (sym (told c.before.before.before none_held []) ∙ not-false _ c.before.before.if-not-sandbox_ok.false-raw) in
-    ((turn-of-runs c).loop-s-test.true, (start.requires.table_len, passed-share a.images st s b passed))
+    let passed = passed-true a.images st s b (sym (told c.before.before.before none_held []) ∙ not-false _ c.if-not-sandbox_ok.false-raw) in
+    ((turn-of-runs c).loop-s-test.true, (start.requires.1, passed-share a.images st s b passed))
 
 returns-2 : tie.Need-returns-then-not-runs_ok invariant-loop decreases-loop
 returns-2 c = λ h pool.
     let a = (start-of-turn (turn-of-runs-ok c.before)).args in
-    let l = (turn-of-runs-ok c.before).before.loop-s in
+    let l = (turn-of-runs-ok c.before).loop-s in
     sym (l.invariant.1 h pool ∙ every-stop (tests h pool a.table.now a.images a.sandboxes) 4 l.s
     (turn-of-runs-ok c.before).loop-s-test.taken
     (sym (here c.before h pool) ∙ not-true _ c.if-not-runs_ok.true-raw))
@@ -146,7 +146,7 @@ loop-less c = search rules
 loop-again : tie.Need-loop-s-preserved invariant-loop decreases-loop
 loop-again c =
     let a = (start-of-turn (turn-of-runs-ok c.before)).args in
-    let l = (turn-of-runs-ok c.before).before.loop-s in (
+    let l = (turn-of-runs-ok c.before).loop-s in (
       search rules,
       λ h pool. l.invariant.1 h pool
           ∙ every-next (tests h pool a.table.now a.images a.sandboxes) 4 l.s (turn-of-runs-ok c.before).loop-s-test.taken
@@ -159,7 +159,7 @@ start-of-loop-end c = c.before.before.before
 returns-3 : tie.Need-returns invariant-loop decreases-loop
 returns-3 c = λ h pool.
     let a = (start-of-loop-end c).args in
-    let l = c.before.loop-s in
+    let l = c.loop-s in
     sym (l.invariant.1 h pool ∙ every-end (tests h pool a.table.now a.images a.sandboxes) 4 l.s c.loop-s-test.false)
 
 by-rules-bounds-sandboxes-k-in-loop-s : tie.Need-bounds-sandboxes-k-in-loop-s invariant-loop decreases-loop

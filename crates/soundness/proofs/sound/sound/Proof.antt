@@ -29,7 +29,7 @@ world s = world_of s.args.m s.args.pool.now s.args.table.now
 lengths-hold : (c : tie.Else-not-lengths_ok) →
     let a = (start1 c).args in
     lengths_ok (length a.pool.now) (length a.table.now) (length a.image.now) ≡ true
-lengths-hold c = sym c.before.lengths_ok.ensures ∙ not-false c.before.lengths_ok.result c.if-not-lengths_ok.false-raw
+lengths-hold c = sym c.lengths_ok.ensures ∙ not-false c.lengths_ok.result c.if-not-lengths_ok.false-raw
 
 lengths : (c : tie.Else-not-lengths_ok) →
     let a = (start1 c).args in
@@ -39,7 +39,7 @@ lengths c = let a = (start1 c).args in lengths-true (length a.pool.now) (length 
 marks-hold : (c : tie.Else-not-marks_match) →
     let w = world (start2 c) in
     marksb (frames_of w) w.store.marks w.store.table ≡ true
-marks-hold c = sym c.before.marks_match.ensures ∙ not-false c.before.marks_match.result c.if-not-marks_match.false-raw
+marks-hold c = sym c.marks_match.ensures ∙ not-false c.marks_match.result c.if-not-marks_match.false-raw
 
 lengths-ok-requires : tie.Need-lengths_ok-requires
 lengths-ok-requires c κs = search rules
@@ -51,7 +51,7 @@ start-of-lengths-ok c = c.before.before.before.before
 returns : tie.Need-returns-then-not-lengths_ok
 returns c =
     let s = start-of-lengths-ok c.before in
-    lengths-fail s.args.image.now (world s) (sym c.before.lengths_ok.ensures ∙ not-true c.before.lengths_ok.result c.if-not-lengths_ok.true-raw)
+    lengths-fail s.args.image.now (world s) (sym c.lengths_ok.ensures ∙ not-true c.lengths_ok.result c.if-not-lengths_ok.true-raw)
 
 cast-frames : tie.Need-overflow_cast-frames
 cast-frames c = let l = lengths c in omega arith
@@ -69,7 +69,7 @@ returns-2 : tie.Need-returns-then-not-marks_match
 returns-2 c =
     let p = else1-of-marks-match c.before in
     marks-fail (start1 p).args.image.now (world (start1 p)) (lengths-hold p)
-    (sym c.before.marks_match.ensures ∙ not-true c.before.marks_match.result c.if-not-marks_match.true-raw)
+    (sym c.marks_match.ensures ∙ not-true c.marks_match.result c.if-not-marks_match.true-raw)
 
 abbrev else1-of-sandboxes : tie.After-sandboxes-1 → tie.Else-not-lengths_ok
 else1-of-sandboxes c = else1-of-marks-match c.before.before
@@ -85,7 +85,7 @@ returns-3 c =
     let p = at-else2 c.before in
     let a = (start2 p).args in
     sandboxes-fail a.image.now (world (start2 p)) (lengths-hold (else1-of-marks-match p.before)) (marks-hold p)
-    c.before.sandboxes_ok.result (c.before.sandboxes_ok.ensures a.m.held a.pool.now) (not-true _ c.if-not-sandboxes_ok.true-raw)
+    c.sandboxes_ok.result (c.sandboxes_ok.ensures a.m.held a.pool.now) (not-true _ c.if-not-sandboxes_ok.true-raw)
 
 abbrev else1-of-sandboxes-ok : tie.After-sandboxes_ok → tie.Else-not-lengths_ok
 else1-of-sandboxes-ok c = else1-of-sandboxes c.before
@@ -96,11 +96,11 @@ spare-ok-requires c κs = let l = lengths (else1-of-sandboxes-ok c.before) in (l
 returns-4 : tie.Need-returns-then-not-spare_ok
 returns-4 c =
     let p = c.before.before in
-    let t = p.before.sandboxes_ok in
+    let t = p.sandboxes_ok in
     let a = (start3 p).args in
     spare-fails a.image.now (world (start3 p)) (lengths-hold (else1-of-sandboxes-ok p.before)) (marks-hold (at-else2 p.before))
-    t.result (t.ensures a.m.held a.pool.now) (not-false _ p.if-not-sandboxes_ok.false-raw) c.before.spare_ok.result
-    (c.before.spare_ok.ensures a.table.now) (not-true _ c.if-not-spare_ok.true-raw)
+    t.result (t.ensures a.m.held a.pool.now) (not-false _ p.if-not-sandboxes_ok.false-raw) c.spare_ok.result
+    (c.spare_ok.ensures a.table.now) (not-true _ c.if-not-spare_ok.true-raw)
 
 shares-requires : tie.Need-shares-requires
 shares-requires c κs = search rules
@@ -117,13 +117,13 @@ at-else3 c = c.before.before.before
 returns-5 : tie.Need-returns
 returns-5 c =
     let p = at-else3 c in
-    let t = p.before.sandboxes_ok in
-    let q = c.before.before.spare_ok in
+    let t = p.sandboxes_ok in
+    let q = c.spare_ok in
     let a = (start3 p).args in
-    rw c.shares.ensures.value
+    rw c.shares.ensures.0
     (shares-decide a.image.now (world (start3 p)) (lengths-hold (else1-of-sandboxes-ok p.before))
     (marks-hold (at-else2 p.before)) t.result (t.ensures a.m.held a.pool.now) (not-false _ p.if-not-sandboxes_ok.left) q.result
-    (q.ensures a.table.now) (not-false _ c.before.if-not-spare_ok.false-raw))
+    (q.ensures a.table.now) (not-false _ c.if-not-spare_ok.false-raw))
 
 pub sound_spec : {M : Type 1} → statement M
 sound_spec =

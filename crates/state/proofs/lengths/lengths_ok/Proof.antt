@@ -10,7 +10,7 @@ whole-pages-requires-2 : tie.Need-whole_pages-image_ok-requires
 whole-pages-requires-2 c κs = search rules
 
 returns : tie.Need-returns
-returns c = rw (c.whole_pages-image_ok.ensures, c.before.whole_pages-pool_ok.ensures)
+returns c = rw (c.whole_pages-image_ok.ensures, c.whole_pages-pool_ok.ensures)
 
 pub lengths_ok_spec : {M : Type 1} → statement M
 lengths_ok_spec = tie.close (tie.spec whole-pages-requires whole-pages-requires-2 returns)

@@ -47,13 +47,13 @@ loop-less c = search rules
 loop-again : tie.Need-loop-i-preserved invariant-loop decreases-loop
 loop-again c =
     let s = c.before.before.before in
-    let l = c.before.before.loop-i in
+    let l = c.loop-i in
     (search rules, rw l.invariant.1 (sym (every-last (of s.args.table.now s.args.at) l.i)))
 
 returns : tie.Need-returns invariant-loop decreases-loop
 returns c =
     let s = c.before.before in
-    c.before.loop-i.invariant.1 ∙ ap (every (of s.args.table.now s.args.at) 0) (omega arith)
+    c.loop-i.invariant.1 ∙ ap (every (of s.args.table.now s.args.at) 0) (omega arith)
 
 pub are_empty_spec : {M : Type 1} → statement M
 are_empty_spec =

@@ -16,7 +16,7 @@ shared-slice-read-result : tie.Need-bounds-table-at
 shared-slice-read-result c = search rules
 
 returns : tie.Need-returns
-returns c = rw (← c.before.front_index-at.ensures)
+returns c = rw (← c.front_index-at.ensures)
 
 pub back_spec : {M : Type 1} → statement M
 back_spec =

@@ -7,7 +7,7 @@ back-requires : tie.Need-back-requires
 back-requires c κs = search rules
 
 returns : tie.Need-returns-then-committed
-returns c = rw c.before.if-committed.true c.back.ensures
+returns c = rw c.if-committed.true c.back.ensures
 
 returns-2 : tie.Need-returns
 returns-2 c = search rules

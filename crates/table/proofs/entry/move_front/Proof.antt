@@ -35,7 +35,7 @@ same_length c = search rules
 
 returns : tie.Need-returns
 unfolding move
-returns c = λ h pool. rw (← c.before.front_index-from.ensures)
+returns c = λ h pool. rw (← c.front_index-from.ensures)
 
 pub move_front_spec : {M : Type 1} → statement M
 move_front_spec =

@@ -33,15 +33,15 @@ loop-less c = search rules
 
 loop-again : tie.Need-loop-i-preserved invariant-loop decreases-loop
 loop-again c =
-    let l = c.before.before.before.before.before.loop-i in
-    let m = c.before.before.move_front in
+    let l = c.loop-i in
+    let m = c.move_front in
     (search rules, search rules, λ h pool. move-more _ l.i _ (kept h pool l.table) (kept h pool m.new.0) (l.invariant.2 h pool) (m.ensures h pool))
 
 same_length : tie.Need-shape_of-table invariant-loop decreases-loop
 same_length c = search rules
 
 returns : tie.Need-returns invariant-loop decreases-loop
-returns c = λ h pool. c.before.loop-i.invariant.2 h pool ∙ ap (move_to (c.before.before.before.args.sandbox * 128) _) (omega arith)
+returns c = λ h pool. c.loop-i.invariant.2 h pool ∙ ap (move_to (c.args.sandbox * 128) _) (omega arith)
 
 pub move_fronts_spec : {M : Type 1} → statement M
 move_fronts_spec =

@@ -15,7 +15,7 @@ none-requires c κs = search rules
 returns : tie.Need-returns-then-q-ne-WRITE
 returns c =
     let tested = c.before in
-    (refl, (tested.before.before.shares-shares.ensures.value, λ w. absurd (omega (arith, w, tested.if-q-ne-WRITE.true))))
+    (refl, (tested.shares-shares.ensures.0, λ w. absurd (omega (arith, w, tested.if-q-ne-WRITE.true))))
 
 kept-marks-requires : tie.Need-kept_marks-found-requires
 kept-marks-requires c κs = search rules
@@ -23,7 +23,7 @@ kept-marks-requires c κs = search rules
 returns-2 : tie.Need-returns
 returns-2 c =
     let found = c.before in
-    (refl, (found.before.before.before.shares-shares.ensures.value, λ _. ap (λ (m : Marks). m.held) found.kept_marks-found.ensures))
+    (refl, (found.shares-shares.ensures.0, λ _. ap (λ (m : Marks). m.held) found.kept_marks-found.ensures))
 
 pub put_together_spec : {M : Type 1} → statement M
 put_together_spec =

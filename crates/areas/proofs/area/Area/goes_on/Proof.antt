@@ -24,7 +24,7 @@ follows-requires c κs = tt
 
 returns : tie.Need-returns
 unfolding goes_on
-returns c = rw (c.follows.ensures, c.before.is_same.ensures)
+returns c = rw (c.follows.ensures, c.is_same.ensures)
 
 pub goes_on_spec : {M : Type 1} → statement M
 goes_on_spec =

@@ -16,7 +16,7 @@ sub-page-on : tie.Need-overflow_sub-page
 sub-page-on c = omega arith
 
 page-on-requires : tie.Need-page_on-requires
-page-on-requires c κs = omega (arith, ap (λ t. start_of t.backing) c.before.before.attributes.ensures)
+page-on-requires c κs = omega (arith, ap (λ t. start_of t.backing) c.attributes.ensures)
 
 returns : tie.Need-returns
 returns c = c.page_on.ensures ∙ rw (at-attributes c).attributes.ensures

@@ -20,7 +20,7 @@ decreases-loop page self k₀ k = 8 - k
 eight : (c : tie.Start invariant-loop decreases-loop) → length c.args.self.list ≡ 8
 eight c = search length-mapped
 
-here : (c : tie.In-loop-k invariant-loop decreases-loop) → c.before.loop-k.k < length c.before.before.args.self.list
+here : (c : tie.In-loop-k invariant-loop decreases-loop) → c.loop-k.k < length c.args.self.list
 here c = omega (arith, eight c.before.before)
 
 loop-holds : tie.Need-loop-k-init invariant-loop decreases-loop
@@ -47,8 +47,8 @@ at-start c = c.before.before.before.before
 
 slot-requires : tie.Need-slot-requires invariant-loop decreases-loop
 slot-requires c κs = (
-  (at-start c.before).requires.near.at (at-loop c.before).loop-k.k (turn-of-covers c.before).loop-k-test.taken,
-  ((at-start c.before).requires.page_bound, inside-first _ _ _ (sym c.before.covers.ensures ∙ c.if-covers.true)),
+  (at-start c.before).requires.0.at (at-loop c.before).loop-k.k (turn-of-covers c.before).loop-k-test.taken,
+  ((at-start c.before).requires.1, inside-first _ _ _ (sym c.covers.ensures ∙ c.if-covers.true)),
 )
 
 abbrev turn-of-slot : tie.After-slot invariant-loop decreases-loop → tie.In-loop-k invariant-loop decreases-loop
@@ -58,8 +58,8 @@ returns : tie.Need-returns-then-covers invariant-loop decreases-loop
 returns c =
     c.slot.ensures
     ∙ sym
-    ((turn-of-slot c).before.loop-k.invariant.1 ∙ slot_step _ _ _ (here (turn-of-slot c))
-    ∙ rw (← c.before.before.covers.ensures, c.before.if-covers.true))
+    ((turn-of-slot c).loop-k.invariant.1 ∙ slot_step _ _ _ (here (turn-of-slot c))
+    ∙ rw (← c.covers.ensures, c.if-covers.true))
 
 add-k : tie.Need-overflow_step-k invariant-loop decreases-loop
 add-k c = omega arith
@@ -70,11 +70,11 @@ loop-less c = omega arith
 loop-again : tie.Need-loop-k-preserved invariant-loop decreases-loop
 loop-again c = (
   omega arith,
-  (at-loop c.before).loop-k.invariant.1 ∙ slot_step _ _ _ (here (turn-of-covers c.before)) ∙ rw (← c.before.covers.ensures, c.if-covers.false),
+  (at-loop c.before).loop-k.invariant.1 ∙ slot_step _ _ _ (here (turn-of-covers c.before)) ∙ rw (← c.covers.ensures, c.if-covers.false),
 )
 
 returns-2 : tie.Need-returns invariant-loop decreases-loop
-returns-2 c = sym (c.before.loop-k.invariant.1 ∙ slot-end c.before.before.args.self.list c.before.loop-k.k _ (omega (arith, eight c.before.before)))
+returns-2 c = sym (c.loop-k.invariant.1 ∙ slot-end c.args.self.list c.loop-k.k _ (omega (arith, eight c.before.before)))
 
 pub slot_spec : {M : Type 1} → statement M
 slot_spec =

@@ -20,13 +20,13 @@ start-of-continues c = c.before.before.before.before
 
 extended-requires : tie.Need-extended-requires
 extended-requires c κs =
-    let on = sym c.before.continues.ensures ∙ c.if-continues.true in
-    (continues-some _ _ _ on, ((start-of-continues c.before).requires.count_bound, omega (arith, (continues-last _ _ _ on).end, (start-of-continues c.before).requires.pages_bound)))
+    let on = sym c.continues.ensures ∙ c.if-continues.true in
+    (continues-some _ _ _ on, ((start-of-continues c.before).requires.0, omega (arith, (continues-last _ _ _ on).end, (start-of-continues c.before).requires.1)))
 
 returns-2 : tie.Need-returns-then-continues
 returns-2 c =
-    let on = c.before.before.continues in
-    push-extends _ _ (ne_eqb _ _ c.before.before.before.before.if-area-eq0.false) on.result on.ensures c.before.if-continues.true _ c.extended.ensures
+    let on = c.continues in
+    push-extends _ _ (ne_eqb _ _ c.if-area-eq0.false) on.result on.ensures c.if-continues.true _ c.extended.ensures
 
 cast-if3 : tie.Need-overflow_cast-areas
 cast-if3 c = search rules
@@ -36,14 +36,14 @@ placed-requires c κs = search rules
 
 returns-3 : tie.Need-returns-then-areas-lt-MOST
 returns-3 c =
-    let on = c.before.before.before.before.continues in
-    push_places _ _ (ne_eqb _ _ c.before.before.before.before.before.before.if-area-eq0.false) on.result on.ensures
-    c.before.before.before.if-continues.false (omega (arith, c.before.if-areas-lt-MOST.true)) _ c.placed.ensures
+    let on = c.continues in
+    push_places _ _ (ne_eqb _ _ c.if-area-eq0.false) on.result on.ensures
+    c.if-continues.false (omega (arith, c.if-areas-lt-MOST.true)) _ c.placed.ensures
 
 returns-4 : tie.Need-returns
 returns-4 c =
-    let on = c.before.before.before.continues in
-    push-full _ _ (ne_eqb _ _ c.before.before.before.before.before.if-area-eq0.false) on.result on.ensures c.before.before.if-continues.false
+    let on = c.continues in
+    push-full _ _ (ne_eqb _ _ c.if-area-eq0.false) on.result on.ensures c.if-continues.false
     (omega (arith, c.if-areas-lt-MOST.false))
 
 pub with_area_spec : {M : Type 1} → statement M

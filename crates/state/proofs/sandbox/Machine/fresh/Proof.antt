@@ -14,7 +14,7 @@ none-requires : tie.Need-none-held-requires
 none-requires c κs = search rules
 
 returns : tie.Need-returns
-returns c = rw (c.none-held.ensures, c.before.closed-closed.ensures)
+returns c = rw (c.none-held.ensures, c.closed-closed.ensures)
 
 pub fresh_spec : {M : Type 1} → statement M
 fresh_spec = tie.close (tie.spec closed-requires none-requires returns)

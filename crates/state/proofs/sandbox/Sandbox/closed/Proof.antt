@@ -10,7 +10,7 @@ none-requires : tie.Need-none-runs-requires
 none-requires c κs = search rules
 
 returns : tie.Need-returns
-returns c = rw (c.none-runs.ensures, c.before.closed-rec.ensures)
+returns c = rw (c.none-runs.ensures, c.closed-rec.ensures)
 
 pub closed_spec : {M : Type 1} → statement M
 closed_spec = tie.close (tie.spec closed-requires none-requires returns)
