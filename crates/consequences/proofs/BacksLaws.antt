@@ -15,7 +15,7 @@ use Rattle.interface.specs.declared.request.Request.{Request}
 use Rattle.interface.specs.declared.page.Slot.{Slot}
 use Rattle.interface.specs.Requests.{compare_code}
 use Rattle.interface.specs.Slots.{is_committed, rights_at}
-use Rattle.comparison.specs.compare_code.{agree}
+use Rattle.comparison.specs.Compare.{agree}
 use Rattle.comparison.proofs.CompareLaws.{agree-bytes, difference-same}
 use Rattle.interface.specs.Numbers.{pages_in}
 use Rattle.frames.specs.declared.Held.{Held}

@@ -13,7 +13,7 @@ use Rattle.interface.specs.Numbers.{pages_in}
 use Rattle.interface.specs.Slots.{is_committed}
 use Rattle.table.specs.Store.{Store, contents, over_page, page_from, front_of, back_of, Tidy}
 use Rattle.table.specs.Backing.{backing_end}
-use Rattle.rewind_cases.specs.rewind_code.{rewind_to}
+use Rattle.rewind_cases.specs.Rewind.{rewind_to}
 use Rattle.rewind_cases.specs.Cases.{front_then}
 use Rattle.rewind_cases.proofs.CaseLaws.{one-case}
 use Rattle.rewind_cases.proofs.BeforeLaws.{front-before}

@@ -6,7 +6,7 @@ use Rattle.interface.specs.Requests.{rewind_code}
 use Rattle.interface.specs.Slots.{is_committed, backing_at}
 use Rattle.table.specs.Store.{entry, contents, front_of, back_of}
 use Rattle.rewind_cases.specs.declared.RewindCase.{RewindCase}
-use Rattle.rewind_cases.specs.rewind_code.{case_of}
+use Rattle.rewind_cases.specs.Rewind.{case_of}
 use Rattle.rewind_cases.specs.Cases.{OneCase, front_then}
 use Rattle.areas.specs.Areas.{slots}
 use Rattle.state.specs.World.{World, record_at}

@@ -17,7 +17,7 @@ use Rattle.run_choice.specs.Runs.{takes_run}
 use Rattle.frames.specs.Frames.{held}
 use Rattle.table.specs.Store.{Store, front_of, back_of, Ranged, Tidy}
 use Rattle.table.specs.Store.{take, store_byte, free_to, move_to}
-use Rattle.rewind_cases.specs.rewind_code.{rewind_to}
+use Rattle.rewind_cases.specs.Rewind.{rewind_to}
 use Rattle.table.specs.Backing.{backing_page}
 use Rattle.table.proofs.StoreLaws.{taken}
 use Rattle.table.proofs.FiledLaws.{filed-ranged}

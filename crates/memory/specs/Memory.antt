@@ -10,7 +10,7 @@ use Rattle.frames.specs.Frames.{held, mark, count_held}
 use Rattle.marks.specs.Named.{used_below}
 use Rattle.marks.specs.Marks.{marks_to, from}
 use Rattle.table.specs.Store.{Store, entry, front_of, take, store_byte, free_to, move_to}
-use Rattle.rewind_cases.specs.rewind_code.{rewind_to}
+use Rattle.rewind_cases.specs.Rewind.{rewind_to}
 use Rattle.runs.specs.declared.Runs.{Runs}
 use Rattle.runs.specs.Row.{row, lengths_of, with_run_at, tabled}
 use Rattle.kept.specs.Spare.{kept_at, kept_by, row_rewound, left_of, grant_to}

@@ -12,7 +12,7 @@ use Rattle.interface.specs.declared.request.Request.{Request}
 use Rattle.interface.specs.Answers.{Answered}
 use Rattle.interface.specs.Requests.{◌is◌, map_code, unmap_code, read_code, write_code, snapshot_code, rewind_code, report_code, compare_code, page_of, offset_of, backing_of}
 use Rattle.interface.specs.Slots.{Slots, is_committed, advance, mapped_pages, copied}
-use Rattle.comparison.specs.compare_code.{lowest_difference, changed_pages}
+use Rattle.comparison.specs.Compare.{lowest_difference, changed_pages}
 use Rattle.interface.specs.Outcome.{first_of, slots_after, copy_after, share_after}
 use Rattle.interface.specs.Refusals.{View, refusal}
 use Rattle.run_choice.specs.Runs.{run_places, takes_run, run_for, granted, longest_run, gives_up, runs_rewound}

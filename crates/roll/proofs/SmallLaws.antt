@@ -22,7 +22,7 @@ use Rattle.interface.specs.declared.page.Backing.TheVariants.{Anonymous, Image}
 use Rattle.interface.specs.Requests.{◌is◌, is_call, map_code, read_code, snapshot_code, rewind_code, report_code, compare_code, page_of, offset_of}
 use Rattle.interface.specs.Answers.{refusal_number, number_of, value_of, answered}
 use Rattle.interface.specs.Slots.{is_committed, backing_at}
-use Rattle.comparison.specs.compare_code.{lowest_difference}
+use Rattle.comparison.specs.Compare.{lowest_difference}
 use Rattle.interface.specs.Outcome.{first_of}
 use Rattle.interface.specs.Refusals.{refusal}
 use Rattle.interface.proofs.AcceptedLaws.{accepted, map-fits}

@@ -56,7 +56,7 @@ loop-again c =
     let turn = at-area c in
     let l = turn.loop-k in
     let s = turn.before.before in
-    (omega arith, gap-behind s.args.areas s.requires s.args.n l.k l.page l.invariant.1 turn.loop-k-test.taken c.if-n-area.false)
+    (omega arith, gap-behind s.args.areas s.requires s.args.n l.k l.page l.invariant.1 turn.loop-k-test.true c.if-n-area.false)
 
 sub-if2 : tie.Need-overflow_sub-page invariant-loop decreases-loop
 sub-if2 c = c.loop-k.invariant.1.there.small

@@ -125,7 +125,7 @@ returns-3 c =
     let n = tested p in
     let a = (start-of-loop (at-loop n)).args in
     let l = (at-loop n).loop-k in
-    let low = (at_turn n).loop-k-test.taken in
+    let low = (at_turn n).loop-k-test.true in
     fails-at n (sym (joined a.images a.areas l.k l.end low l.invariant.1 l.invariant.2 p.if-start-end.true _ g.goes_on.ensures c.if-goes_on.true))
 
 cast-end : tie.Need-overflow_cast-end invariant-loop decreases-loop invariant-loop2 decreases-loop2

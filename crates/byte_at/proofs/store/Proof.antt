@@ -63,7 +63,7 @@ returns-2 c =
           (found.front.ensures ∙ ap (λ (i : ℕ). get_or s.args.table.now (front_of s.args.q.sandbox i) 0) found.page_of-page.ensures ∙ z);
       byte = λ t h.
           put-at s.args.q (kept h s.args.pool.now s.args.table.now) _ _ _
-          found.page_of-page.ensures stored.offset_of.ensures (stored.IsStore-byte.ensures h);
+          found.page_of-page.ensures stored.offset_of.ensures (stored.store_byte.ensures h);
       none = λ t. absurd (false≢true (sym t));
     }
 

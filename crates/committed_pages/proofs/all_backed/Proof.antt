@@ -92,7 +92,7 @@ loop-again : tie.Need-loop-k-preserved invariant-loop decreases-loop
 loop-again c =
     let m = at-loop c.before in
     let a = m.args in
-    let low = (at_turn c.before).loop-k-test.taken in
+    let low = (at_turn c.before).loop-k-test.true in
     (omega (arith, low), m.loop-k.invariant.1 ∙ every-next (of a.present a.snapshot) a.present.count m.loop-k.k low (in-snapshot c))
 
 returns-2 : tie.Need-returns invariant-loop decreases-loop

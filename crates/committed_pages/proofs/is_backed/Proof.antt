@@ -83,7 +83,7 @@ returns-2 c =
     let l = m.loop-k in
     let end : l.k ≡ a.snapshot.count = omega (arith, l.invariant.0, c.loop-k-test.false) in
     come-all a.snapshot a.area s.requires l.page (subst (λ (k : ℕ). Come a.snapshot a.area k l.page) end l.invariant.1)
-    ∙ committed-is a.area (slots a.snapshot) (not-false _ (else1-of-loop m).if-not-area.left)
+    ∙ committed-is a.area (slots a.snapshot) (not-false _ (else1-of-loop m).if-not-area.false)
 
 pub is_backed_spec : {M : Type 1} → statement M
 is_backed_spec =

@@ -191,7 +191,7 @@ returns c = λ h. stops (turn_of (found_same c.before)) (ap not (sym (compared-i
 slot-requires-2 : tie.Need-slot-copied-requires invariant-loop decreases-loop
 slot-requires-2 c κs =
     let turn = turn_of c.before in
-    (near-formed (behind turn).args.b.snapshot (formed-copy (behind turn)), turn.loop-i-test.taken)
+    (near-formed (behind turn).args.b.snapshot (formed-copy (behind turn)), turn.loop-i-test.true)
 
 agrees-requires-2 : tie.Need-agrees-requires-else-same invariant-loop decreases-loop
 agrees-requires-2 c κs =

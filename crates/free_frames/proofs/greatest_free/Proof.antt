@@ -49,7 +49,7 @@ returns-2 : tie.Need-returns-in-Frame
 returns-2 c =
     let arm = c.before in
     let test = else1-of-high arm in
-    free-found test.args.marks _ _ (le_of_lt test.if-frames-le-WORD.left) (sym arm.greatest_unset-high.ensures ∙ arm.in-Frame.is)
+    free-found test.args.marks _ _ (le_of_lt test.if-frames-le-WORD.false) (sym arm.greatest_unset-high.ensures ∙ arm.in-Frame.is)
 
 abbrev else1-of-enum-told : tie.In-None → tie.Else-frames-le-WORD
 else1-of-enum-told c = c.before.before
@@ -58,7 +58,7 @@ returns-3 : tie.Need-returns-in-None
 returns-3 c =
     let arm = c.before in
     let test = else1-of-enum-told arm in
-    c.greatest_unset-in-None.ensures ∙ free-rest test.args.marks _ (le_of_lt test.if-frames-le-WORD.left)
+    c.greatest_unset-in-None.ensures ∙ free-rest test.args.marks _ (le_of_lt test.if-frames-le-WORD.false)
     (sym arm.greatest_unset-high.ensures ∙ arm.in-None.is)
 
 pub greatest_free_spec : {M : Type 1} → statement M

@@ -107,7 +107,7 @@ returns c =
     let left : ℕ = a.pages - done in
     let e : l.k ≡ a.pages / 8 = omega (arith, l.invariant.0, c.loop-k-test.false) in
     let all : done + left ≡ a.pages = omega (arith, all-groups a.pages) in
-    c.with_Each.ensures
+    c.with_each.ensures
     ∙ ap (λ (x : Held). with_entries table (at + done) x left) (l.invariant.1 ∙ ap (λ (k : ℕ). with_entries table at none_held (of_groups k)) e)
     ∙ entries-join table at none_held done left ∙ ap (with_entries table at none_held) all
     ∙ ap (λ (k : ℕ). with_entries table k none_held a.pages) index.ensures ∙ entries-fronts table a.sandbox a.first.0 a.pages

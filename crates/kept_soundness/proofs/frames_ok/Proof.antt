@@ -44,13 +44,13 @@ returns : tie.Need-returns-then-not-frame_ok invariant-loop decreases-loop
 returns c =
     let l = (at-loop c.before).loop-left in
     sym (l.invariant.1
-    ∙ least-fails _ _ l.rest (omega (arith, l.invariant.0, (turn-of-frame-ok c.before).loop-left-test.taken)) _ c.least-f.ensures _
+    ∙ least-fails _ _ l.rest (omega (arith, l.invariant.0, (turn-of-frame-ok c.before).loop-left-test.true)) _ c.least-f.ensures _
     c.frame_ok.ensures (not-true _ c.if-not-frame_ok.true-raw))
 
 without-requires : tie.Need-without-rest-requires invariant-loop decreases-loop
 without-requires c κs =
     let l = (at-loop c.before).loop-left in
-    (least-there l.rest (omega (arith, l.invariant.0, (turn-of-frame-ok c.before).loop-left-test.taken)) _ c.least-f.ensures).0
+    (least-there l.rest (omega (arith, l.invariant.0, (turn-of-frame-ok c.before).loop-left-test.true)) _ c.least-f.ensures).0
 
 sub-left : tie.Need-overflow_sub-left invariant-loop decreases-loop
 sub-left c = search rules

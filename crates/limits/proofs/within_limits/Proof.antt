@@ -26,7 +26,7 @@ rights-ok-requires c κs = search rules
 
 returns-2 : tie.Need-returns-in-2
 unfolding within
-returns-2 c = rw (c.rights_ok.ensures, c.backing_ok.ensures, c.Place-ok.ensures, c.in-2.is)
+returns-2 c = rw (c.rights_ok.ensures, c.backing_ok.ensures, c.place_ok.ensures, c.in-2.is)
 
 pages-ok-requires : tie.Need-pages_ok-requires
 pages-ok-requires c κs = search rules
@@ -59,7 +59,7 @@ uses-one-requires-2 c κs = search rules
 
 returns-5 : tie.Need-returns-in-5
 unfolding within
-returns-5 c = rw (c.uses_one-in-5.ensures, c.is_Address.ensures, c.in-5.is)
+returns-5 c = rw (c.uses_one-in-5.ensures, c.is_address.ensures, c.in-5.is)
 
 is-address-requires-2 : tie.Need-is_address-requires-in-6
 is-address-requires-2 c κs = search rules
@@ -72,7 +72,7 @@ uses-two-requires-2 c κs = search rules
 
 returns-6 : tie.Need-returns-in-6
 unfolding within
-returns-6 c = rw (c.uses_two-in-6.ensures, c.is_byte_lem.ensures, c.is_address-in-6.ensures, c.in-6.is)
+returns-6 c = rw (c.uses_two-in-6.ensures, c.is_byte.ensures, c.is_address-in-6.ensures, c.in-6.is)
 
 uses-none-requires : tie.Need-uses_none-requires
 uses-none-requires c κs = search rules

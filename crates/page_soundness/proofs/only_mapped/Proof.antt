@@ -72,7 +72,7 @@ returns c =
     let s = start-of-loop m in
     let a = s.args in
     let l = m.loop-k in
-    sym (l.invariant.2 ∙ gap-fails a.areas s.requires.0 (entry_at a.table.now a.first) l.k l.page l.invariant.1 (at_turn c.before).loop-k-test.taken _
+    sym (l.invariant.2 ∙ gap-fails a.areas s.requires.0 (entry_at a.table.now a.first) l.k l.page l.invariant.1 (at_turn c.before).loop-k-test.true _
     c.name_none.ensures (not-true _ c.if-not-name_none.true-raw))
 
 cast-page : tie.Need-overflow_cast-page invariant-loop decreases-loop

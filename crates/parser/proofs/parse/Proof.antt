@@ -130,9 +130,9 @@ returns-10 c =
     let code = sandbox.before.before in
     let whole = begun address in
     let says : ℕ → Field = field_at (line whole) in
-    parsed-call (line whole) whole.if-line-ne-BYTES.left whole.if-line-ne10.left _ _ _ _ _ _ _
-    (some_read code.number_at-code.result (says 0) code.number_at-code.ensures code.if-code-gt-MOST.left)
-    (some_read sandbox.number_at-sandbox.result (says 1) sandbox.number_at-sandbox.ensures sandbox.if-sandbox-gt-MOST.left)
+    parsed-call (line whole) whole.if-line-ne-BYTES.false whole.if-line-ne10.false _ _ _ _ _ _ _
+    (some_read code.number_at-code.result (says 0) code.number_at-code.ensures code.if-code-gt-MOST.false)
+    (some_read sandbox.number_at-sandbox.result (says 1) sandbox.number_at-sandbox.ensures sandbox.if-sandbox-gt-MOST.false)
     (sym told.in-Number.is ∙ address.field_at-address.ensures)
     (some_read p2.number_at-p2.result (says 3) p2.number_at-p2.ensures p2.if-p2-gt-MOST.false)
     (some_read p3.number_at-p3.result (says 4) p3.number_at-p3.ensures p3.if-p3-gt-MOST.false)

@@ -17,10 +17,10 @@ start2 c = start1 c.before.before.before
 
 -- what each says
 present-hold : (c : tie.Else-not-well_formed) → well_formed (start1 c).args.images (start1 c).args.rec.present ≡ true
-present-hold c = sym c.well-formed.ensures.0 ∙ not-false c.well-formed.result c.if-not-well_formed.left
+present-hold c = sym c.well-formed.ensures.0 ∙ not-false c.well-formed.result c.if-not-well_formed.false
 
 snapshot-hold : (c : tie.Else-not-well_formed-2) → well_formed (start2 c).args.images (start2 c).args.rec.snapshot ≡ true
-snapshot-hold c = sym c.well-formed2.ensures.0 ∙ not-false c.well-formed2.result c.if-not-well_formed-2.left
+snapshot-hold c = sym c.well-formed2.ensures.0 ∙ not-false c.well-formed2.result c.if-not-well_formed-2.false
 
 well-formed-requires : tie.Need-well_formed-requires
 well-formed-requires c κs = search rules
@@ -32,7 +32,7 @@ start-of-well-formed c = c.before.before
 returns : tie.Need-returns-then-not-well_formed
 returns c =
     let a = (start-of-well-formed c.before).args in
-    present-fails a.images a.rec (sym c.well-formed.ensures.0 ∙ not-true c.well-formed.result c.if-not-well_formed.taken)
+    present-fails a.images a.rec (sym c.well-formed.ensures.0 ∙ not-true c.well-formed.result c.if-not-well_formed.true)
 
 well-formed-requires-2 : tie.Need-well_formed-requires-2
 well-formed-requires-2 c κs = search rules
@@ -45,7 +45,7 @@ returns-2 c =
     let p = else1-of-well-formed2 c.before in
     let a = (start1 p).args in
     snapshot-fails a.images a.rec (present-hold p)
-    (sym c.well-formed2.ensures.0 ∙ not-true c.well-formed2.result c.if-not-well_formed-2.taken)
+    (sym c.well-formed2.ensures.0 ∙ not-true c.well-formed2.result c.if-not-well_formed-2.true)
 
 abbrev else1-of-else2 : tie.Else-not-well_formed-2 → tie.Else-not-well_formed
 else1-of-else2 c = else1-of-well-formed2 c.before
@@ -60,7 +60,7 @@ returns-3 c =
     let charged = c.before.before in
     let p = charged.before in
     let a = (start2 p).args in
-    charge-fails a.images a.rec (present-hold (else1-of-else2 p)) (snapshot-hold p) charged.charge.result charged.charge.ensures c.if-rec-charge.taken
+    charge-fails a.images a.rec (present-hold (else1-of-else2 p)) (snapshot-hold p) charged.charge.result charged.charge.ensures c.if-rec-charge.true
 
 fields-ok-requires : tie.Need-fields_ok-requires
 fields-ok-requires c κs = search rules
@@ -74,7 +74,7 @@ returns-4 c =
     let p = charged.before in
     let a = (start2 p).args in
     fields-decide a.images a.rec (present-hold (else1-of-else2 p)) (snapshot-hold p) charged.charge.result charged.charge.ensures
-    c.if-rec-charge.left c.fields_ok.result c.fields_ok.ensures
+    c.if-rec-charge.false c.fields_ok.result c.fields_ok.ensures
 
 pub record_ok_spec : {M : Type 1} → statement M
 record_ok_spec =

@@ -85,7 +85,7 @@ returns c row a =
     let touch = (touched stored.before).touch-left in
     let s = behind (touched stored.before) in
     written s.args.image.now s.args.q (world_in s row) _ _ touch.result.runs (touch.ensures row a) s.requires.0
-    (stored.IsStore-byte.ensures touch.result.held)
+    (stored.store_byte.ensures touch.result.held)
 
 pub write_spec : {M : Type 1} → statement M
 write_spec =

@@ -104,7 +104,7 @@ returns c =
     let playing = c.before.before.before.before.before.before.before in
     let reading = read_of playing in
     let at = loop_of reading in
-    let low : at.loop.number ≤ 65535 = omega (arith, reading.before.before.loop-number-test.taken) in
+    let low : at.loop.number ≤ 65535 = omega (arith, reading.before.before.loop-number-test.true) in
     ended (image_in at) (world_begun at) at.loop.number (world_at at) at.loop.invariant.3 low _ _ _ (world_after playing)
     (rw (← reading.read_full-got.ensures.1) (short-line reading.read_full-got.result told.result told.ensures (few_bytes reading) c.if-not-is_whole.true-raw))
     playing.play-state.ensures
@@ -122,7 +122,7 @@ loop-again c =
     let reading = read_of playing in
     let at = loop_of reading in
     let got = reading.read_full-got in
-    let low : at.loop.number ≤ 65535 = omega (arith, reading.before.before.loop-number-test.taken) in
+    let low : at.loop.number ≤ 65535 = omega (arith, reading.before.before.loop-number-test.true) in
     let whole : got.result ≡ 43 = whole-line got.result told.result told.ensures c.if-not-is_whole.false-raw in (
       omega (arith, low),
       playing.play-state.auto.1.0 ∙ at.loop.invariant.1,

@@ -41,7 +41,7 @@ returns : tie.Need-returns
 unfolding area_bytes
 returns c =
     let first = c.before.before.before.before in
-    rw (c.start_of_lem.ensures, c.kind_of.ensures, c.flag.ensures)
+    rw (c.start_of.ensures, c.kind_of.ensures, c.flag.ensures)
     (stored-all (area_bytes first.args.area) first.args.out.now first.requires)
 
 pub encode_area_spec : {M : Type 1} → statement M

@@ -75,8 +75,8 @@ returns-2 c w A =
     let s = decided deciding in
     let q = s.args.q in
     let unpaged = look-unpaged q s.requires.0 in
-    looked A (few-unpaged q unpaged) (look-stays q s.requires.0) (accepted deciding w A arm.in-Accepted.is) (no_write q unpaged) c.value_of_lem.result
-    c.value_of_lem.ensures
+    looked A (few-unpaged q unpaged) (look-stays q s.requires.0) (accepted deciding w A arm.in-Accepted.is) (no_write q unpaged) c.value_of.result
+    c.value_of.ensures
 
 pub look_spec : {M : Type 1} → statement M
 look_spec =

@@ -26,12 +26,12 @@ to-print s =
     let at = loop_of s in
     let begun = start_of at in
     let far = at.loop.inv.1 in
-    let more = s.before.before.loop-test.taken in
+    let more = s.before.before.loop-test.true in
     (room _ _ _ _ _ _ begun.pre.0 far.answered more far.out_kept, numbered _ _ _ _ _ _ begun.pre.1 far.first far.answered more)
 
 -- and the end is nearer behind it
 pub nearer : (s : AfterAsk) → let n = length (start_of (loop_of s)).args.numbers.now / 8 in n - ((loop_of s).loop.i + 1) < n - (loop_of s).loop.i
-nearer s = omega (arith, s.before.before.loop-test.taken)
+nearer s = omega (arith, s.before.before.loop-test.true)
 
 -- one line more is answered
 abbrev pub counted : AfterAsk → Playing → Playing
@@ -48,7 +48,7 @@ go_on s pool table out p a way kept prints =
     let at = loop_of s in
     let begun = start_of at in
     let far = at.loop.inv.1 in (
-      omega (arith, s.before.before.loop-test.taken),
+      omega (arith, s.before.before.loop-test.true),
       record {
         pool_kept = way.pool_kept ∙ far.pool_kept;
         table_kept = way.table_kept ∙ far.table_kept;

@@ -25,7 +25,7 @@ cast-t11 : tie.Need-overflow_cast-result-6
 cast-t11 c = search rules
 
 returns : tie.Need-returns
-returns c = rw (c.start_of_lem.ensures, c.kind_of.ensures)
+returns c = rw (c.start_of.ensures, c.kind_of.ensures)
 
 pub map_line_spec : {M : Type 1} → statement M
 map_line_spec =

@@ -106,7 +106,7 @@ returns c = λ h pool.
     let start = start-of-turn (turn-of-sandbox-ok c.before) in
     let a = start.args in
     let l = (at-loop c.before).loop-s in
-    let low = (turn-of-sandbox-ok c.before).loop-s-test.taken in
+    let low = (turn-of-sandbox-ok c.before).loop-s-test.true in
     let t = c.sandbox_ok in
     sym (l.invariant.1 h pool ∙ every-stop (tests h pool a.table.now a.images a.sandboxes) 4 l.s low
     (sandbox-stops a.images (kept h pool a.table.now) l.s (get_or a.sandboxes l.s zero_sandbox) (get_or a.sandboxes l.s closed_sandbox)
@@ -134,7 +134,7 @@ returns-2 c = λ h pool.
     let a = (start-of-turn (turn-of-runs-ok c.before)).args in
     let l = (turn-of-runs-ok c.before).loop-s in
     sym (l.invariant.1 h pool ∙ every-stop (tests h pool a.table.now a.images a.sandboxes) 4 l.s
-    (turn-of-runs-ok c.before).loop-s-test.taken
+    (turn-of-runs-ok c.before).loop-s-test.true
     (sym (here c.before h pool) ∙ not-true _ c.if-not-runs_ok.true-raw))
 
 add-s : tie.Need-overflow_step-s invariant-loop decreases-loop
@@ -149,7 +149,7 @@ loop-again c =
     let l = (turn-of-runs-ok c.before).loop-s in (
       search rules,
       λ h pool. l.invariant.1 h pool
-          ∙ every-next (tests h pool a.table.now a.images a.sandboxes) 4 l.s (turn-of-runs-ok c.before).loop-s-test.taken
+          ∙ every-next (tests h pool a.table.now a.images a.sandboxes) 4 l.s (turn-of-runs-ok c.before).loop-s-test.true
           (sym (here c.before h pool) ∙ not-false _ c.if-not-runs_ok.false-raw),
     )
 

@@ -47,7 +47,7 @@ at-start c = c.before.before.before.before
 
 slot-requires : tie.Need-slot-requires invariant-loop decreases-loop
 slot-requires c κs = (
-  (at-start c.before).requires.0.at (at-loop c.before).loop-k.k (turn-of-covers c.before).loop-k-test.taken,
+  (at-start c.before).requires.0.at (at-loop c.before).loop-k.k (turn-of-covers c.before).loop-k-test.true,
   ((at-start c.before).requires.1, inside-first _ _ _ (sym c.covers.ensures ∙ c.if-covers.true)),
 )
 
