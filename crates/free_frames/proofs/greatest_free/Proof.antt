@@ -24,17 +24,10 @@ greatest-unset-requires-2 c κs = search rules
 enum-known-high : tie.Need-enum_known-high
 enum-known-high c = search rules
 
--- the way back from where a fact is needed to where it was learned
-abbrev at-start : tie.In-Frame-2 → tie.Start
-at-start c = c.before.before.before.before
-
 add-t8 : tie.Need-overflow_add-result
 add-t8 c =
-    let arm = c.before in
-    let start = at-start arm in
-    let found = greatest-found (bit start.args.marks.high) (start.args.frames - 64) arm.in-Frame.f
-    (sym arm.greatest_unset-high.ensures ∙ arm.in-Frame.is) in
-    omega (arith, found.within, start.requires)
+    let found = greatest-found (bit c.args.marks.high) (c.args.frames - 64) c.in-Frame.f (sym c.greatest_unset-high.ensures ∙ c.in-Frame.is) in
+    omega (arith, found.within, c.requires)
 
 enum_told : tie.Need-enum_told-1
 enum_told c = search rules
@@ -42,24 +35,13 @@ enum_told c = search rules
 greatest-unset-requires-3 : tie.Need-greatest_unset-requires-in-None
 greatest-unset-requires-3 c κs = search rules
 
-abbrev else1-of-high : tie.In-Frame-2 → tie.Else-frames-le-WORD
-else1-of-high c = c.before.before.before
-
 returns-2 : tie.Need-returns-in-Frame
 returns-2 c =
-    let arm = c.before in
-    let test = else1-of-high arm in
-    free-found test.args.marks _ _ (le_of_lt test.if-frames-le-WORD.false) (sym arm.greatest_unset-high.ensures ∙ arm.in-Frame.is)
-
-abbrev else1-of-enum-told : tie.In-None → tie.Else-frames-le-WORD
-else1-of-enum-told c = c.before.before
+    free-found c.args.marks _ _ (le_of_lt c.if-frames-le-WORD.false) (sym c.greatest_unset-high.ensures ∙ c.in-Frame.is)
 
 returns-3 : tie.Need-returns-in-None
 returns-3 c =
-    let arm = c.before in
-    let test = else1-of-enum-told arm in
-    c.greatest_unset-in-None.ensures ∙ free-rest test.args.marks _ (le_of_lt test.if-frames-le-WORD.false)
-    (sym arm.greatest_unset-high.ensures ∙ arm.in-None.is)
+    c.greatest_unset-in-None.ensures ∙ free-rest c.args.marks _ (le_of_lt c.if-frames-le-WORD.false) (sym c.greatest_unset-high.ensures ∙ c.in-None.is)
 
 pub greatest_free_spec : {M : Type 1} → statement M
 greatest_free_spec =
