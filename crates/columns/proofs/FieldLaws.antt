@@ -108,12 +108,12 @@ pub columns-says : (k n : ℕ) (more : List ℕ) → n < 10 ^ k → n ≤ 65535 
 unfolding columns_read columns
 columns-says zero n more h small = ap Number (omega arith)
 columns-says (suc k) n more h small =
-    rw (
-      append_assoc (columns k (n / 10)) (column n ∷ []) more,
-      columns-says k (n / 10) (column n ∷ more) (omega arith) (omega arith),
-      get_or_at (columns k (n / 10)) (column n) more 0 k (length-columns k (n / 10)),
-    )
-    (column-says n small)
+    let joined : columns (suc k) n ++ more ≡ columns k (n / 10) ++ (column n ∷ more) = append_assoc (columns k (n / 10)) (column n ∷ []) more in
+    let before = ap (λ (part : List ℕ). columns_read part k) joined ∙ columns-says k (n / 10) (column n ∷ more) (omega arith) (omega arith) in
+    let here = ap (λ (part : List ℕ). get_or part k 0) joined ∙ get_or_at (columns k (n / 10)) (column n) more 0 k (length-columns k (n / 10)) in
+    ap (λ (read : Field). with_column read (get_or (columns (suc k) n ++ more) k 0)) before
+    ∙ ap (λ (byte : ℕ). with_column (Number (n / 10)) byte) here
+    ∙ column-says n small
 
 -- a field says a number only as it is printed
 pub field-said : (part : List ℕ) (n : ℕ) → length part ≡ 6 → field_of part ≡ Number n → part ≡ printed_field n
