@@ -45,7 +45,7 @@ returns c =
     let f = start.args.f.0 in
     let o = start.args.offset in
     let b = start.args.byte in
-    frame-back-as 256 xs m.store.new.0 (set (frame 256 xs f) o b) f
+    frame-back-as 256 xs m.store.new.part (set (frame 256 xs f) o b) f
     (m.store.ensures ∙ ap (λ (page : List ℕ). set page o b) (part-is-frame 256 xs f))
     (length-set (frame 256 xs f) o b ∙ length-frame 256 xs f start.requires)
 
