@@ -121,7 +121,7 @@ returns-5 c =
     let start = behind_row row in
     let fitting = c.put_fitting in
     filed (image_in start) (world_in start) start.args.sandbox (out_in start) (passes row.before) (in-row row) (is_open (behind_taken taken))
-    (has-snapshot taken) fitting.result fitting.new.0 _
+    (has-snapshot taken) fitting.result fitting.new.out _
     (rw (same row) (roll-here (image_in start) (world_in start) start.args.sandbox (passes row.before) (in-row row))) fitting.ensures
 
 put-fitting-requires : tie.Need-put_fitting-requires

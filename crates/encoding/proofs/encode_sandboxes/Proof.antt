@@ -76,7 +76,7 @@ loop-again c =
     let more = turn.loop-s-test.true in
     let f : ℕ → List ℕ = λ j. sandbox_bytes (get_or row j closed_sandbox) in
     let read : get_or row at.s zero_sandbox ≡ get_or row at.s closed_sandbox = get_d_any row at.s zero_sandbox closed_sandbox (omega (arith, more)) in
-    written_next f sandbox_size 4 first.args.out.now (λ j. length-sandbox (get_or row j closed_sandbox)) at.out got.encode_sandbox.new.1.0 at.s
+    written_next f sandbox_size 4 first.args.out.now (λ j. length-sandbox (get_or row j closed_sandbox)) at.out got.encode_sandbox.new.out at.s
     at.invariant more (got.encode_sandbox.ensures ∙ ap sandbox_bytes read)
 
 same_length : tie.Need-shape_of-out invariant-loop decreases-loop

@@ -22,7 +22,7 @@ same_length c = search rules
 returns : tie.Need-returns-then-n-lt-RADIX
 returns c =
     let blanked = c.blank in
-    digit-printed blanked.new.0 c.args.n blanked.ensures c.if-n-lt-RADIX.true
+    digit-printed blanked.new.out c.args.n blanked.ensures c.if-n-lt-RADIX.true
 
 print-digits-requires : tie.Need-print_digits-requires
 print-digits-requires c κs = search rules

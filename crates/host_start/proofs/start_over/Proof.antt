@@ -52,7 +52,7 @@ returns-2 c =
     let first = long branch in
     let made = starting.start-started in
     let both = start-long first.args.image.now (hands first) made.result.answer made.result.machine made.last.0 made.last.1.0
-    written.new.1.0 branch.if-state-ne-STATE.false made.ensures.0 made.ensures.1 written.ensures in
+    written.new.out branch.if-state-ne-STATE.false made.ensures.0 made.ensures.1 written.ensures in
     (c.number.ensures ∙ both.0, both.1)
 
 pub start_over_spec : {M : Type 1} → statement M

@@ -37,7 +37,7 @@ returns c =
     let shown = c.put in
     let a = c.args in
     let at = a.k * 8 in
-    part-is a.numbers.now shown.new.0 at ∙ ap (λ ys. take at a.numbers.now ++ (ys ++ drop (at + 8) a.numbers.now)) shown.ensures
+    part-is a.numbers.now shown.new.part at ∙ ap (λ ys. take at a.numbers.now ++ (ys ++ drop (at + 8) a.numbers.now)) shown.ensures
 
 pub put_line_spec : {M : Type 1} → statement M
 put_line_spec =

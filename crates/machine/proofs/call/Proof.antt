@@ -89,13 +89,13 @@ around row =
 abbrev left-of : tie.After-put_together-all → tie.After-answer-tried
 left-of c = c.before.before.before.before.before
 
-pool-stays : (c : tie.After-put_together-all) → let s = behind_row (tried (left-of c)) in (left-of c).answer-tried.new.1.0 ≡ s.args.pool.now
+pool-stays : (c : tie.After-put_together-all) → let s = behind_row (tried (left-of c)) in (left-of c).answer-tried.new.pool ≡ s.args.pool.now
 pool-stays c =
     let behind = left-of c in
     (behind.answer-tried.ensures (world_in (behind_row (tried behind))) (around (tried behind))).left c.if-tried.false
 
 stands : (c : tie.After-put_together-all) → let s = behind_row (tried (left-of c)) in let all = c.put_together-all.result in
-    Stands (image_in s) s.args.q (own s) all (kept all.held (left-of c).answer-tried.new.1.0 s.args.table.now) s.args.machine.sandboxes
+    Stands (image_in s) s.args.q (own s) all (kept all.held (left-of c).answer-tried.new.pool s.args.table.now) s.args.machine.sandboxes
 stands c =
     let row = tried (left-of c) in
     let s = behind_row row in

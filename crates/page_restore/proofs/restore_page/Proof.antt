@@ -152,7 +152,7 @@ returns-2 c =
     let a = (behind found).args in
     let from = copied.frame_of.ensures in
     let to = copied.frame_of-in-Copied.ensures in
-    let left : Left found copied.restore_from.new.0 copied.restore_from.result =
+    let left : Left found copied.restore_from.new.pool copied.restore_from.result =
     λ h. copied-left a.image.now a.at (a.at + 64) a.backing (st found h) _ _ (is found Copied told.in-Copied.is)
     (rw (from, to) at copied.restore_from.ensures) in
     (λ h. (left h).0, λ h. (left h).1)
@@ -166,7 +166,7 @@ returns-3 c =
     let told = cleared.before.before.before in
     let found = told.before in
     let a = (behind found).args in
-    let left : Left found cleared.restore_zeros.new.0 cleared.restore_zeros.result =
+    let left : Left found cleared.restore_zeros.new.pool cleared.restore_zeros.result =
     λ h. zeroed-left a.image.now a.at (a.at + 64) a.backing (st found h) _ _ (is found Zeroed told.in-Zeroed.is)
     (rw cleared.frame_of-in-Zeroed.ensures at cleared.restore_zeros.ensures) in
     (λ h. (left h).0, λ h. (left h).1)
@@ -181,7 +181,7 @@ returns-4 c =
     let found = told.before in
     let a = (behind found).args in
     let page = told.page.given in
-    let left : Left found filled.restore_image.new.0 filled.restore_image.result =
+    let left : Left found filled.restore_image.new.pool filled.restore_image.result =
     λ h. image-left a.image.now a.at (a.at + 64) a.backing (st found h) _ _ page.0.0
     (is found (ImagePage page.0.0) page.1) (rw filled.frame_of-in-ImagePage.ensures at filled.restore_image.ensures) in
     (λ h. (left h).0, λ h. (left h).1)

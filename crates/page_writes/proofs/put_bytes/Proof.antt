@@ -78,7 +78,7 @@ loop-again c =
     turn-next a.to a.out.now (lines start) 256 start.requires.1.1 l.next l.out l.j l.invariant (omega (arith, turn.loop-j-test.true)) _
     (byte-line a.image.now a.page.sandbox a.page.number.0 a.page.slot (frame 256 a.pool.now a.f.0) l.j
     read.result old.result backing.result _ backing.ensures read.ensures old.ensures line.ensures)
-    put.result put.new.0 put.ensures
+    put.result put.new.out put.ensures
 
 same_length : tie.Need-shape_of-out invariant-loop decreases-loop
 same_length c = search rules

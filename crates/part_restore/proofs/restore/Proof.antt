@@ -9,10 +9,6 @@ use Rattle.part_restore.proofs.CutLaws.{cut-lengths, first-differed, rest-tells}
 use Rattle.part_restore.proofs.restore.Statement.{statement}
 use Rattle.part_restore.proofs.restore.Tie as tie
 
--- the way back from where a fact is needed to where it was learned
-abbrev at-start : tie.After-restore_half-arg-2-1 → tie.Start
-at-start c = c.before.before.before.before
-
 slice-relend-prefix-restore-half : tie.Need-slice_bounds-restore_half-end
 slice-relend-prefix-restore-half c = search rules
 
@@ -22,12 +18,11 @@ slice-aggregate-restore-half c =
 
 slice-aggregate-restore-half-2 : tie.Need-slice_bounds-restore_half-end-3
 slice-aggregate-restore-half-2 c =
-    let a = (at-start c).args in sym (length-take-le (length a.src.now / 2) a.src.now (omega arith))
+    let a = c.args in sym (length-take-le (length a.src.now / 2) a.src.now (omega arith))
 
 restore-half-requires : tie.Need-restore_half-requires
 restore-half-requires c κs =
-    let start = at-start c in
-    cut-lengths start.args.part.now start.args.src.now (length start.args.src.now / 2) start.requires (omega arith)
+    cut-lengths c.args.part.now c.args.src.now (length c.args.src.now / 2) c.requires (omega arith)
 
 sub-fill : tie.Need-slice_bounds-fill-count
 sub-fill c = search rules
@@ -55,14 +50,10 @@ same_length c = search rules
 
 returns : tie.Need-returns-then-restore_half
 returns c =
-    let rest = c.before.before in
-    let branch = rest.before.before.before in
-    let first = branch.before.before.before in
-    let start = at-start first.before in
-    let src = start.args.src.now in
-    first-differed start.args.part.now src (length src / 2) start.requires (omega arith)
-    first.restore_half.new.0 first.restore_half.ensures.0 rest.fill.new.0 rest.fill.ensures
-    first.restore_half.result first.restore_half.ensures.1 branch.if-restore_half.true
+    let src = c.args.src.now in
+    first-differed c.args.part.now src (length src / 2) c.requires (omega arith)
+    c.restore_half.new.part c.restore_half.ensures.0 c.fill.new.part c.fill.ensures
+    c.restore_half.result c.restore_half.ensures.1 c.if-restore_half.true
 
 sub-restore-half : tie.Need-slice_bounds-restore_half-count
 sub-restore-half c = search rules
@@ -90,15 +81,11 @@ same-length-2 c = search rules
 
 returns-2 : tie.Need-returns
 returns-2 c =
-    let rest = c.before.before in
-    let branch = rest.before.before.before in
-    let first = branch.before.before.before in
-    let start = at-start first.before in
-    let src = start.args.src.now in
-    rest-tells start.args.part.now src (length src / 2) start.requires (omega arith)
-    first.restore_half.new.0 first.restore_half.ensures.0 rest.restore_half-2.new.0 rest.restore_half-2.ensures.0
-    first.restore_half.result rest.restore_half-2.result first.restore_half.ensures.1 branch.if-restore_half.false
-    rest.restore_half-2.ensures.1
+    let src = c.args.src.now in
+    rest-tells c.args.part.now src (length src / 2) c.requires (omega arith)
+    c.restore_half.new.part c.restore_half.ensures.0 c.restore_half-2.new.part c.restore_half-2.ensures.0
+    c.restore_half.result c.restore_half-2.result c.restore_half.ensures.1 c.if-restore_half.false
+    c.restore_half-2.ensures.1
 
 pub restore_spec : {M : Type 1} → statement M
 restore_spec =

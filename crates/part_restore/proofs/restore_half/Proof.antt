@@ -9,10 +9,6 @@ use Rattle.part_restore.proofs.CutLaws.{cut-lengths, first-differed, rest-tells}
 use Rattle.part_restore.proofs.restore_half.Statement.{statement}
 use Rattle.part_restore.proofs.restore_half.Tie as tie
 
--- the way back from where a fact is needed to where it was learned
-abbrev at-start : tie.After-restore_quarter-arg-2-1 → tie.Start
-at-start c = c.before.before.before.before
-
 slice-relend-prefix-restore-quarter : tie.Need-slice_bounds-restore_quarter-end
 slice-relend-prefix-restore-quarter c = search rules
 
@@ -22,12 +18,11 @@ slice-aggregate-restore-quarter c =
 
 slice-aggregate-restore-quarter-2 : tie.Need-slice_bounds-restore_quarter-end-3
 slice-aggregate-restore-quarter-2 c =
-    let a = (at-start c).args in sym (length-take-le (length a.src.now / 2) a.src.now (omega arith))
+    let a = c.args in sym (length-take-le (length a.src.now / 2) a.src.now (omega arith))
 
 restore-quarter-requires : tie.Need-restore_quarter-requires
 restore-quarter-requires c κs =
-    let start = at-start c in
-    cut-lengths start.args.part.now start.args.src.now (length start.args.src.now / 2) start.requires (omega arith)
+    cut-lengths c.args.part.now c.args.src.now (length c.args.src.now / 2) c.requires (omega arith)
 
 sub-fill : tie.Need-slice_bounds-fill-count
 sub-fill c = search rules
@@ -55,14 +50,10 @@ same_length c = search rules
 
 returns : tie.Need-returns-then-restore_quarter
 returns c =
-    let rest = c.before.before in
-    let branch = rest.before.before.before in
-    let first = branch.before.before.before in
-    let start = at-start first.before in
-    let src = start.args.src.now in
-    first-differed start.args.part.now src (length src / 2) start.requires (omega arith)
-    first.restore_quarter.new.0 first.restore_quarter.ensures.0 rest.fill.new.0 rest.fill.ensures
-    first.restore_quarter.result first.restore_quarter.ensures.1 branch.if-restore_quarter.true
+    let src = c.args.src.now in
+    first-differed c.args.part.now src (length src / 2) c.requires (omega arith)
+    c.restore_quarter.new.part c.restore_quarter.ensures.0 c.fill.new.part c.fill.ensures
+    c.restore_quarter.result c.restore_quarter.ensures.1 c.if-restore_quarter.true
 
 sub-restore-quarter : tie.Need-slice_bounds-restore_quarter-count
 sub-restore-quarter c = search rules
@@ -90,15 +81,11 @@ same-length-2 c = search rules
 
 returns-2 : tie.Need-returns
 returns-2 c =
-    let rest = c.before.before in
-    let branch = rest.before.before.before in
-    let first = branch.before.before.before in
-    let start = at-start first.before in
-    let src = start.args.src.now in
-    rest-tells start.args.part.now src (length src / 2) start.requires (omega arith)
-    first.restore_quarter.new.0 first.restore_quarter.ensures.0 rest.restore_quarter-2.new.0 rest.restore_quarter-2.ensures.0
-    first.restore_quarter.result rest.restore_quarter-2.result first.restore_quarter.ensures.1 branch.if-restore_quarter.false
-    rest.restore_quarter-2.ensures.1
+    let src = c.args.src.now in
+    rest-tells c.args.part.now src (length src / 2) c.requires (omega arith)
+    c.restore_quarter.new.part c.restore_quarter.ensures.0 c.restore_quarter-2.new.part c.restore_quarter-2.ensures.0
+    c.restore_quarter.result c.restore_quarter-2.result c.restore_quarter.ensures.1 c.if-restore_quarter.false
+    c.restore_quarter-2.ensures.1
 
 pub restore_half_spec : {M : Type 1} → statement M
 restore_half_spec =

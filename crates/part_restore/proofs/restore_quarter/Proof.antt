@@ -6,10 +6,6 @@ use Rattle.pages.proofs.SameLaws.{same_lists}
 use Rattle.part_restore.proofs.restore_quarter.Statement.{statement}
 use Rattle.part_restore.proofs.restore_quarter.Tie as tie
 
--- the way back from where a fact is needed to where it was learned
-abbrev at-start : tie.After-is_same → tie.Start
-at-start c = c.before.before.before.before
-
 is-same-requires : tie.Need-is_same-requires
 is-same-requires c κs = search rules
 
@@ -18,10 +14,8 @@ same_length c = search rules
 
 returns : tie.Need-returns-then-is_same
 returns c =
-    let test = c.before in
-    let start = at-start test in
-    let told = sym test.is_same.ensures ∙ c.if-is_same.true in
-    (same_lists start.args.part.now start.args.src.now start.requires told, sym (ap not told))
+    let told = sym c.is_same.ensures ∙ c.if-is_same.true in
+    (same_lists c.args.part.now c.args.src.now c.requires told, sym (ap not told))
 
 fill-requires : tie.Need-fill-requires
 fill-requires c κs = search rules
@@ -31,9 +25,7 @@ same-length-2 c = search rules
 
 returns-2 : tie.Need-returns
 returns-2 c =
-    let filled = c.before.before in
-    let left = filled.before.before in
-    (filled.fill.ensures, sym (ap not (sym left.is_same.ensures ∙ left.if-is_same.false)))
+    (c.fill.ensures, sym (ap not (sym c.is_same.ensures ∙ c.if-is_same.false)))
 
 pub restore_quarter_spec : {M : Type 1} → statement M
 restore_quarter_spec = tie.close (tie.spec is-same-requires same_length returns fill-requires same-length-2 returns-2)

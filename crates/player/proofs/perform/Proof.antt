@@ -40,7 +40,7 @@ image_in c = (start_of c).args.image.now
 
 -- the world that the start left
 abbrev world_begun : AtLoop → World
-world_begun c = world_of (begun_of c).start-begun.result.machine (begun_of c).start-begun.new.0 (begun_of c).start-begun.new.1.0
+world_begun c = world_of (begun_of c).start-begun.result.machine (begun_of c).start-begun.new.pool (begun_of c).start-begun.new.table
 
 -- is the started one
 from_start : (c : AtLoop) (pool table : List ℕ) (written : Bool) → Talked (image_in c) (world_begun c) pool table written

@@ -64,7 +64,7 @@ abbrev many : Read → ℕ
 many c = (counted c).ahead.result
 
 abbrev numbers_read : Read → List ℕ
-numbers_read c = c.read_lines.new.1.0
+numbers_read c = c.read_lines.new.numbers
 
 length-read : (c : Read) → length (numbers_read c) ≡ many c * 8
 length-read c = c.read_lines.auto.1.0 ∙ length-take-le _ _ (room (counted c))

@@ -38,7 +38,7 @@ returns : tie.Need-returns
 returns c =
     let m = c.before.before in
     let s = at-start m in
-    frame-back-as 256 s.args.pool.now m.clear.new.0 (zeros 256) s.args.f.0
+    frame-back-as 256 s.args.pool.now m.clear.new.part (zeros 256) s.args.f.0
     (m.clear.ensures ∙ ap zeros (length-lent 256 s.args.pool.now s.args.f.0 s.requires)) (length-zeros 256)
 
 pub clear_frame_spec : {M : Type 1} → statement M

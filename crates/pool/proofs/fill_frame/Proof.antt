@@ -36,7 +36,7 @@ returns : tie.Need-returns
 returns c =
     let m = c.before.before in
     let start = at-start m in
-    frame-back-as 256 start.args.pool.now m.fill.new.0 start.args.src.now start.args.f.0 m.fill.ensures start.requires.1
+    frame-back-as 256 start.args.pool.now m.fill.new.part start.args.src.now start.args.f.0 m.fill.ensures start.requires.1
 
 pub fill_frame_spec : {M : Type 1} → statement M
 fill_frame_spec =

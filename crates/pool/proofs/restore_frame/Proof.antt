@@ -43,7 +43,7 @@ returns c =
     let pool = start.args.pool.now in
     let src = start.args.src.now in
     let f = start.args.f.0 in (
-      frame-back-as 256 pool m.restore.new.0 src f m.restore.ensures.0 start.requires.1,
+      frame-back-as 256 pool m.restore.new.part src f m.restore.ensures.0 start.requires.1,
       m.restore.ensures.1
           ∙ ap₂ (λ (n : ℕ) (xs : List ℕ). differs n xs src) (length-lent 256 pool f start.requires.0) (part-is-frame 256 pool f),
     )

@@ -36,16 +36,16 @@ abbrev begun : tie.After-print_at → tie.Start
 begun c = c.before.before.before.before
 
 -- each field leaves the line as long as it was
-length-sandbox : (c : tie.After-print_at-2) → length c.print_at-2.new.0 ≡ 43
+length-sandbox : (c : tie.After-print_at-2) → length c.print_at-2.new.out ≡ 43
 length-sandbox c = let code = code_put c in c.print_at-2.auto.0 ∙ code.print_at.kept.0 ∙ (begun code).requires
 
-length-p3 : (c : tie.After-print_at-5) → length c.print_at-5.new.0 ≡ 43
+length-p3 : (c : tie.After-print_at-5) → length c.print_at-5.new.out ≡ 43
 length-p3 c =
     let p2 = p2-put c in
     let p1 = p1-put p2 in
     c.print_at-5.auto.0 ∙ p2.print_at-4.kept.0 ∙ p1.print_at-3.kept.0 ∙ length-sandbox (sandbox-put p1)
 
-length-p5 : (c : tie.After-print_at-7) → length c.print_at-7.new.0 ≡ 43
+length-p5 : (c : tie.After-print_at-7) → length c.print_at-7.new.out ≡ 43
 length-p5 c = let p4 = p4-put c in c.print_at-7.auto.0 ∙ p4.print_at-6.kept.0 ∙ length-p3 (p3-put p4)
 
 cast-print-at : tie.Need-overflow_cast-q

@@ -24,7 +24,7 @@ returns-2 c =
     let tested = c.before.before.before.before in
     let a = tested.args in
     let line = c.put_line in
-    only-there a.to a.out.now a.q a.there (not-false a.there tested.if-not-there.false-raw) line.result line.new.0 line.ensures
+    only-there a.to a.out.now a.q a.there (not-false a.there tested.if-not-there.false-raw) line.result line.new.out line.ensures
 
 pub put_if_spec : {M : Type 1} → statement M
 put_if_spec = tie.close (tie.spec returns put-line-requires same_length returns-2)

@@ -48,7 +48,7 @@ returns-2 c =
     let tested = c.before.before.before.before.before.before in
     let a = tested.args in
     let printed = c.print_request in
-    rw c.next-2.ensures (put-printed a.to a.out.now printed.new.0 a.q (not-false a.to.writes tested.if-not-to.false) printed.ensures)
+    rw c.next-2.ensures (put-printed a.to a.out.now printed.new.out a.q (not-false a.to.writes tested.if-not-to.false) printed.ensures)
 
 pub put_line_spec : {M : Type 1} → statement M
 put_line_spec =

@@ -40,7 +40,7 @@ returns c =
     let shown = c.print in
     let a = c.args in
     let at = a.place * 19 in
-    part-is a.out.now shown.new.0 at ∙ ap (λ ys. take at a.out.now ++ (ys ++ drop (at + 19) a.out.now)) shown.ensures
+    part-is a.out.now shown.new.out at ∙ ap (λ ys. take at a.out.now ++ (ys ++ drop (at + 19) a.out.now)) shown.ensures
 
 pub print_answer_spec : {M : Type 1} → statement M
 print_answer_spec =

@@ -89,7 +89,7 @@ loop-again c =
     let image = a.image.now in
     let backing : Backing = advance a.backing l.i in
     let r : Held → Store = λ h. kept h l.pool a.table.now in
-    let q : Held → Store = λ h. kept h page.restore_page-differed.new.0 a.table.now in
+    let q : Held → Store = λ h. kept h page.restore_page-differed.new.pool a.table.now in
     let e : (h : Held) → q h ≡ rewind_page image (a.at + l.i) (a.at + l.i + 64) true backing (r h) =
     λ h. rw page.advanced.ensures at (page.restore_page-differed.ensures.0 h) in
     let d : (h : Held) → page.restore_page-differed.result ≡ page_differs 256 (a.at + l.i) (a.at + l.i + 64) (backing_page image backing) (r h) =

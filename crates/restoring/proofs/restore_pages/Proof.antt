@@ -131,7 +131,7 @@ loop-again c =
     let on : Backing = advance a.backing l.i in
     let st : Held → Store = λ h. kept h a.pool.now a.table.now in
     let r : Held → Store = λ h. kept h l.pool a.table.now in
-    let q : Held → Store = λ h. kept h each.restore_each-changed.new.0 a.table.now in
+    let q : Held → Store = λ h. kept h each.restore_each-changed.new.pool a.table.now in
     let d : ℕ = each.restore_each-changed.result in
     let here : (h : Held) → RestoredTo a.image.now on (a.at + l.i) (r h) (q h) d n =
     λ h. rw each.advanced.ensures at (each.restore_each-changed.ensures h) in

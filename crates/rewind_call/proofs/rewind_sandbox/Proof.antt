@@ -164,7 +164,7 @@ returns-2 c row all a =
     let e = s.requires.0 in
     let w : World = world_from row (store_in s) in
     let n = accepted-here told.before told.in-Accepted.is all row a in
-    let after : Store = kept restored.rewind-restored.result.held restored.rewind-restored.new.1.0 restored.rewind-restored.new.1.1.0 in
+    let after : Store = kept restored.rewind-restored.result.held restored.rewind-restored.new.pool restored.rewind-restored.new.table in
     acted-accepted image q s.args.b all (store_in s) row a restored.rewind-restored.result.changed _ after found.gathered-left.result n
     (rewind-value image q s.args.b (store_in s) _ e restored.rewind-restored.ensures.1)
     (c.with_present-after.ensures ∙ record-rewound q s.args.b.rec e (opened-here s all row a n))

@@ -68,7 +68,7 @@ returns-2 c =
     let counted = (counted_yes branch).put_roll-lines in
     let written = writing.put_roll in
     fits_in start.args.out.now counted.last.0 counted.result (roll start) counted.ensures
-    (omega (arith, branch.if-out-lines.false)) written.result written.new.0 written.ensures
+    (omega (arith, branch.if-out-lines.false)) written.result written.new.out written.ensures
 
 pub put_fitting_spec : {M : Type 1} → statement M
 put_fitting_spec =

@@ -179,7 +179,7 @@ returns c =
     let last = (protect_lines before).put_protects-protected in
     let closed = c.put_line in
     next-put (to s) last.result (out s) last.last.1.0 (until_protects s) (closing s.args.snapshot.sandbox) (all s) (locked before)
-    closed.result closed.new.0
+    closed.result closed.new.out
     (closed.ensures ∙ ap (λ (q : Request). put last.result last.last.1.0 (q ∷ [])) (lines_made before).line-closing.ensures)
     ∙ whole s.args.image.now s.args.pool.now s.args.table.now s.args.snapshot (to s) (out s)
 

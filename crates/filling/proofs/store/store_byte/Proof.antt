@@ -49,7 +49,7 @@ returns-2 c = λ h.
     let front = framed frame in
     let a = (behind front).args in
     store-some 256 (front_of a.sandbox a.page.0) a.offset a.byte (kept h a.pool.now a.table.now) front.front-front.result
-    frame.frame_of.result.0 byte.store_byte.new.0 front.front-front.ensures frame.if-front-eq0.false frame.frame_of.ensures
+    frame.frame_of.result.0 byte.store_byte.new.pool front.front-front.ensures frame.if-front-eq0.false frame.frame_of.ensures
     byte.store_byte.ensures
 
 pub store_byte_spec : {M : Type 1} → statement M

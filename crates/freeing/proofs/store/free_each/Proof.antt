@@ -50,7 +50,7 @@ loop-again c =
     let at = (behind turn).args.at in
     let f = freed.free_entry-h in
     let r = kept l.h l.pool l.table in
-    let q = kept f.result f.new.1.0 f.new.1.1.0 in
+    let q = kept f.result f.new.pool f.new.table in
     let k = free-kept-as 256 (at + l.i) r q f.ensures l.invariant.3 in
     (search rules, k.pool ∙ l.invariant.1, k.table ∙ l.invariant.2, k.ranged, free_more 256 at l.i _ r q l.invariant.4 f.ensures)
 

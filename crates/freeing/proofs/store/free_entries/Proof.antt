@@ -59,7 +59,7 @@ loop-again c =
     let next : i + 8 ≡ of_groups (l.k + 1) = omega arith in
     let f = freed.free_group-h in
     let r : Store = kept l.h l.pool l.table in
-    let q : Store = kept f.result f.new.1.0 f.new.1.1.0 in
+    let q : Store = kept f.result f.new.pool f.new.table in
     let k = free_to-kept-as 256 (at + i) r q 8 f.ensures l.invariant.3 in (
       omega (arith, turn.loop-k-test.true),
       k.pool ∙ l.invariant.1,

@@ -64,7 +64,7 @@ loop-again c =
     let at = turn.loop-k in
     let a = (start_of turn.before).args in
     let f : ℕ → List ℕ = λ j. area_bytes (get_or a.areas.list j none) in
-    written_next f area_size 8 a.out.now (λ j. length-area (get_or a.areas.list j none)) at.out got.encode_area.new.1.0 at.k at.invariant
+    written_next f area_size 8 a.out.now (λ j. length-area (get_or a.areas.list j none)) at.out got.encode_area.new.out at.k at.invariant
     turn.loop-k-test.true got.encode_area.ensures
 
 same_length : tie.Need-shape_of-out invariant-loop decreases-loop

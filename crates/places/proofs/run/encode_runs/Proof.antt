@@ -63,7 +63,7 @@ loop-again c =
     let at = turn.loop-k in
     let a = (start_of turn.before).args in
     let f : ℕ → List ℕ = λ j. marks_bytes (row a.runs j) in
-    written_next f marks_size 8 a.out.now (λ j. length-marks (row a.runs j)) at.out got.encode_marks.new.1.0 at.k at.invariant
+    written_next f marks_size 8 a.out.now (λ j. length-marks (row a.runs j)) at.out got.encode_marks.new.out at.k at.invariant
     turn.loop-k-test.true got.encode_marks.ensures
 
 same_length : tie.Need-shape_of-out invariant-loop decreases-loop

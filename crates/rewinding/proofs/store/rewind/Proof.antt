@@ -104,7 +104,7 @@ loop-again c =
     let more = turn.loop-k-test.true in
     let f = one.with_area-done in
     let st : Store = kept a.held a.pool.now a.table.now in
-    let q : Store = kept f.result.held f.new.1.0 f.new.1.1.0 in
+    let q : Store = kept f.result.held f.new.pool f.new.table in
     let page : ℕ = l.done.page.0 in
     let next =
     area-more a.image.now few a.b.present (formed s) a.s st l.k page l.invariant.7 more (found turn.before) q f.result.page.0

@@ -73,7 +73,7 @@ loop-again c =
     let l = (turn_of here).loop-k in
     let line = c.put_if-next in
     turn-next start.args.to start.args.out.now (lines start) 8 start.requires l.next l.out l.k l.invariant (turn_of here).loop-k-test.true _
-    (put-here here) line.result line.new.0 line.ensures
+    (put-here here) line.result line.new.out line.ensures
 
 same_length : tie.Need-shape_of-out invariant-loop decreases-loop
 same_length c = search rules

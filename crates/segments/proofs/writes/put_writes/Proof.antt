@@ -65,7 +65,7 @@ loop-again c =
     let a = start.args in
     turn-next a.to a.out.now (lines start) 64 start.requires.1 l.next l.out l.i l.invariant turn.loop-i-test.true _
     (ap (page_lines a.image.now a.pool.now a.table.now a.snapshot.sandbox l.i) c.slot-slot.ensures)
-    page.result page.new.1.1.1.1.0 page.ensures
+    page.result page.new.out page.ensures
 
 same_length : tie.Need-shape_of-out invariant-loop decreases-loop
 same_length c = search rules

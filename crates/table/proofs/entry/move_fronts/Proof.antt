@@ -35,7 +35,7 @@ loop-again : tie.Need-loop-i-preserved invariant-loop decreases-loop
 loop-again c =
     let l = c.loop-i in
     let m = c.move_front in
-    (search rules, search rules, λ h pool. move-more _ l.i _ (kept h pool l.table) (kept h pool m.new.0) (l.invariant.2 h pool) (m.ensures h pool))
+    (search rules, search rules, λ h pool. move-more _ l.i _ (kept h pool l.table) (kept h pool m.new.table) (l.invariant.2 h pool) (m.ensures h pool))
 
 same_length : tie.Need-shape_of-table invariant-loop decreases-loop
 same_length c = search rules
