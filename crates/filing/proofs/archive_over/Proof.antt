@@ -62,7 +62,7 @@ returns-2 c =
     let branch = decoded.before in
     let first = behind_yes branch in
     a-state first.args.image.now (hands first) first.args.sandbox first.args.out.now (passes branch) decoding.result filing.result
-    c.by-2.result filing.new.1.1.1.1.1.0 decoding.ensures filing.ensures c.by-2.ensures
+    c.by-2.result filing.new.out decoding.ensures filing.ensures c.by-2.ensures
 
 pub archive_over_spec : {M : Type 1} → statement M
 archive_over_spec =
