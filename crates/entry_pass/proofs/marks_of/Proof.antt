@@ -6,7 +6,6 @@ use lib.Dec.{eqb}
 use native.Mathlib.Omega.{arith}
 use mathlib.Core.Logic.{⊎_elim}
 use borrow.Author.Rules.{rules}
-use borrow.Author.Tests.{not-false}
 use Rattle.entry_pass.specs.declared.Pass.{Pass}
 use Rattle.marks.specs.Marks.{marks_to, from}
 use Rattle.entry_pass.specs.Pass.{pass_to}
@@ -51,25 +50,17 @@ add-i c = search rules
 loop-less : tie.Need-loop-i-smaller invariant-loop decreases-loop invariant-loop2 decreases-loop2
 loop-less c = search rules
 
--- the way back from where a fact is needed to where it was learned
-abbrev at-loop : tie.Joined-not-names_none invariant-loop decreases-loop invariant-loop2 decreases-loop2 → tie.At-loop-i invariant-loop decreases-loop invariant-loop2 decreases-loop2
-at-loop c = c.before.before.before
-
-abbrev start-of-loop : tie.At-loop-i invariant-loop decreases-loop invariant-loop2 decreases-loop2 → tie.Start invariant-loop decreases-loop invariant-loop2 decreases-loop2
-start-of-loop c = c.before.before.before
-
 -- the pass behind the eight entries, whether one of them names a frame or none
 behind : (c : tie.Joined-not-names_none invariant-loop decreases-loop invariant-loop2 decreases-loop2) →
-    let a = (start-of-loop (at-loop c)).args in
-    c.if-not-names_none.found ≡ pass_to a.frames (from a.first a.table.now) ((at-loop c).loop-i.i + 8)
+    c.if-not-names_none.found ≡ pass_to c.args.frames (from c.args.first c.args.table.now) (c.loop-i.i + 8)
 behind c =
-    let a = (start-of-loop (at-loop c)).args in
-    let l = (at-loop c).loop-i in
+    let a = c.args in
+    let l = c.loop-i in
     ⊎_elim
-    (λ w. w.2 ∙ w.1.ensures)
-    (λ w. w.1 ∙ l.invariant.1 ∙ sym (pass-none a.frames (from a.first a.table.now) l.i 8
-    (λ j d. eight-none a.table.now a.first l.i (sym c.names_none.ensures ∙ not-false _ w.0.left) j d)))
-    c.if-not-names_none.branch
+    (λ w. w.found-is ∙ w.add_eight-found.ensures)
+    (λ w. w.found-is ∙ l.invariant.1 ∙ sym (pass-none a.frames (from a.first a.table.now) l.i 8
+    (λ j d. eight-none a.table.now a.first l.i (sym c.names_none.ensures ∙ w.if-not-names_none.false) j d)))
+    c.if-not-names_none.branch-raw
 
 loop-again : tie.Need-loop-i-preserved invariant-loop decreases-loop invariant-loop2 decreases-loop2
 loop-again c = (omega arith, behind c)
@@ -88,13 +79,11 @@ shared-slice-read-add c = search rules
 
 add-requires : tie.Need-add-found-requires invariant-loop decreases-loop invariant-loop2 decreases-loop2
 add-requires c κs =
-    let m = c.before.before in
-    let s = start-of-loop m.before.before in
-    let a = s.args in
-    let l = m.loop-i-2 in
+    let a = c.args in
+    let l = c.loop-i-2 in
     let most = pass-small a.frames (from a.first a.table.now) l.i in
     let same = ap (λ (x : Pass). x.named) l.invariant.1 in
-    (s.requires.1, omega (arith, most, same, c.loop-i-2-test.true, s.requires.0))
+    (c.requires.1, omega (arith, most, same, c.loop-i-2-test.true, c.requires.0))
 
 add-i-2 : tie.Need-overflow_add-i-in-loop-i-2 invariant-loop decreases-loop invariant-loop2 decreases-loop2
 add-i-2 c = search rules
@@ -102,13 +91,10 @@ add-i-2 c = search rules
 loop2-less : tie.Need-loop-i-2-smaller invariant-loop decreases-loop invariant-loop2 decreases-loop2
 loop2-less c = search rules
 
-abbrev at-loop2 : tie.After-add-found invariant-loop decreases-loop invariant-loop2 decreases-loop2 → tie.At-loop-i-2 invariant-loop decreases-loop invariant-loop2 decreases-loop2
-at-loop2 c = c.before.before.before
-
 loop2-again : tie.Need-loop-i-2-preserved invariant-loop decreases-loop invariant-loop2 decreases-loop2
 loop2-again c =
     let l = c.loop-i-2 in
-    let a = (start-of-loop (at-loop2 c).before.before).args in
+    let a = c.args in
     (search rules, c.add-found.ensures ∙ pass-more a.frames (from a.first a.table.now) l.i l.found l.invariant.1)
 
 count-requires : tie.Need-count-requires invariant-loop decreases-loop invariant-loop2 decreases-loop2
@@ -117,20 +103,15 @@ count-requires c κs = search rules
 cast-t18 : tie.Need-overflow_cast-result invariant-loop decreases-loop invariant-loop2 decreases-loop2
 cast-t18 c = search rules
 
-abbrev at-end : tie.After-struct_known-2-1 invariant-loop decreases-loop invariant-loop2 decreases-loop2 → tie.After-loop-i-2 invariant-loop decreases-loop invariant-loop2 decreases-loop2
-at-end c = c.before.before.before.before
-
 returns : tie.Need-returns invariant-loop decreases-loop invariant-loop2 decreases-loop2
 returns c =
-    let m = c.before.before.before.before.before in
-    let s = start-of-loop m.before.before in
-    let a = s.args in
-    let l = m.loop-i-2 in
+    let a = c.args in
+    let l = c.loop-i-2 in
     let p : ℕ → ℕ = from a.first a.table.now in
-    let end : l.i ≡ a.entries = omega (arith, l.invariant.0, (at-end c).loop-i-2-test.false) in
+    let end : l.i ≡ a.entries = omega (arith, l.invariant.0, c.loop-i-2-test.false) in
     let counted = c.count.ensures in
     (λ j. record { good = l.found.inside && eqb (counted j) l.found.named; held = l.found.held })
-    ∙ ap foundBy l.invariant.1 ∙ pass-marks a.frames s.requires.1 p l.i ∙ ap (marks_to a.frames p) end
+    ∙ ap foundBy l.invariant.1 ∙ pass-marks a.frames c.requires.1 p l.i ∙ ap (marks_to a.frames p) end
 
 pub marks_of_spec : {M : Type 1} → statement M
 marks_of_spec =
