@@ -25,18 +25,18 @@ commit-slots f b = fun_ext (λ i. go i (dec_lt i 64))
 
 -- what each call that changes mappings leaves of the slots is such a change
 module _ (q : Request) (f : Slots) (copy : Option Slots) where
-  pub map-slots : q.code ≡ Call.Map → slots_after q f copy ≡ changed f (first_of f q) q.p2 (Map (new_page q))
+  pub map-slots : q.code ≡ Call.map_code → slots_after q f copy ≡ changed f (first_of f q) q.p2 (Map (new_page q))
   unfolding slots_after
   map-slots e = rw e
 
-  pub unmap-slots : q.code ≡ Call.Unmap → slots_after q f copy ≡ changed f q.p1 q.p2 Unmap
+  pub unmap-slots : q.code ≡ Call.unmap_code → slots_after q f copy ≡ changed f q.p1 q.p2 Unmap
   unfolding slots_after
   unmap-slots e = rw e
 
-  pub protect-slots : q.code ≡ Call.Protect → slots_after q f copy ≡ changed f q.p1 q.p2 (Protect q.p3)
+  pub protect-slots : q.code ≡ Call.protect_code → slots_after q f copy ≡ changed f q.p1 q.p2 (Protect q.p3)
   unfolding slots_after
   protect-slots e = rw e
 
-  pub snapshot-slots : q.code ≡ Call.Snapshot → Bounded f → slots_after q f copy ≡ changed f 0 64 Commit
+  pub snapshot-slots : q.code ≡ Call.snapshot_code → Bounded f → slots_after q f copy ≡ changed f 0 64 Commit
   unfolding slots_after
   snapshot-slots e b = rw e (sym (commit-slots f b))

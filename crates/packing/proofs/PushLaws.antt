@@ -26,9 +26,9 @@ pub record GoesOn (a : Area) (page : ℕ) (t : Attributes) : Type 0 where
   pub mark : a.committed ≡ t.committed
   pub backing : advance a.backing a.pages ≡ t.backing
 
-pub goes_on : (a : Area) (page : ℕ) (t : Attributes) → goes_on a page t ≡ true → GoesOn a page t
+pub goes_on_lem : (a : Area) (page : ℕ) (t : Attributes) → goes_on a page t ≡ true → GoesOn a page t
 unfolding goes_on
-goes_on a page t h =
+goes_on_lem a page t h =
     let agree : Bool = eqb a.rights t.rights && (same a.committed t.committed && follows a.backing a.pages t.backing) in
     let h₁ = and_right (eqb (a.first.0 + a.pages) page) agree h in
     let h₂ = and_right (eqb a.rights t.rights) (same a.committed t.committed && follows a.backing a.pages t.backing) h₁ in
@@ -67,7 +67,7 @@ continues-some s page t h = ltb-true 0 s.count (and_left (ltb 0 s.count) (goes_o
 
 pub continues-last : (s : Areas) (page : ℕ) (t : Attributes) → continues s page t ≡ true → GoesOn (last s) page t
 unfolding continues
-continues-last s page t h = goes_on (last s) page t (and_right (ltb 0 s.count) (goes_on (last s) page t) h)
+continues-last s page t h = goes_on_lem (last s) page t (and_right (ltb 0 s.count) (goes_on (last s) page t) h)
 
 -- what holds after a page that is not mapped, that makes the last area longer, that starts one, or that finds no place
 pub push-cases : (P : Packed → Type 0) (b : Packed) (page : ℕ) (s : Slot) → (s ≡ Unmapped → P b)
