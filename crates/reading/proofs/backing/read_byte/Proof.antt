@@ -7,13 +7,6 @@ use Rattle.table.specs.Backing.{backing_end}
 use Rattle.reading.proofs.backing.read_byte.Statement.{statement}
 use Rattle.reading.proofs.backing.read_byte.Tie as tie
 
--- behind the page of the image
-abbrev paged : tie.After-read → tie.In-Image-2
-paged c = c.before.before.before
-
-abbrev behind : tie.In-Image-2 → tie.Start
-behind c = c.before.before.before
-
 enum_told : tie.Need-enum_told-1
 enum_told c = search rules
 
@@ -46,8 +39,7 @@ returns c = rw (c.in-Anonymous.is, get_or-zeros)
 
 returns-2 : tie.Need-returns-in-Image
 returns-2 c =
-    let known = (paged c).backing-1.given in
-    rw (known.1, ← part-is-frame 256 (behind (paged c)).args.image.now known.0.0.0) c.read.ensures
+    rw (c.in-Image.is, ← part-is-frame 256 c.args.image.now c.in-Image.page.0) c.read.ensures
 
 pub read_byte_spec : {M : Type 1} → statement M
 read_byte_spec =
