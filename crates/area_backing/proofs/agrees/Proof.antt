@@ -41,15 +41,8 @@ returns c = λ page x y.
 returns-2 : tie.Need-returns-in-Anonymous-other
 returns-2 c = λ page x y. agree-not _ _ _ _ _ c.in-Image.is c.in-Anonymous-other.is
 
--- the way back from where a fact is needed to where it was learned
-abbrev at_other : tie.After-struct_known-in-Image-other-1 → tie.In-Image-other-2
-at_other c = c.before.before
-
-abbrev at-mine : tie.After-struct_known-in-Image-other-1 → tie.In-Image-2
-at-mine c = c.before.before.before
-
 returns-3 : tie.Need-returns-in-Image-other
-returns-3 c = λ page x y. agree-both _ _ _ _ _ _ page (at-mine c).mine-1.given.1 (at_other c).other-1.given.1 x y
+returns-3 c = λ page x y. agree-both _ _ _ _ _ _ page c.in-Image.is c.in-Image-other.is x y
 
 pub agrees_spec : {M : Type 1} → statement M
 agrees_spec =
