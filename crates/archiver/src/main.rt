@@ -4,8 +4,8 @@
 // that roll left (`Performed`); so what it hands on to be written is the plain machine's archive roll, or nothing where that is refused (specs/Prints of
 // `archive_program`).
 // It stands on `starting` for the start, on `playing` for the roll played (src/roll_input), on `input` for when another line is read, on `archiving` for the
-// archive roll, on `archive_program` for what is promised, on `image_file` for the image, and on the kit's `io`, `os` and `libc`; which bytes these read and
-// write nothing proves.
+// archive roll, on `archive_program` for what is promised, on `image_file` for the image, and on `streams` for what is read and
+// written; which bytes these are nothing proves.
 #![tactic(auto)]
 
 ghost use Rattle.std.specs.Prelude.{◌≡◌, ◌*◌, ◌≤◌, length};
@@ -23,26 +23,40 @@ use marks::Marks;
 use playing::Player;
 use roll_input::play_input;
 use starting::{accepted, start};
+use std::env::args;
+use streams::write_output;
 
 mod roll_input;
 
-fn main() {
+fn main(rt: HostRuntime) {
     let mut image = [0u8; Found::BYTES];
-    let bytes = image_bytes(load(&mut image));
+    let bytes = image_bytes(load(&rt, &mut image));
     let mut pool = [0u8; Player::POOL];
     let mut table = [0u16; Marks::ENTRIES];
     let mut out = output();
-    let sandbox = sandbox();
-    let answer = perform(&mut pool, &mut table, &image[..bytes], sandbox, &mut out);
+    let sandbox = sandbox(&rt);
+    let answer = perform(
+        &rt,
+        &mut pool,
+        &mut table,
+        &image[..bytes],
+        sandbox,
+        &mut out,
+    );
     let size = size(answer);
-    if !io::write_all(libc::STDOUT_FILENO, &out[..size]) {
-        complain();
-    }
-    say(codes::number(answer));
+    write_output(&rt, &out[..size]);
+    say(&rt, codes::number(answer));
 }
 
 // Plays the roll from a start, and writes the archive roll of a sandbox of what it leaves into `out`.
-fn perform(pool: &mut [u8], table: &mut [u16], image: &[u8], sandbox: u16, out: &mut [u8]) -> Answer
+fn perform(
+    rt: &HostRuntime,
+    pool: &mut [u8],
+    table: &mut [u16],
+    image: &[u8],
+    sandbox: u16,
+    out: &mut [u8],
+) -> Answer
     ensures fact { let started = started_by pool.old table.old image.now in
         Performed image.now started sandbox out.old result out.new }
     ensures result_in_bounds { value_of result * line_bytes ≤ length out.new }
@@ -51,7 +65,7 @@ fn perform(pool: &mut [u8], table: &mut [u16], image: &[u8], sandbox: u16, out: 
     let answer = begun.answer;
     let sound = accepted(answer);
     let fresh = begun.machine;
-    let machine = play_input(fresh, sound, pool, table, image);
+    let machine = play_input(rt, fresh, sound, pool, table, image);
     write_archive(machine, pool, table, image, sandbox, out)
 }
 
@@ -72,27 +86,31 @@ fn size(answer: Answer) -> usize
     codes::value(answer) as usize * Line::BYTES
 }
 
-// The sandbox that the program's argument names.
-fn sandbox() -> u16 {
-    let mut text = [0u8; 1];
-    let bytes = os::arg(1, &mut text);
-    name(bytes, text[0])
+// The sandbox that the program's argument names; none where there is no such argument, or where it cannot be read.
+fn sandbox(rt: &HostRuntime) -> u16 {
+    match args(rt) {
+        Ok(mut all) => {
+            let _program = all.next();
+            match all.next() {
+                Some(text) => name_of(text.as_bytes()),
+                None => name_of(&[]),
+            }
+        }
+        Err(_) => name_of(&[]),
+    }
+}
+
+// The sandbox that a text names.
+fn name_of(text: &[u8]) -> u16 {
+    if text.len() == 0 {
+        return name(0, 0);
+    }
+    name(text.len(), text[0])
 }
 
 // Says a refusal's number on standard error.
-fn say(number: u8) {
-    if number == 0 {
-        return;
+fn say(rt: &HostRuntime, number: u8) {
+    if number != 0 {
+        let _ = eprintln!(rt; "refusal {number}");
     }
-    io::write_all(
-        libc::STDERR_FILENO,
-        &[b'r', b'e', b'f', b'u', b's', b'a', b'l', b' '],
-    );
-    io::print_decimal(libc::STDERR_FILENO, number as u64);
-    io::write_all(libc::STDERR_FILENO, &[b'\n']);
-}
-
-// Says on standard error that the roll could not be written, and why.
-fn complain() {
-    os::fail(&[b's', b't', b'd', b'o', b'u', b't']);
 }

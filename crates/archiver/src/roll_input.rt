@@ -8,10 +8,12 @@ use input::is_whole;
 use lines::Line;
 use playing::{Player, play};
 use state::sandbox::Machine;
+use streams::read_full;
 
 // Plays the roll on standard input, line by line; its replies are not printed. "Lines after the 65,535th are not read."
 // Whether the state is sound is known, and stays so.
 pub fn play_input(
+    rt: &HostRuntime,
     machine: Machine,
     sound: bool,
     pool: &mut [u8],
@@ -27,7 +29,8 @@ pub fn play_input(
     while number <= Player::LAST {
         let mut line = [0u8; Line::BYTES];
         let mut reply = [0u8; Line::REPLY];
-        let got = io::read_full(libc::STDIN_FILENO, &mut line);
+        let mut input = rt.stdin();
+        let got = read_full(&mut input, &mut line);
         let player = Player {
             machine: state,
             sound: sound,

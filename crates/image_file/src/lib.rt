@@ -1,10 +1,14 @@
 // The image read from the file `image.bin`, for the programs.
 // It promises how many bytes the image has, for each thing that can become of the file (`image_bytes`), and that one that cannot be read whole has a wrong
-// length (specs/Image). It stands on `state` for which lengths are right, and on the kit's `io`, `os` and `libc`; which bytes these read nothing proves.
+// length (specs/Image). It stands on `state` for which lengths are right, and on `streams` for the bytes; which bytes these are nothing proves.
 #![tactic(auto)]
 
 ghost use Rattle.std.specs.Prelude.{◌≡◌, ◌≤◌, length};
 ghost use Rattle.image_file.specs.Image.{image_bytes};
+
+use std::fs::{File, open};
+use std::io::{ErrorKind, Read};
+use streams::read_full;
 
 // What became of `image.bin`.
 #[derive(Clone, Copy)]
@@ -32,23 +36,36 @@ pub fn image_bytes(found: Found) -> usize
 
 // Reads the image, of which a byte more than 64 pages is enough to tell that it has too many. A short read is the file's end, or a read that failed: one more
 // read tells which, and where a file's end cannot be read at all, as a folder's, the image is not whole.
-pub fn load(image: &mut [u8]) -> Found
+pub fn load(rt: &HostRuntime, image: &mut [u8]) -> Found
     requires { length image.old ≡ 16385 }
     ensures { image_bytes result ≤ length image.new }
 {
-    let fd = os::open_read(&[b'i', b'm', b'a', b'g', b'e', b'.', b'b', b'i', b'n']);
-    if fd < 0 {
-        if os::errno() == libc::ENOENT {
-            return Found::Missing;
-        }
-        return Found::Unreadable;
-    }
-    let bytes = io::read_full(fd, image);
-    let mut more = [0u8; 1];
-    let after = libc::read(fd, &mut more);
-    libc::close(fd);
-    if after != 0 {
+    let mut file = match open(rt, "image.bin") {
+        Ok(file) => file,
+        Err(error) => return unopened(error.kind()),
+    };
+    let bytes = read_full(&mut file, image);
+    if !is_at_end(&mut file) {
         return Found::Unreadable;
     }
     Found::Whole(bytes)
+}
+
+// What became of a file that cannot be opened: "missing" is the one that is not there.
+fn unopened(kind: ErrorKind) -> Found
+    ensures { image_bytes result ≤ 16385 }
+{
+    match kind {
+        ErrorKind::NotFound => Found::Missing,
+        _ => Found::Unreadable,
+    }
+}
+
+// Whether one more read finds the file's end.
+fn is_at_end(file: &mut File) -> bool {
+    let mut more = [0u8; 1];
+    match file.read(&mut more) {
+        Ok(got) => got == 0,
+        Err(_) => false,
+    }
 }

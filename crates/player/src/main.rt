@@ -2,8 +2,8 @@
 // It answers each line as soon as the line has come, so that a program can talk with it. It promises that what it reads, one line after the other, is one roll
 // played from a start, and that what it hands on to be written is that roll's replies (`Talked`); so they are the plain machine's, or the refusals of a wrong
 // length (specs/Replies of `conversation`).
-// It stands on `playing`, on `conversation` for what is promised, on `image_file` for the image, and on the kit's `io`, `os` and `libc`; which bytes these
-// read and write nothing proves.
+// It stands on `playing`, on `conversation` for what is promised, on `image_file` for the image, and on `streams` for what is
+// read and written; which bytes these are nothing proves. Where a reply cannot be written, standard error says why.
 #![tactic(auto)]
 
 ghost use Rattle.std.specs.Prelude.{◌≡◌, ◌≤◌, length};
@@ -18,19 +18,18 @@ use image_file::{Found, image_bytes, load};
 use lines::{Line, lines_of};
 use marks::Marks;
 use playing::{Player, play};
+use streams::{read_full, write_output};
 
-fn main() {
+fn main(rt: HostRuntime) {
     let mut image = [0u8; Found::BYTES];
-    let bytes = image_bytes(load(&mut image));
+    let bytes = image_bytes(load(&rt, &mut image));
     let mut pool = [0u8; Player::POOL];
     let mut table = [0u16; Marks::ENTRIES];
-    if !perform(&mut pool, &mut table, &image[..bytes]) {
-        complain();
-    }
+    perform(&rt, &mut pool, &mut table, &image[..bytes]);
 }
 
 // Plays the roll from a start, line by line, and says whether every reply was written. "Lines after the 65,535th are not read."
-fn perform(pool: &mut [u8], table: &mut [u16], image: &[u8]) -> bool
+fn perform(rt: &HostRuntime, pool: &mut [u8], table: &mut [u16], image: &[u8]) -> bool
     ensures { let started = started_by pool.old table.old image.now in
         Talked image.now started pool.new table.new result }
 {
@@ -47,7 +46,7 @@ fn perform(pool: &mut [u8], table: &mut [u16], image: &[u8]) -> bool
             sound: sound,
             line: number,
         };
-        let progress = turn(player, pool, table, image, &mut line, &mut reply);
+        let progress = turn(rt, player, pool, table, image, &mut line, &mut reply);
         if !progress.more {
             return progress.written;
         }
@@ -59,6 +58,7 @@ fn perform(pool: &mut [u8], table: &mut [u16], image: &[u8]) -> bool
 
 // Reads a line, plays it and prints its reply. Where nothing is read, nothing is printed.
 fn turn(
+    rt: &HostRuntime,
     player: Player,
     pool: &mut [u8],
     table: &mut [u16],
@@ -74,19 +74,15 @@ fn turn(
         (world_of result.machine pool.new table.new) }
     ensures more_value { result.more ≡ goes_on (turn_of result line.new reply.new) }
 {
-    let got = io::read_full(libc::STDIN_FILENO, line);
+    let mut input = rt.stdin();
+    let got = read_full(&mut input, line);
     let after = play(player, pool, table, image, &line[..got], reply);
     let size = lines_of(got) * Line::REPLY;
-    let written = io::write_all(libc::STDOUT_FILENO, &reply[..size]);
+    let written = write_output(rt, &reply[..size]);
     Progress {
         machine: after,
         got: got,
         written: written,
         more: goes_on(written, got),
     }
-}
-
-// Says on standard error that a reply could not be written, and why.
-fn complain() {
-    os::fail(&[b's', b't', b'd', b'o', b'u', b't']);
 }

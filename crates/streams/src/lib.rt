@@ -1,0 +1,44 @@
+// Bytes read from a stream until a buffer is full, and bytes written to standard output, for the programs.
+// It promises how many bytes stand in the buffer at most; which bytes a stream gives or takes nothing proves.
+// It stands on the library's streams alone.
+#![tactic(auto)]
+
+ghost use Rattle.std.specs.Prelude.{◌≤◌, length};
+
+use std::io::{Print, Read};
+
+// Reads until the buffer is full, the stream ends or a read fails, and says how many bytes it put at the buffer's start.
+pub fn read_full<R: Read>(stream: &mut R, buf: &mut [u8]) -> usize
+    ensures { result ≤ length buf.new }
+{
+    let mut done = 0;
+    while done < buf.len() {
+        let got = read_some(stream, &mut buf[done..]);
+        if got == 0 {
+            break;
+        }
+        done += got;
+    }
+    done
+}
+
+// How many bytes one read put at the buffer's start: none where the stream has ended, or where the read failed.
+fn read_some<R: Read>(stream: &mut R, buf: &mut [u8]) -> usize
+    ensures { result ≤ length buf.new }
+{
+    match stream.read(buf) {
+        Ok(got) => got,
+        Err(_) => 0,
+    }
+}
+
+// Writes all of the bytes to standard output and says so; or stops where it takes no more, says why on standard error, and says that it did not.
+pub fn write_output(rt: &HostRuntime, bytes: &[u8]) -> bool {
+    match rt.stdout().write_all(bytes) {
+        Ok(()) => true,
+        Err(error) => {
+            let _ = eprintln!(rt; "stdout: {error}");
+            false
+        }
+    }
+}
