@@ -8,16 +8,6 @@ use borrow.Author.Rules.{rules}
 use Rattle.page_comparison.proofs.has_page.Statement.{statement}
 use Rattle.page_comparison.proofs.has_page.Tie as tie
 
--- behind the test of the entry
-
-abbrev named : tie.Then-entry-ne0 → tie.Start
-named c = c.before.before.before.before
-
-abbrev unnamed : tie.Else-entry-ne0 → tie.Start
-unnamed c = c.before.before.before.before
-
--- ---- the needs
-
 frame-of-requires : tie.Need-frame_of-requires
 frame-of-requires c κs = search rules
 
@@ -44,12 +34,10 @@ is-same-requires c κs = search rules
 
 returns : tie.Need-returns-then-entry-ne0
 returns c =
-    let frame = c.before.before.before in
-    let s = named frame.before in
-    let a = s.args in
-    let f = frame.frame_of in
-    let here = at-frame a.pool.now a.image.now a.entry a.backing f.result.0 f.ensures frame.if-entry-ne0.true in
-    has-page s.args.part.now _ _ c.is_same.result s.requires.0 here c.is_same.ensures
+    let a = c.args in
+    let f = c.frame_of in
+    let here = at-frame a.pool.now a.image.now a.entry a.backing f.result.0 f.ensures c.if-entry-ne0.true in
+    has-page a.part.now _ _ c.is_same.result c.requires.0 here c.is_same.ensures
 
 enum_told : tie.Need-enum_told-1
 enum_told c = search rules
@@ -87,21 +75,15 @@ is-same-requires-3 c κs = search rules
 returns-2 : tie.Need-returns-in-Anonymous
 unfolding zeros
 returns-2 c =
-    let told = c.before.before in
-    let s = unnamed told.before in
-    let a = (unnamed told.before).args in
-    let none = told.if-entry-ne0.false in
-    let here = at_zero a.pool.now a.image.now a.entry a.backing none told.in-Anonymous.is in
-    has-page s.args.part.now _ _ c.is_same-in-Anonymous.result s.requires.0 here c.is_same-in-Anonymous.ensures
+    let a = c.args in
+    let here = at_zero a.pool.now a.image.now a.entry a.backing c.if-entry-ne0.false c.in-Anonymous.is in
+    has-page a.part.now _ _ c.is_same-in-Anonymous.result c.requires.0 here c.is_same-in-Anonymous.ensures
 
 returns-3 : tie.Need-returns-in-Image
 returns-3 c =
-    let page = c.before.before.before in
-    let s = unnamed page.before in
-    let a = s.args in
-    let known = page.backing.given in
-    let here = at-image a.pool.now a.image.now a.entry a.backing known.0.0 page.if-entry-ne0.false known.1 in
-    has-page s.args.part.now _ _ c.is_same-in-Image.result s.requires.0 here c.is_same-in-Image.ensures
+    let a = c.args in
+    let here = at-image a.pool.now a.image.now a.entry a.backing c.in-Image.page c.if-entry-ne0.false c.in-Image.is in
+    has-page a.part.now _ _ c.is_same-in-Image.result c.requires.0 here c.is_same-in-Image.ensures
 
 pub has_page_spec : {M : Type 1} → statement M
 has_page_spec =

@@ -1,7 +1,5 @@
 -- The bytes of the first page, wherever they stand, are compared with the second page.
 use mathlib.Core.Path.{ap}
-use mathlib.Core.List.{List}
-use Prim.Native.Nat.{ℕ}
 use native.Mathlib.Omega.{arith}
 use Rattle.pages.specs.Parts.{zeros}
 use Rattle.table.specs.Backing.{backing_end}
@@ -9,20 +7,6 @@ use Rattle.page_comparison.proofs.CompareLaws.{lent, page_of, at-frame, at_zero,
 use borrow.Author.Rules.{rules}
 use Rattle.page_comparison.proofs.same_pages.Statement.{statement}
 use Rattle.page_comparison.proofs.same_pages.Tie as tie
-
--- behind the test of the entry
-
-abbrev named : tie.Then-entry-ne0 → tie.Start
-named c = c.before.before.before
-
-abbrev unnamed : tie.Else-entry-ne0 → tie.Start
-unnamed c = c.before.before.before
-
--- the page that it is compared with
-abbrev twin : tie.Start → List ℕ
-twin s = page_of s.args.pool.now s.args.image.now s.args.other s.args.twin
-
--- ---- the needs
 
 frame-of-requires : tie.Need-frame_of-requires
 frame-of-requires c κs = search rules
@@ -50,12 +34,12 @@ has-page-requires c κs = search rules
 
 returns : tie.Need-returns-then-entry-ne0
 returns c =
-    let frame = c.before.before.before in
-    let s = named frame.before in
-    let a = s.args in
-    let f = frame.frame_of in
-    let here = at-frame a.pool.now a.image.now a.entry a.backing f.result.0 f.ensures frame.if-entry-ne0.true in
-    same-as (lent a.pool.now f.result.0) _ (twin s) c.has_page.result here c.has_page.ensures
+    let a = c.args in
+    let f = c.frame_of in
+    let here = at-frame a.pool.now a.image.now a.entry a.backing f.result.0 f.ensures c.if-entry-ne0.true in
+    -- the page that it is compared with
+    let twin = page_of a.pool.now a.image.now a.other a.twin in
+    same-as (lent a.pool.now f.result.0) _ twin c.has_page.result here c.has_page.ensures
 
 enum_told : tie.Need-enum_told-1
 enum_told c = search rules
@@ -93,20 +77,20 @@ has-page-requires-3 c κs = search rules
 returns-2 : tie.Need-returns-in-Anonymous
 unfolding zeros
 returns-2 c =
-    let told = c.before.before in
-    let a = (unnamed told.before).args in
-    let none = told.if-entry-ne0.false in
-    let here = at_zero a.pool.now a.image.now a.entry a.backing none told.in-Anonymous.is in
-    same-as (zeros 256) _ (twin (unnamed told.before)) c.has_page-in-Anonymous.result here c.has_page-in-Anonymous.ensures
+    let a = c.args in
+    let here = at_zero a.pool.now a.image.now a.entry a.backing c.if-entry-ne0.false c.in-Anonymous.is in
+    -- the page that it is compared with
+    let twin = page_of a.pool.now a.image.now a.other a.twin in
+    same-as (zeros 256) _ twin c.has_page-in-Anonymous.result here c.has_page-in-Anonymous.ensures
 
 returns-3 : tie.Need-returns-in-Image
 returns-3 c =
-    let page = c.before.before.before in
-    let s = unnamed page.before in
-    let a = s.args in
-    let known = page.backing.given in
-    let here = at-image a.pool.now a.image.now a.entry a.backing known.0.0 page.if-entry-ne0.false known.1 in
-    same-as (lent a.image.now known.0.0.0) _ (twin s) c.has_page-in-Image.result here c.has_page-in-Image.ensures
+    let a = c.args in
+    let page = c.in-Image.page in
+    let here = at-image a.pool.now a.image.now a.entry a.backing page c.if-entry-ne0.false c.in-Image.is in
+    -- the page that it is compared with
+    let twin = page_of a.pool.now a.image.now a.other a.twin in
+    same-as (lent a.image.now page.0) _ twin c.has_page-in-Image.result here c.has_page-in-Image.ensures
 
 pub same_pages_spec : {M : Type 1} → statement M
 same_pages_spec =
