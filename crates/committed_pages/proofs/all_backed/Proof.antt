@@ -85,8 +85,8 @@ in-snapshot c =
     let s = start-of-test c.before in
     let a = s.args in
     let k = (at-loop c.before).loop-k.k in
-    ⊎_elim (λ w. sym w.1.ensures ∙ not-false _ w.2.left)
-    (λ w. lies-passes a.snapshot s.requires.1 (get_or a.present.list k none) k (sym c.lies_in.ensures ∙ not-false _ w.left)) c.if-not-lies_in.branch
+    ⊎_elim (λ w. sym w.is_backed.ensures ∙ not-false _ w.if-not-is_backed.false-raw)
+    (λ w. lies-passes a.snapshot s.requires.1 (get_or a.present.list k none) k (sym c.lies_in.ensures ∙ not-false _ w.if-not-lies_in.false-raw)) c.if-not-lies_in.branch-raw
 
 loop-again : tie.Need-loop-k-preserved invariant-loop decreases-loop
 loop-again c =
