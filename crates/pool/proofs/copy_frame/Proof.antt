@@ -6,13 +6,6 @@ use Rattle.pages.specs.Parts.{set_frame}
 use Rattle.pool.proofs.copy_frame.Statement.{statement}
 use Rattle.pool.proofs.copy_frame.Tie as tie
 
--- the way back from where a fact is needed to where it was learned
-abbrev at-load-frame : tie.After-slice_known-2-1 → tie.After-load_frame-page
-at-load-frame c = c.before.before.before.before.before
-
-abbrev at-start : tie.After-load_frame-page → tie.Start
-at-start c = c.before.before.before
-
 load-frame-requires : tie.Need-load_frame-page-requires
 load-frame-requires c κs = search rules
 
@@ -27,8 +20,8 @@ same_length c = search rules
 
 returns : tie.Need-returns
 returns c =
-    let s = (at-start (at-load-frame c)).args in
-    c.fill_frame.ensures ∙ ap (set_frame page_bytes s.pool.now s.to.0) (at-load-frame c).load_frame-page.ensures
+    let s = c.args in
+    c.fill_frame.ensures ∙ ap (set_frame page_bytes s.pool.now s.to.0) c.load_frame-page.ensures
 
 pub copy_frame_spec : {M : Type 1} → statement M
 copy_frame_spec =

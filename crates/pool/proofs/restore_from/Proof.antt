@@ -6,13 +6,6 @@ use Rattle.pages.specs.Parts.{frame, set_frame, differs}
 use Rattle.pool.proofs.restore_from.Statement.{statement}
 use Rattle.pool.proofs.restore_from.Tie as tie
 
--- the way back from where a fact is needed to where it was learned
-abbrev at-load-frame : tie.After-slice_known-2-1 → tie.After-load_frame-bytes
-at-load-frame c = c.before.before.before.before.before
-
-abbrev at-start : tie.After-load_frame-bytes → tie.Start
-at-start c = c.before.before.before
-
 load-frame-requires : tie.Need-load_frame-bytes-requires
 load-frame-requires c κs = search rules
 
@@ -27,12 +20,11 @@ same_length c = search rules
 
 returns : tie.Need-returns
 returns c =
-    let load = at-load-frame c in
-    let a = (at-start load).args in
+    let a = c.args in
     let pool = a.pool.now in
     let restore = c.restore_frame.ensures in (
-      restore.0 ∙ ap (set_frame page_bytes pool a.to.0) load.load_frame-bytes.ensures,
-      restore.1 ∙ ap (differs page_bytes (frame page_bytes pool a.to.0)) load.load_frame-bytes.ensures,
+      restore.0 ∙ ap (set_frame page_bytes pool a.to.0) c.load_frame-bytes.ensures,
+      restore.1 ∙ ap (differs page_bytes (frame page_bytes pool a.to.0)) c.load_frame-bytes.ensures,
     )
 
 pub restore_from_spec : {M : Type 1} → statement M
