@@ -13,13 +13,6 @@ invariant-loop to areas kept₀ k₀ k-end kept k = (k ≤ areas.count) × Kept 
 abbrev decreases-loop : tie.decreases-loop-k
 decreases-loop to areas kept₀ k₀ k-end kept k = areas.count - k
 
--- the way back from where a fact is needed to where it was learned
-abbrev start-of-turn : tie.In-loop-k invariant-loop decreases-loop → tie.Start invariant-loop decreases-loop
-start-of-turn c = c.before.before.before
-
-abbrev turn-of-part : tie.After-part invariant-loop decreases-loop → tie.In-loop-k invariant-loop decreases-loop
-turn-of-part c = c.before.before.before.before
-
 empty-requires : tie.Need-empty-kept-requires invariant-loop decreases-loop
 empty-requires c κs = tt
 
@@ -37,52 +30,47 @@ element-copy-out-area c = omega (arith, c.requires.0.formed.few, c.requires.0.fo
 
 returns : tie.Need-returns-then-to-area invariant-loop decreases-loop
 returns c =
-    let s = start-of-turn c.before.before.before in
     let l = c.loop-k in
-    kept-stop s.args.areas s.requires.0 s.args.to l.k l.auto l.invariant.1 c.loop-k-test.true c.if-to-area.true
+    kept-stop c.args.areas c.requires.0 c.args.to l.k l.kept l.invariant.1 c.loop-k-test.true c.if-to-area.true
 
 part-requires : tie.Need-part-requires invariant-loop decreases-loop
 part-requires c κs =
-    let s = start-of-turn c.before.before.before in
     let k = c.loop-k.k in
-    ((near-formed s.args.areas s.requires.0).at k (omega (arith, s.requires.0.formed.few)), (end-small s.args.areas s.requires.0 k, omega arith))
+    ((near-formed c.args.areas c.requires.0).at k (omega (arith, c.requires.0.formed.few)), (end-small c.args.areas c.requires.0 k, omega arith))
 
 cast-t10 : tie.Need-overflow_cast-k invariant-loop decreases-loop
 cast-t10 c = search rules
 
 mul-t11 : tie.Need-offset_bounds-kept-k invariant-loop decreases-loop
-mul-t11 c = omega (arith, (start-of-turn (turn-of-part c)).pre.0.formed.few)
+mul-t11 c = omega (arith, c.requires.0.formed.few)
 
 element-set-from-kept : tie.Need-bounds-kept-k invariant-loop decreases-loop
 element-set-from-kept c =
-    let s = start-of-turn (turn-of-part c) in
-    let l = (turn-of-part c).loop-k in
-    omega (arith, s.requires.0.formed.few, kept-eight s.args.areas s.requires.0 s.args.to l.k l.kept l.invariant.1)
+    let l = c.loop-k in
+    omega (arith, c.requires.0.formed.few, kept-eight c.args.areas c.requires.0 c.args.to l.k l.kept l.invariant.1)
 
 add_kept : tie.Need-overflow_add-kept invariant-loop decreases-loop
-add_kept c = omega (arith, (start-of-turn (turn-of-part c)).pre.0.formed.few)
+add_kept c = omega (arith, c.requires.0.formed.few)
 
 add-k : tie.Need-overflow_step-k invariant-loop decreases-loop
-add-k c = omega (arith, (start-of-turn (turn-of-part c)).pre.0.formed.few)
+add-k c = omega (arith, c.requires.0.formed.few)
 
 loop-less : tie.Need-loop-k-smaller invariant-loop decreases-loop
 loop-less c = omega arith
 
 loop-again : tie.Need-loop-k-preserved invariant-loop decreases-loop
 loop-again c =
-    let s = start-of-turn (turn-of-part c) in
-    let l = (turn-of-part c).loop-k in (
+    let l = c.loop-k in (
       omega arith,
       rw c.part.ensures
-          (kept_next s.args.areas s.requires.0 s.args.to l.k l.kept l.invariant.1 (turn-of-part c).loop-k-test.true
+          (kept_next c.args.areas c.requires.0 c.args.to l.k l.kept l.invariant.1 c.loop-k-test.true
           (omega (arith, c.if-to-area.false))),
     )
 
 returns-2 : tie.Need-returns invariant-loop decreases-loop
 returns-2 c =
-    let s = c.before.before.before in
     let l = c.loop-k in
-    kept-all s.args.areas s.requires.0 s.args.to l.k l.auto l.invariant.1 (omega arith)
+    kept-all c.args.areas c.requires.0 c.args.to l.k l.kept l.invariant.1 (omega arith)
 
 pub up_to_spec : {M : Type 1} → statement M
 up_to_spec =

@@ -34,57 +34,49 @@ mul-area c = omega (arith, c.requires.0.formed.few)
 element-copy-out-area : tie.Need-bounds-areas-k invariant-loop decreases-loop
 element-copy-out-area c = omega (arith, c.requires.0.formed.few, c.requires.0.formed.eight)
 
--- the way back from where a fact is needed to where it was learned
-abbrev start-of-area : tie.After-area-1 invariant-loop decreases-loop → tie.Start invariant-loop decreases-loop
-start-of-area c = c.before.before.before
-
-abbrev loop-of-area : tie.After-area-1 invariant-loop decreases-loop → tie.At-loop-k invariant-loop decreases-loop
-loop-of-area c = c.before.before
-
 reaches-requires : tie.Need-reaches-requires invariant-loop decreases-loop
-reaches-requires c κs = end-small (start-of-area c).args.areas (start-of-area c).requires.0 (loop-of-area c).loop-k.k
+reaches-requires c κs = end-small c.args.areas c.requires.0 c.loop-k.k
 
 part-requires : tie.Need-part-requires invariant-loop decreases-loop
 part-requires c κs =
-    let s = start-of-area c.before.before in
-    let k = (loop-of-area c.before.before).loop-k.k in
-    ((near-formed s.args.areas s.requires.0).at k (omega (arith, s.requires.0.formed.few)), (end-small s.args.areas s.requires.0 k, omega arith))
+    let k = c.loop-k.k in
+    ((near-formed c.args.areas c.requires.0).at k (omega (arith, c.requires.0.formed.few)), (end-small c.args.areas c.requires.0 k, omega arith))
 
 area-requires : tie.Need-area-requires invariant-loop decreases-loop
 area-requires c κs = tt
 
 with-area-requires : tie.Need-with_area-packed-requires invariant-loop decreases-loop
 with-area-requires c κs =
-    let s = start-of-area c.before.before.before.before in
-    let l = (loop-of-area c.before.before.before.before).loop-k in (
-      parts-few s.args.areas s.requires.0 s.args.update s.args.before s.args.from s.args.to s.requires.1.1.0 s.requires.1.0 l.k l.packed
+    let l = c.loop-k in (
+      parts-few c.args.areas c.requires.0 c.args.update c.args.before c.args.from c.args.to c.requires.1.1.0 c.requires.1.0 l.k l.packed
           l.invariant.1,
-      rw (c.area.ensures, c.part.ensures) (omega (arith, end-small s.args.areas s.requires.0 l.k)),
+      rw (c.area.ensures, c.part.ensures) (omega (arith, end-small c.args.areas c.requires.0 l.k)),
     )
 
 add-k : tie.Need-overflow_step-k invariant-loop decreases-loop
-add-k c = omega (arith, (start-of-area c.before.before).requires.0.formed.few)
+add-k c = omega (arith, c.requires.0.formed.few)
 
 loop-less : tie.Need-loop-k-smaller invariant-loop decreases-loop
 loop-less c = omega arith
 
 loop-again : tie.Need-loop-k-preserved invariant-loop decreases-loop
 loop-again c =
-    let s = start-of-area c.before.before in
-    let l = (loop-of-area c.before.before).loop-k in (
+    let l = c.loop-k in (
       omega arith,
-      parts_next s.args.areas s.requires.0 s.args.update s.args.before s.args.from s.args.to s.requires.1.1.0 s.requires.1.0 l.k l.packed
+      parts_next c.args.areas c.requires.0 c.args.update c.args.before c.args.from c.args.to c.requires.1.1.0 c.requires.1.0 l.k l.packed
           l.invariant.1 c.loop-k-test.true c.reaches.result c.if-reaches.packed c.reaches.ensures
           (⊎_elim
-          (λ w. inl (w.0.taken, w.4 ∙ w.3.ensures ∙ ap (push_area l.packed) (w.2.ensures ∙ ap (updated_area s.args.update) w.1.ensures)))
-          (λ w. inr (w.0.left, w.1)) c.if-reaches.branch),
+          (λ w. inl (
+            w.if-reaches.true,
+            w.packed-is ∙ w.with_area-packed.ensures ∙ ap (push_area l.packed) (w.area.ensures ∙ ap (updated_area c.args.update) w.part.ensures),
+          ))
+          (λ w. inr (w.if-reaches.false, w.packed-is)) c.if-reaches.branch-raw),
     )
 
 returns : tie.Need-returns invariant-loop decreases-loop
 returns c =
-    let s = c.before.before in
     let l = c.loop-k in
-    parts_all s.args.areas s.requires.0 s.args.update s.args.before s.args.from s.args.to s.requires.1.1.0 s.requires.1.0 l.k l.packed
+    parts_all c.args.areas c.requires.0 c.args.update c.args.before c.args.from c.args.to c.requires.1.1.0 c.requires.1.0 l.k l.packed
     l.invariant.1 (omega arith)
 
 pub with_parts_spec : {M : Type 1} → statement M
