@@ -67,9 +67,9 @@ fails-at n e =
     )
 
 -- an area that starts where another ends is not the first
-later : (c : tie.Then-start-end invariant-loop decreases-loop invariant-loop2 decreases-loop2) → 0 < (at-loop (tested c)).loop.k
+later : (c : tie.Then-start-end invariant-loop decreases-loop invariant-loop2 decreases-loop2) → 0 < (at-loop (tested c)).loop-k.k
 later c =
-    let l = (at-loop (tested c)).loop in
+    let l = (at-loop (tested c)).loop-k in
     let a = (start-of-loop (at-loop (tested c))).args in
     let start : ℕ = (get_or a.areas.list l.k none).first.0 in
     omega (arith, eqb-false l.k 0 (not-true (eqb l.k 0) (and_right (eqb start l.end) (not (eqb l.k 0)) c.if-start-end.true)))
@@ -152,7 +152,7 @@ in_place c =
     let start : ℕ = (get_or a.areas.list l.k none).first.0 in
     holds a.images a.areas l.k l.end (at_turn n).loop-k-test.true l.invariant.1 l.invariant.2 _ n.is_fitting.ensures
     (not-false _ c.if-not-is_fitting.false-raw)
-    (λ t. ⊎_elim (λ w. sym w.2.ensures ∙ w.3.left) (λ w. never (eqb start l.end && not (eqb l.k 0)) t w.left) c.if-start-end.branch)
+    (λ t. ⊎_elim (λ w. sym w.goes_on.ensures ∙ w.if-goes_on.false) (λ w. never (eqb start l.end && not (eqb l.k 0)) t w.if-start-end.false) c.if-start-end.branch-raw)
 
 loop-again : tie.Need-loop-k-preserved invariant-loop decreases-loop invariant-loop2 decreases-loop2
 loop-again c =
