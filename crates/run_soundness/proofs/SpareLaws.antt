@@ -36,9 +36,9 @@ module _ (n : ℕ) (st : Store) (rows : Rows) (m : Marks) (found : m ≡ kept_to
   frames-decide e d = rw (← found, e, d)
 
 -- runs without a frame keep none
-none_kept : (r : Runs) → none_kept r ≡ true → kept_by (row r) ≡ 0
+none-kept : (r : Runs) → none_kept r ≡ true → kept_by (row r) ≡ 0
 unfolding none_kept kept_by
-none_kept r e =
+none-kept r e =
     let empty : (i : ℕ) → i < 8 → row r i ≡ none_held =
     λ i l. same-held-true (row r i) none_held (every-at (λ i. same_held (row r i) none_held) 0 8 e i (omega arith) l) in
     sum-none (lengths_of r) 8 (λ i l. none-count (row r i) (λ f d. rw (empty i l) (held-zero f)))
@@ -46,7 +46,7 @@ none_kept r e =
 module _ (st : Store) (s : ℕ) (opened : Bool) (share : ℕ) (r : Runs) (eight : length r.list ≡ 8) where
   pub keeps-none : none_kept r ≡ true → used_below (from (s * 128) st.table) 128 ≤ share → true ≡ runs_ok st s opened share r
   unfolding runs_ok
-  keeps-none e h = sym (and-of (eq-eqb _ 8 eight) (and-of (le-leb _ share (omega (arith, h, none_kept r e))) (implies-of (not opened) (none_kept r) (λ o. e))))
+  keeps-none e h = sym (and-of (eq-eqb _ 8 eight) (and-of (le-leb _ share (omega (arith, h, none-kept r e))) (implies-of (not opened) (none_kept r) (λ o. e))))
 
   pub closed-keeps : none_kept r ≡ false → opened ≡ false → false ≡ runs_ok st s opened share r
   unfolding runs_ok
