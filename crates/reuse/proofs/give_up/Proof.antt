@@ -8,31 +8,19 @@ use Rattle.reuse.proofs.ReuseLaws.{gave-none, gave_one, longest-has, nothing-kep
 use Rattle.reuse.proofs.give_up.Statement.{statement}
 use Rattle.reuse.proofs.give_up.Tie as tie
 
--- behind what is kept and used, and behind the longest run
-
-abbrev behind : tie.After-kept-most → tie.Start
-behind c = c.before.before
-
-abbrev counted : tie.After-used → tie.After-kept-most
-counted c = c.before.before
-
-abbrev found : tie.After-at-run → tie.After-used
-found c = c.before.before.before
-
 -- the longest run has a frame
 some : (c : tie.After-at-run) → 1 ≤ count_held c.at-run.result
 some c =
-    let kept = (counted (found c)).kept in
-    longest-has (behind (counted (found c))).args.runs c.longest-place.result kept.result c.at-run.result kept.ensures.0
-    (found c).if-most-eq0.false c.longest-place.ensures.0 c.at-run.ensures
+    longest-has c.args.runs c.longest-place.result c.kept-most.result c.at-run.result c.kept-most.ensures.0 c.if-most-eq0.false
+    c.longest-place.ensures.0 c.at-run.ensures
 
 kept-requires : tie.Need-kept-most-requires
 kept-requires c κs = search rules
 
 returns : tie.Need-returns-then-most-eq0
 returns c =
-    let s = c.before.before.before in
-    gave-none _ s.args.runs s.args.kept (nothing-kept s.args.share _ _ s.args.runs c.kept-most.ensures.0 s.requires.1.1 c.if-most-eq0.true)
+    let a = c.args in
+    gave-none _ a.runs a.kept (nothing-kept a.share _ _ a.runs c.kept-most.ensures.0 c.requires.1.1 c.if-most-eq0.true)
 
 used-requires : tie.Need-used-requires
 used-requires c κs = search rules
@@ -42,10 +30,9 @@ add-if2 c = search rules
 
 returns-2 : tie.Need-returns-then-used-most
 returns-2 c =
-    let kept = counted c.before in
-    let a = (behind kept).args in
+    let a = c.args in
     gave-none _ a.runs a.kept
-    (within-share a.share _ kept.kept-most.result a.runs kept.kept-most.ensures.0 (omega (arith, c.if-used-most.true, c.used.ensures.0)))
+    (within-share a.share _ c.kept-most.result a.runs c.kept-most.ensures.0 (omega (arith, c.if-used-most.true, c.used.ensures.0)))
 
 longest-requires : tie.Need-longest-place-requires
 longest-requires c κs = search rules
@@ -64,20 +51,15 @@ with-requires c κs = search rules
 
 without-requires-2 : tie.Need-without-requires-2
 without-requires-2 c κs =
-    let l = c.before.before in rw l.least.ensures (least-found l.at-run.result (some l.before)).0
+    rw c.least.ensures (least-found c.at-run.result (some c.before.before.before)).0
 
 returns-3 : tie.Need-returns
 returns-3 c =
-    let least = c.before.before.before in
-    let run = least.before in
-    let used = found run in
-    let kept = counted used in
-    let a = (behind kept).args in
-    rw (c.with.ensures, c.without.ensures, c.without-2.ensures, least.least.ensures)
-    (gave_one _ a.runs a.kept run.longest-place.result run.at-run.result
-    (above-share a.share _ kept.kept-most.result a.runs kept.kept-most.ensures.0
-    (omega (arith, run.if-used-most.false, used.used.ensures.0)))
-    run.longest-place.ensures.0 run.at-run.ensures (some run))
+    let a = c.args in
+    rw (c.with.ensures, c.without.ensures, c.without-2.ensures, c.least.ensures)
+    (gave_one _ a.runs a.kept c.longest-place.result c.at-run.result
+    (above-share a.share _ c.kept-most.result a.runs c.kept-most.ensures.0 (omega (arith, c.if-used-most.false, c.used.ensures.0)))
+    c.longest-place.ensures.0 c.at-run.ensures (some c.before.before.before.before))
 
 pub give_up_spec : {M : Type 1} → statement M
 give_up_spec =

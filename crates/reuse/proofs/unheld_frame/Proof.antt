@@ -9,10 +9,6 @@ use Rattle.reuse.proofs.ReuseLaws.{both-free, free-both}
 use Rattle.reuse.proofs.unheld_frame.Statement.{statement}
 use Rattle.reuse.proofs.unheld_frame.Tie as tie
 
--- where the frame was sought
-abbrev sought : tie.In-Frame-2 → tie.After-greatest_free-found
-sought c = c.before.before
-
 both-requires : tie.Need-both-both-requires
 both-requires c κs = search rules
 
@@ -27,25 +23,22 @@ enum_told c = search rules
 
 returns : tie.Need-returns-in-Frame
 returns c =
-    let free = sought c in
-    let both = free.both-both in
-    let s = free.before.before in
-    let found = c.found.given in
-    let f = found.0.0.0 in
-    let g = greatest-found (held both.result) s.args.frames found.0.0 (sym free.greatest_free-found.ensures ∙ found.1) in
+    let both = c.both-both in
+    let s = c.args in
+    let f = c.in-Frame.f.0 in
+    let g = greatest-found (held both.result) s.frames c.in-Frame.f (sym c.greatest_free-found.ensures ∙ c.in-Frame.is) in
     let two =
-    both-free s.args.named s.args.kept f (omega (arith, g.within, s.requires.0)) (ap (λ (h : Held). held h f) (sym both.ensures) ∙ g.free) in
+    both-free s.named s.kept f (omega (arith, g.within, c.requires.0)) (ap (λ (h : Held). held h f) (sym both.ensures) ∙ g.free) in
     (g.within, (two.0, two.1))
 
 returns-2 : tie.Need-returns-in-None
 returns-2 c =
-    let s = c.before.before.before in
-    let free = c.greatest_free-found in
+    let s = c.args in
     let both = c.both-both in
-    let there = s.requires.1 in
-    absurd (greatest-all (held both.result) s.args.frames (sym free.ensures ∙ c.in-None.is) there.0 there.1.0
+    let there = c.requires.1 in
+    absurd (greatest-all (held both.result) s.frames (sym c.greatest_free-found.ensures ∙ c.in-None.is) there.0 there.1.0
     (ap (λ (h : Held). held h there.0) both.ensures
-    ∙ free-both s.args.named s.args.kept there.0 (omega (arith, there.1.0, s.requires.0)) there.1.1.0 there.1.1.1))
+    ∙ free-both s.named s.kept there.0 (omega (arith, there.1.0, c.requires.0)) there.1.1.0 there.1.1.1))
 
 pub unheld_frame_spec : {M : Type 1} → statement M
 unheld_frame_spec = tie.close (tie.spec both-requires greatest-free-requires enum-known-found enum_told returns returns-2)
