@@ -136,17 +136,26 @@ agreed : (c : tie.Joined-not-same-front invariant-loop decreases-loop) → let t
 agreed c =
     ⊎_elim
     (λ w.
-    let found : tie.After-slot-slot invariant-loop decreases-loop = record { before = record { before = record { before = c.before; if1 = w.0 }; back = w.1 }; slot = w.2 } in
-    let stays : tie.Then-same invariant-loop decreases-loop = record { before = found; if2 = w.3 } in
-    sym (compared-itself (record { before = stays; agrees = w.4 })) ∙ not-false _ w.5.left)
+    let found : tie.After-slot-slot invariant-loop decreases-loop = record {
+      before = record { before = record { before = c.before; if-not-same-front = w.if-not-same-front }; back-back = w.back-back };
+      slot-slot = w.slot-slot;
+    } in
+    let stays : tie.Then-same invariant-loop decreases-loop = record { before = found; if-same = w.if-same } in
+    sym (compared-itself (record { before = stays; agrees = w.agrees })) ∙ not-false _ w.if-not-agrees.false-raw)
     (λ v. ⊎_elim
     (λ w.
-    let found : tie.After-slot-slot invariant-loop decreases-loop = record { before = record { before = record { before = c.before; if1 = w.0 }; back = w.1 }; slot = w.2 } in
-    let both : tie.After-slot-copied invariant-loop decreases-loop = record { before = record { before = found; if2 = w.3 }; slot2 = w.4 } in
-    sym (compared (record { before = both; agrees2 = w.5 })) ∙ not-false _ w.6.left)
-    (λ w. passed (record { before = c.before; if1 = w }))
+    let found : tie.After-slot-slot invariant-loop decreases-loop = record {
+      before = record { before = record { before = c.before; if-not-same-front = w.if-not-same-front }; back-back = w.back-back };
+      slot-slot = w.slot-slot;
+    } in
+    let both : tie.After-slot-copied invariant-loop decreases-loop = record {
+      before = record { before = found; if-same = w.if-same };
+      slot-copied = w.slot-copied;
+    } in
+    sym (compared (record { before = both; agrees-else-same = w.agrees-else-same })) ∙ not-false _ w.if-not-agrees-2.false-raw)
+    (λ w. passed (record { before = c.before; if-not-same-front = w.if-not-same-front }))
     v)
-    c.if-not-same-front.branch
+    c.if-not-same-front.branch-raw
 
 -- where it does not, the loop stops there
 stops : (turn : tie.In-loop-i invariant-loop decreases-loop) → not (of_in (behind turn) (page_in turn)) ≡ true
