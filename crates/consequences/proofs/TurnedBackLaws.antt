@@ -50,8 +50,8 @@ use Rattle.consequences.specs.TurnedBack.{AllGet, AllGetLent, stray_entry, Stray
 
 -- ---- the plain machine's tables
 
-same_answer : (a b : Answered) → same_answer a b ≡ true → a ≡ b
-same_answer a b e =
+same-answer : (a b : Answered) → same_answer a b ≡ true → a ≡ b
+same-answer a b e =
     let same = and_both (eqb a.number b.number) _ e in
     λ i. record { number = eqb-true a.number b.number same.0 i; value = eqb-true a.value b.value same.1 i }
 
@@ -59,7 +59,7 @@ same-answers : (l m : List Answered) → same_answers l m ≡ true → l ≡ m
 same-answers [] [] e = refl
 same-answers [] (b ∷ m) e = absurd (false≢true e)
 same-answers (a ∷ l) [] e = absurd (false≢true e)
-same-answers (a ∷ l) (b ∷ m) e = let both = and_both (same_answer a b) _ e in ap₂ ◌∷◌ (same_answer a b both.0) (same-answers l m both.1)
+same-answers (a ∷ l) (b ∷ m) e = let both = and_both (same_answer a b) _ e in ap₂ ◌∷◌ (same-answer a b both.0) (same-answers l m both.1)
 
 -- a start accepts what each roll is played over
 unfoldable lentb : List Case → Bool
@@ -166,7 +166,7 @@ all-get-lent [] e = tt
 all-get-lent (c ∷ cs) e =
     let q = c.line.request in
     let given = and_both (same_answer (lent_answer c.pool c.table c.image q) c.line.gets) (lendings_ok cs) e in
-    (λ pool table image p t i o s. lent-answer pool table image q o s ∙ rw (p, t, i) (same_answer _ _ given.0), all-get-lent cs given.1)
+    (λ pool table image p t i o s. lent-answer pool table image q o s ∙ rw (p, t, i) (same-answer _ _ given.0), all-get-lent cs given.1)
 
 pub lendings-get : AllGetLent lendings
 unfolding lendings_ok lent_answer within all_mapped first_of slots_after copy_after applies refusal core_value frames_held
