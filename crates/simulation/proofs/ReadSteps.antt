@@ -115,8 +115,8 @@ module _ (g : Given) (L : Lent g) (st : Store) (s : ℕ) (b : Sandbox) (k : Kept
   page-read i l m = rw (A.fronts i l) (by_cases (k.traces.front i) (λ f. rw f) (λ f. rw f (under i l m f)))
 
   -- a page of the snapshot
-  pub copy_read : (i : ℕ) → i < 64 → is_mapped (copied (copy_slots k.core) i) ≡ true
+  pub copy-read : (i : ℕ) → i < 64 → is_mapped (copied (copy_slots k.core) i) ≡ true
       → copy_read g.image st b.rec s i ≡ listed 256 (copy_bytes k.core.copy i)
   unfolding copy_read
-  copy_read i l m =
+  copy-read i l m =
       rw (copy-page i, A.backs i l) (by_cases (k.traces.back i) (λ e. rw e) (λ e. rw e (ap (listed 256) (sym (r.unbacked i m e)))))

@@ -128,9 +128,9 @@ module _ {C : ℕ → Type 0} (g : Given) (L : Lent g) (w : World) (p : Plain) (
     abbrev runs_then : Runs
     runs_then = runs_after given q (sandbox_at w q.sandbox) w.store
 
-    runs_after : Runned g.frames (store_after g.image f q (sandbox_at w q.sandbox) w.store) (rows_of w) q.sandbox runs_then
+    runs-after : Runned g.frames (store_after g.image f q (sandbox_at w q.sandbox) w.store) (rows_of w) q.sandbox runs_then
         (kept_after g q (p q.sandbox)).traces.runs
-    runs_after =
+    runs-after =
         runned g L q w.store A.tidy (sandbox_at w q.sandbox) (p q.sandbox) met.in_row (A.holds.each q.sandbox) (A.reads q.sandbox) mine
         (rows_of w) A.spare refl (A.words q.sandbox low) (shares p) met f given gave free (kind q)
 
@@ -151,8 +151,8 @@ module _ {C : ℕ → Type 0} (g : Given) (L : Lent g) (w : World) (p : Plain) (
           copy = copy-after g q st b k (shares p) met h mine;
           untaken = untaken-after g q st b k (shares p) met h mine;
           closed = λ e. absurd (false≢true (sym e));
-          places = runs_after.places;
-          runs = runs_after.lengths_are;
+          places = runs-after.places;
+          runs = runs-after.lengths_are;
           fronts = store-after.fronts;
           backs = store-after.backs;
         }
@@ -178,8 +178,8 @@ module _ {C : ℕ → Type 0} (g : Given) (L : Lent g) (w : World) (p : Plain) (
         record {
           tidy = store-after.tidy;
           row = length-set w.sandboxes q.sandbox _ ∙ A.row;
-          spare = rw (fun_ext rows_then) runs_after.spare;
-          words = λ t l. rw (rows_then t) (by_cases (eqb q.sandbox t) (λ e. rw e runs_after.words) (λ e. rw e (A.words t l)));
+          spare = rw (fun_ext rows_then) runs-after.spare;
+          words = λ t l. rw (rows_then t) (by_cases (eqb q.sandbox t) (λ e. rw e runs-after.words) (λ e. rw e (A.words t l)));
           each = λ t l. by_cases (eqb q.sandbox t)
               (λ e. rw (← eqb-true q.sandbox t e, here, there) agrees-own)
               (λ e.

@@ -33,7 +33,7 @@ use Rattle.plain.specs.Machine.{frames_held, differing as plainDiffering, change
 use Rattle.simulation.specs.Lent.{Lent}
 use Rattle.simulation.specs.Agrees.{AgreesAt, Agrees}
 use Rattle.simulation.proofs.HeldSteps.{used-count, used-one, holds_same}
-use Rattle.simulation.proofs.ReadSteps.{page-read, copy_read}
+use Rattle.simulation.proofs.ReadSteps.{page-read, copy-read}
 use Rattle.simulation.proofs.SoundLaws.{frames-same}
 
 -- ---- the report
@@ -80,7 +80,7 @@ module _ {C : ℕ → Type 0} (g : Given) (L : Lent g) (w : World) (p : Plain) (
       let h = A.holds.each q.sandbox in
       rw (
         page-read g L w.store q.sandbox b k h (A.reads q.sandbox) mine i l m,
-        copy_read g L w.store q.sandbox b k h (A.reads q.sandbox) mine i l c,
+        copy-read g L w.store q.sandbox b k h (A.reads q.sandbox) mine i l c,
       )
       (same-listed 256 (k.core.pages.bytes i) (copy_bytes k.core.copy i))
 
