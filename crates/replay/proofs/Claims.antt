@@ -25,7 +25,7 @@ use Rattle.plain_claims.specs.Lists.{up_to}
 use Rattle.claims.specs.Demands.{RunFrom}
 use Rattle.simulation.specs.Lent.{Lent}
 use Rattle.simulation.specs.Agrees.{Agrees}
-use Rattle.simulation.proofs.ReadSteps.{copy_read, page-read}
+use Rattle.simulation.proofs.ReadSteps.{copy-read, page-read}
 use Rattle.simulation.proofs.SoundLaws.{frames-same, shares-same, agrees-tested}
 use Rattle.simulation.proofs.Simulate.{view-at}
 use Rattle.claims.proofs.Runs.{list-agrees, demand-2}
@@ -79,7 +79,7 @@ module _ (g : Given) (L : Lent g) (s : ℕ) (w : World) (S : Snapped g s w) wher
   snapshot-bytes i m =
       let there : is_mapped (copied (copy_slots (up_to g qs s).core) i) ≡ true = rw copy-slots m in
       let inside = (agrees.holds.each s).copy_inside i there in
-      copy_read g L w.store s (sandbox_at w s) (up_to g qs s) (agrees.holds.each s) (agrees.reads s) (agrees.each s S.row) i inside there ∙ rw is-copy
+      copy-read g L w.store s (sandbox_at w s) (up_to g qs s) (agrees.holds.each s) (agrees.reads s) (agrees.each s S.row) i inside there ∙ rw is-copy
 
   pub snapshot-slots : slots (record_at w s).snapshot ≡ copy.slots
   snapshot-slots = (agrees.each s S.row).copy ∙ copy-slots
@@ -150,7 +150,7 @@ module _ (g : Given) (L : Lent g) (s : ℕ) (w : World) (S : Snapped g s w) wher
       copy = new-copy;
       present = new-present;
       copy_bytes = λ i d m.
-          copy_read g L v.store s (sandbox_at v s) (up_to g roll s) (again.holds.each s) (again.reads s) (again.each s S.row) i d (copy-there i m)
+          copy-read g L v.store s (sandbox_at v s) (up_to g roll s) (again.holds.each s) (again.reads s) (again.each s S.row) i d (copy-there i m)
           ∙ rw rebuilds.copy (new-page i m);
       bytes = λ i d m.
           page-read g L v.store s (sandbox_at v s) (up_to g roll s) (again.holds.each s) (again.reads s) (again.each s S.row) i d (page-there i m)
