@@ -7,19 +7,6 @@ use Rattle.table.specs.Backing.{backing_end}
 use Rattle.page_fill.proofs.backing.fill_frame.Statement.{statement}
 use Rattle.page_fill.proofs.backing.fill_frame.Tie as tie
 
--- behind the arms
-abbrev cleared : tie.After-clear_frame → tie.In-Anonymous
-cleared c = c.before.before
-
-abbrev paged : tie.After-struct_known-1 → tie.In-Image-2
-paged c = c.before
-
-abbrev behind : tie.In-Image-2 → tie.Start
-behind c = c.before.before.before.before
-
-abbrev loaded : tie.After-fill_frame → tie.After-load-bytes
-loaded c = c.before.before.before
-
 enum_told : tie.Need-enum_told-1
 enum_told c = search rules
 
@@ -45,7 +32,7 @@ part-load-start : tie.Need-slice_bounds-load-start
 part-load-start c = search rules
 
 part-load-end : tie.Need-slice_bounds-load-end
-part-load-end c = omega (arith, ap backing_end (paged c).backing-1.given.1)
+part-load-end c = omega (arith, ap backing_end c.in-Image.is)
 
 load-requires : tie.Need-load-bytes-requires
 load-requires c κs = search rules
@@ -60,18 +47,14 @@ same_length : tie.Need-shape_of-pool-in-Anonymous
 same_length c = search rules
 
 returns : tie.Need-returns-in-Anonymous
-returns c = let clear = c.before.before in rw (cleared clear).in-Anonymous.is clear.clear_frame.ensures
+returns c = rw c.in-Anonymous.is c.clear_frame.ensures
 
 same-length-2 : tie.Need-shape_of-pool-in-Image
 same-length-2 c = search rules
 
 returns-2 : tie.Need-returns-in-Image
 returns-2 c =
-    let filled = c.before.before in
-    let load = loaded filled in
-    let page = paged load.before.before in
-    let known = page.backing-1.given in
-    rw (known.1, ← part-is-frame 256 (behind page).args.image.now known.0.0.0, ← load.load-bytes.ensures) filled.fill_frame.ensures
+    rw (c.in-Image.is, ← part-is-frame 256 c.args.image.now c.in-Image.page.0, ← c.load-bytes.ensures) c.fill_frame.ensures
 
 pub fill_frame_spec : {M : Type 1} → statement M
 fill_frame_spec =
