@@ -57,13 +57,13 @@ returns c =
     let starting = started (accepting playing.before) in
     let start = first starting in
     let image = start.args.image.now in
-    let w = world_of left.result left.last.1.1.0 left.last.1.1.1.0 in (
+    let w = world_of left.result left.new.sound left.new.pool in (
       record {
         world = w;
         input = subst (λ v. RollPlayed image v w) starting.start.ensures.1 left.ensures;
         archived = put.ensures;
       },
-      rw put.auto.1.1.1.1.1.0 (answered-fits image w start.args.sandbox start.args.out.now put.result _ put.ensures),
+      rw put.auto.out (answered-fits image w start.args.sandbox start.args.out.now put.result _ put.ensures),
     )
 
 pub perform_spec : {M : Type 1} → statement M

@@ -43,7 +43,7 @@ behind c = tested (freed (placed c))
 
 -- the store after that
 abbrev between : tie.After-front_index-at → Store
-between c = let f = (placed c).free_before-held in kept f.result f.last.1.0 f.last.1.1.0
+between c = let f = (placed c).free_before-held in kept f.result f.new.pool f.new.table
 
 -- ---- the needs
 

@@ -62,7 +62,7 @@ returns-2 c =
     let frame = framed (cleared c) in
     let a = (behind frame).args in
     let st : Store = kept a.held a.pool.now a.table.now in
-    free-some 256 a.at st frame.frame_of-f.result.0 c.without.result pool.last.0 frame.before.if-entry-eq0.false
+    free-some 256 a.at st frame.frame_of-f.result.0 c.without.result pool.new.pool frame.before.if-entry-eq0.false
     frame.frame_of-f.ensures c.without.ensures pool.ensures
 
 pub free_entry_spec : {M : Type 1} → statement M

@@ -51,7 +51,7 @@ returns-2 c =
     let branch = starting.before.before.before in
     let first = long branch in
     let made = starting.start-started in
-    let both = start-long first.args.image.now (hands first) made.result.answer made.result.machine made.last.0 made.last.1.0
+    let both = start-long first.args.image.now (hands first) made.result.answer made.result.machine made.new.pool made.new.table
     written.new.out branch.if-state-ne-STATE.false made.ensures.0 made.ensures.1 written.ensures in
     (c.number.ensures ∙ both.0, both.1)
 

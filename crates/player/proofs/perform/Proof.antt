@@ -129,8 +129,8 @@ loop-again c =
     let at = loop_of turning in
     let v = world_of got.result.machine (pool_after turning) (table_after turning) in (
       omega (arith, turning.loop-number-test.true),
-      got.auto.1.0 ∙ at.loop.invariant.1,
-      got.auto.1.1.0 ∙ at.loop.invariant.2,
+      got.auto.player ∙ at.loop.invariant.1,
+      got.auto.pool ∙ at.loop.invariant.2,
       one-turn-more (image_in at) (world_begun at) at.loop.number (world_at at) (turn_at turning) v at.loop.invariant.3
           got.ensures.0 got.result.more got.ensures.1 c.if-not-progress.false,
       known-answers _ (image_in at) at.loop.number (world_at at) (turn_at turning) v at.loop.invariant.4 got.ensures.0,

@@ -59,7 +59,7 @@ slice-reshare-prefix-write-all c =
     let playing = playing_of c in
     let reading = reading_of playing in
     let few = one_line reading in
-    omega (arith, few, c.lines_of-size.ensures, playing.play-after.kept.1.1.1.1.1.0, (start_of reading).requires.0.1)
+    omega (arith, few, c.lines_of-size.ensures, playing.play-after.auto.out, (start_of reading).requires.0.1)
 
 slice-aggregate-write-all : tie.Need-slice_bounds-write_all-end-2
 slice-aggregate-write-all c = sym (length-take-le _ _ (slice-reshare-prefix-write-all c.before))
@@ -91,9 +91,9 @@ returns c =
     let got = reading.read_full-got in
     let start = start_of reading in
     let image = start.args.image.now in
-    let reply = played.last.1.1.1.1.1.0 in
+    let reply = played.new.out in
     let w = world_of start.args.player.machine start.args.pool.now start.args.table.now in
-    let v = world_of played.result played.last.1.0 played.last.1.1.0 in (
+    let v = world_of played.result played.new.pool played.new.table in (
       turn-answers image got.last.1.0 start.args.reply.now reply start.args.player.line got.result writing.write_all-written.result w v
           start.requires.1.0 (few_bytes reading) (sym got.ensures.1) played.ensures,
       c.goes_on.ensures ∙ ap (λ n. writing.write_all-written.result && eqb n 43) got.ensures.1,

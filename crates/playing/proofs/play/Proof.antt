@@ -67,7 +67,7 @@ abbrev numbers_read : Read → List ℕ
 numbers_read c = c.read_lines.new.numbers
 
 length-read : (c : Read) → length (numbers_read c) ≡ many c * 8
-length-read c = c.read_lines.auto.1.0 ∙ length-take-le _ _ (room (counted c))
+length-read c = c.read_lines.auto.numbers ∙ length-take-le _ _ (room (counted c))
 
 -- all numbers, and those that are handed on
 abbrev numbers_then : Read → List ℕ
@@ -181,9 +181,9 @@ loop-again c =
     let s = start_of at in
     let inv = at.loop.invariant in (
       omega (arith, reply.ensures.2, block-lines read, (some read).1),
-      reply.auto.1.0 ∙ inv.1,
-      reply.auto.1.1.0 ∙ inv.2,
-      reply.auto.1.1.1.1.1.0 ∙ inv.3,
+      reply.auto.pool ∙ inv.1,
+      reply.auto.table ∙ inv.2,
+      reply.auto.out ∙ inv.3,
       length-then read,
       reply.ensures.1 ∙ inv.5,
       reply.ensures.3 ∙ inv.6,

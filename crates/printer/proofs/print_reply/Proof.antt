@@ -41,12 +41,12 @@ returns c =
     let number = number_put value in
     let line = line-put number in
     let a = (begun c).args in
-    let left = value.print_at-3.last.0 in
+    let left = value.print_at-3.new.out in
     let last = a.value ∷ [] in
     let later = a.number ∷ last in
     line-printed a.out.now left (a.line ∷ later) (begun c).requires.0
-    (field-then a.out.now line.print_at.last.0 left 0 a.line later line.print_at.ensures
-    (field-then line.print_at.last.0 number.print_at-2.last.0 left 1 a.number last number.print_at-2.ensures
+    (field-then a.out.now line.print_at.new.out left 0 a.line later line.print_at.ensures
+    (field-then line.print_at.new.out number.print_at-2.new.out left 1 a.number last number.print_at-2.ensures
     value.print_at-3.ensures))
 
 same_length : tie.Need-shape_of-out

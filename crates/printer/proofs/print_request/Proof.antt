@@ -37,16 +37,16 @@ begun c = c.before.before.before.before
 
 -- each field leaves the line as long as it was
 length-sandbox : (c : tie.After-print_at-2) → length c.print_at-2.new.out ≡ 43
-length-sandbox c = let code = code_put c in c.print_at-2.auto.0 ∙ code.print_at.kept.0 ∙ (begun code).requires
+length-sandbox c = let code = code_put c in c.print_at-2.auto.out ∙ code.print_at.auto.out ∙ (begun code).requires
 
 length-p3 : (c : tie.After-print_at-5) → length c.print_at-5.new.out ≡ 43
 length-p3 c =
     let p2 = p2-put c in
     let p1 = p1-put p2 in
-    c.print_at-5.auto.0 ∙ p2.print_at-4.kept.0 ∙ p1.print_at-3.kept.0 ∙ length-sandbox (sandbox-put p1)
+    c.print_at-5.auto.out ∙ p2.print_at-4.auto.out ∙ p1.print_at-3.auto.out ∙ length-sandbox (sandbox-put p1)
 
 length-p5 : (c : tie.After-print_at-7) → length c.print_at-7.new.out ≡ 43
-length-p5 c = let p4 = p4-put c in c.print_at-7.auto.0 ∙ p4.print_at-6.kept.0 ∙ length-p3 (p3-put p4)
+length-p5 c = let p4 = p4-put c in c.print_at-7.auto.out ∙ p4.print_at-6.auto.out ∙ length-p3 (p3-put p4)
 
 cast-print-at : tie.Need-overflow_cast-q
 cast-print-at c = search rules
@@ -90,7 +90,7 @@ cast-print-at-7 c = search rules
 print-at-requires-7 : tie.Need-print_at-requires-7
 print-at-requires-7 c κs =
     let p4 = c.before.before.before.before in
-    let long = p4.print_at-6.auto.0 ∙ length-p3 (p3-put p4) in
+    let long = p4.print_at-6.auto.out ∙ length-p3 (p3-put p4) in
     (omega (arith, long), search rules)
 
 slice-write-out : tie.Need-bounds-out-42
@@ -107,7 +107,7 @@ returns c =
     let sandbox = sandbox-put p1 in
     let code = code_put sandbox in
     let out = (begun code).args.out.now in
-    let left = p5.print_at-7.last.0 in
+    let left = p5.print_at-7.new.out in
     let q = (begun code).args.q in
     let from-p5 = q.p5 ∷ [] in
     let from-p4 = q.p4 ∷ from-p5 in
@@ -116,12 +116,12 @@ returns c =
     let from-p1 = q.p1 ∷ from-p2 in
     let from-sandbox = q.sandbox ∷ from-p1 in
     line-printed out left (numbers_of q) (begun code).requires
-    (field-then out code.print_at.last.0 left 0 q.code from-sandbox code.print_at.ensures
-    (field-then code.print_at.last.0 sandbox.print_at-2.last.0 left 1 q.sandbox from-p1 sandbox.print_at-2.ensures
-    (field-then sandbox.print_at-2.last.0 p1.print_at-3.last.0 left 2 q.p1 from-p2 p1.print_at-3.ensures
-    (field-then p1.print_at-3.last.0 p2.print_at-4.last.0 left 3 q.p2 from-p3 p2.print_at-4.ensures
-    (field-then p2.print_at-4.last.0 p3.print_at-5.last.0 left 4 q.p3 from-p4 p3.print_at-5.ensures
-    (field-then p3.print_at-5.last.0 p4.print_at-6.last.0 left 5 q.p4 from-p5 p4.print_at-6.ensures
+    (field-then out code.print_at.new.out left 0 q.code from-sandbox code.print_at.ensures
+    (field-then code.print_at.new.out sandbox.print_at-2.new.out left 1 q.sandbox from-p1 sandbox.print_at-2.ensures
+    (field-then sandbox.print_at-2.new.out p1.print_at-3.new.out left 2 q.p1 from-p2 p1.print_at-3.ensures
+    (field-then p1.print_at-3.new.out p2.print_at-4.new.out left 3 q.p2 from-p3 p2.print_at-4.ensures
+    (field-then p2.print_at-4.new.out p3.print_at-5.new.out left 4 q.p3 from-p4 p3.print_at-5.ensures
+    (field-then p3.print_at-5.new.out p4.print_at-6.new.out left 5 q.p4 from-p5 p4.print_at-6.ensures
     p5.print_at-7.ensures))))))
 
 same_length : tie.Need-shape_of-out

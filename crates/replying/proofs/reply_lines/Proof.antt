@@ -83,7 +83,7 @@ loop-again : tie.Need-loop-i-preserved-in-Refused Inv-loop μ-loop
 loop-again c =
     let printed = c.before.before in
     let way = printed.before.before in
-    go_on way.before _ _ _ _ _ (refused way) printed.print_answer.auto.0 printed.print_answer.ensures
+    go_on way.before _ _ _ _ _ (refused way) printed.print_answer.auto.out printed.print_answer.ensures
 
 enum-known-asked-2 : tie.Need-enum_known-asked-in-Call-1 Inv-loop μ-loop
 enum-known-asked-2 c = search rules
@@ -129,7 +129,7 @@ loop-again-2 : tie.Need-loop-i-preserved-then-q-eq-REWIND Inv-loop μ-loop
 loop-again-2 c =
     let printed = c.before.before in
     let way = printed.before.before in
-    go_on (asking (rewinding (rewound-at way).before)) _ _ _ _ _ (rewound way) printed.print_answer-then-q-eq-REWIND.auto.0 printed.print_answer-then-q-eq-REWIND.ensures
+    go_on (asking (rewinding (rewound-at way).before)) _ _ _ _ _ (rewound way) printed.print_answer-then-q-eq-REWIND.auto.out printed.print_answer-then-q-eq-REWIND.ensures
 
 answer-requires : tie.Need-answer-tried-requires Inv-loop μ-loop
 answer-requires c κs =
@@ -149,7 +149,7 @@ loop-again-3 : tie.Need-loop-i-preserved-then-tried Inv-loop μ-loop
 loop-again-3 c =
     let printed = c.before.before in
     let way = printed.before.before in
-    go_on (asking (told_at way.before.before.before)) _ _ _ _ _ (in_place way) printed.print_answer-then-tried.auto.0 printed.print_answer-then-tried.ensures
+    go_on (asking (told_at way.before.before.before)) _ _ _ _ _ (in_place way) printed.print_answer-then-tried.auto.out printed.print_answer-then-tried.ensures
 
 put-together-requires : tie.Need-put_together-all-requires Inv-loop μ-loop
 put-together-requires c κs = search rules
@@ -186,7 +186,7 @@ loop-again-4 : tie.Need-loop-i-preserved-then-q-eq-WRITE Inv-loop μ-loop
 loop-again-4 c =
     let printed = c.before.before in
     let way = printed.before.before in
-    go_on (asking (told_at (left_at (writing (written_at way).before)))) _ _ _ _ _ (written way) printed.print_answer-then-q-eq-WRITE.auto.0
+    go_on (asking (told_at (left_at (writing (written_at way).before)))) _ _ _ _ _ (written way) printed.print_answer-then-q-eq-WRITE.auto.out
     printed.print_answer-then-q-eq-WRITE.ensures
 
 act-requires : tie.Need-act-acted-requires Inv-loop μ-loop
@@ -218,7 +218,7 @@ loop-again-5 : tie.Need-loop-i-preserved Inv-loop μ-loop
 loop-again-5 c =
     let printed = c.before.before in
     let way = printed.before.before in
-    go_on (asking (told_at (left_at (acting (acted-at way).before)))) _ _ _ _ _ (acted way) printed.print_answer-in-Call.auto.0
+    go_on (asking (told_at (left_at (acting (acted-at way).before)))) _ _ _ _ _ (acted way) printed.print_answer-in-Call.auto.out
     printed.print_answer-in-Call.ensures
 
 same_length : tie.Need-shape_of-pool Inv-loop μ-loop

@@ -45,7 +45,7 @@ returns : tie.Need-returns-then-out-lines
 returns c =
     let start = start_of (counted_no c).before in
     let counted = (counted_no c).put_roll-lines in
-    too_long start.args.out.now counted.last.0 counted.result (roll start) counted.ensures (omega (arith, c.if-out-lines.true))
+    too_long start.args.out.now counted.new.out counted.result (roll start) counted.ensures (omega (arith, c.if-out-lines.true))
 
 put-roll-requires-2 : tie.Need-put_roll-requires
 put-roll-requires-2 c κs =
@@ -53,7 +53,7 @@ put-roll-requires-2 c κs =
     let start = start_of (counted_yes branch).before in
     let counted = (counted_yes branch).put_roll-lines in (
       start.requires,
-      fits-room start.args.out.now counted.last.0 counted.result (roll start) counted.ensures
+      fits-room start.args.out.now counted.new.out counted.result (roll start) counted.ensures
           (omega (arith, branch.if-out-lines.false)) (most start),
     )
 
@@ -67,7 +67,7 @@ returns-2 c =
     let start = start_of (counted_yes branch).before in
     let counted = (counted_yes branch).put_roll-lines in
     let written = writing.put_roll in
-    fits_in start.args.out.now counted.last.0 counted.result (roll start) counted.ensures
+    fits_in start.args.out.now counted.new.out counted.result (roll start) counted.ensures
     (omega (arith, branch.if-out-lines.false)) written.result written.new.out written.ensures
 
 pub put_fitting_spec : {M : Type 1} → statement M

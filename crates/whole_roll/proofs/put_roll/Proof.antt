@@ -85,7 +85,7 @@ behind_open c = (made_lines (first_line c)).before.before.before.before.before.b
 
 opened : (c : tie.After-put_maps-arg-1) → let s = behind_open c in
     let line = (first_line c).put_line-opened in
-    placed line.result line.last.0 ≡ put (to s) (out s) (start s)
+    placed line.result line.new.out ≡ put (to s) (out s) (start s)
 opened c =
     let s = behind_open c in
     let first = (made_lines (first_line c)).before.line in
@@ -102,7 +102,7 @@ mapped c =
     let s = behind_maps c in
     let line = (first_line before).put_line-opened in
     let lines = (map_lines c).put_maps-mapped in
-    next-put (to s) line.result (out s) line.last.0 (start s) (maps_of s.args.snapshot) (maps s) (opened before)
+    next-put (to s) line.result (out s) line.new.out (start s) (maps_of s.args.snapshot) (maps s) (opened before)
     lines.result lines.last.1.0 lines.ensures
 
 abbrev behind_writes : tie.After-put_protects-arg-1 → tie.Start
@@ -148,7 +148,7 @@ put-maps-requires : tie.Need-put_maps-mapped-requires
 put-maps-requires c κs =
     let s = behind_open c in
     let line = (first_line c).put_line-opened in
-    next-room (to s) line.result (out s) line.last.0 (start s) (maps_of s.args.snapshot) (maps s) (opened c)
+    next-room (to s) line.result (out s) line.new.out (start s) (maps_of s.args.snapshot) (maps s) (opened c)
 
 put-writes-requires : tie.Need-put_writes-written-requires
 put-writes-requires c κs =

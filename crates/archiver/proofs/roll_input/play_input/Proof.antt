@@ -125,8 +125,8 @@ loop-again c =
     let low : at.loop.number ≤ 65535 = omega (arith, reading.before.before.loop-number-test.true) in
     let whole : got.result ≡ 43 = whole-line got.result told.result told.ensures c.if-not-is_whole.false-raw in (
       omega (arith, low),
-      playing.play-state.auto.1.0 ∙ at.loop.invariant.1,
-      playing.play-state.auto.1.1.0 ∙ at.loop.invariant.2,
+      playing.play-state.auto.pool ∙ at.loop.invariant.1,
+      playing.play-state.auto.table ∙ at.loop.invariant.2,
       one_more (image_in at) (world_begun at) at.loop.number (world_at at) at.loop.invariant.3 low _ _ _ (world_after playing) (sym got.ensures.1 ∙ whole)
           playing.play-state.ensures,
     )

@@ -105,7 +105,7 @@ returns-2 c =
     let request = (asking branch.before).request-q in
     rw (← request.ensures)
     (call-stepped first.args.image.now (hands first) request.result bytes (a-state branch)
-    decoding.decode.result reply.result c.by.result encoding.last.1.0 reply.last.1.0 reply.last.1.1.0
+    decoding.decode.result reply.result c.by.result encoding.new.out reply.last.1.0 reply.last.1.1.0
     decoding.decode.ensures reply.ensures encoding.ensures c.by.ensures)
 
 pub gazhuppin_call_spec : {M : Type 1} → statement M
