@@ -2,7 +2,6 @@
 use mathlib.Core.Path.{◌≡◌, sym, ◌∙◌}
 use mathlib.Core.Bool.{true}
 use borrow.Author.Rules.{rules}
-use borrow.Author.Tests.{not-true, not-false}
 use Rattle.areas.specs.Formed.{well_formed}
 use Rattle.record_soundness.proofs.ReturnLaws.{tested-formed, present-fails, snapshot-fails, charge-fails, fields-decide}
 use Rattle.record_soundness.proofs.record_ok.Statement.{statement}
@@ -17,27 +16,24 @@ start2 c = start1 c.before.before.before
 
 -- what each says
 present-hold : (c : tie.Else-not-well_formed) → well_formed (start1 c).args.images (start1 c).args.rec.present ≡ true
-present-hold c = sym c.well-formed.ensures.0 ∙ not-false c.well-formed.result c.if-not-well_formed.false
+present-hold c = sym c.well_formed-2.ensures.0 ∙ c.if-not-well_formed.false
 
 snapshot-hold : (c : tie.Else-not-well_formed-2) → well_formed (start2 c).args.images (start2 c).args.rec.snapshot ≡ true
-snapshot-hold c = sym c.well-formed2.ensures.0 ∙ not-false c.well-formed2.result c.if-not-well_formed-2.false
+snapshot-hold c = sym c.well_formed-3.ensures.0 ∙ c.if-not-well_formed-2.false
 
 well-formed-requires : tie.Need-well_formed-requires
 well-formed-requires c κs = search rules
 
--- the way back from where a fact is needed to where it was learned
-abbrev start-of-well-formed : tie.After-well-formed → tie.Start
-start-of-well-formed c = c.before.before
-
 returns : tie.Need-returns-then-not-well_formed
 returns c =
-    let a = (start-of-well-formed c.before).args in
-    present-fails a.images a.rec (sym c.well-formed.ensures.0 ∙ not-true c.well-formed.result c.if-not-well_formed.true)
+    let a = c.args in
+    present-fails a.images a.rec (sym c.well_formed-2.ensures.0 ∙ c.if-not-well_formed.true)
 
 well-formed-requires-2 : tie.Need-well_formed-requires-2
 well-formed-requires-2 c κs = search rules
 
-abbrev else1-of-well-formed2 : tie.After-well_formed-2 → tie.Else-not-well_formed
+-- the way back from where a fact is needed to where it was learned
+abbrev else1-of-well-formed2 : tie.After-well_formed-3 → tie.Else-not-well_formed
 else1-of-well-formed2 c = c.before.before
 
 returns-2 : tie.Need-returns-then-not-well_formed-2
@@ -45,7 +41,7 @@ returns-2 c =
     let p = else1-of-well-formed2 c.before in
     let a = (start1 p).args in
     snapshot-fails a.images a.rec (present-hold p)
-    (sym c.well-formed2.ensures.0 ∙ not-true c.well-formed2.result c.if-not-well_formed-2.true)
+    (sym c.well_formed-3.ensures.0 ∙ c.if-not-well_formed-2.true)
 
 abbrev else1-of-else2 : tie.Else-not-well_formed-2 → tie.Else-not-well_formed
 else1-of-else2 c = else1-of-well-formed2 c.before
