@@ -10,7 +10,7 @@ use Rattle.archiver.proofs.perform.Tie as tie
 
 -- where the archive roll has been written, the roll played, the start's answer told, the machine started, and before that
 abbrev lent : tie.After-write_archive → tie.After-slice_known-7-1
-lent c = c.before.before.before.before
+lent c = c.before.before
 
 abbrev played : tie.After-write_archive → tie.After-play_input-machine
 played c = (lent c).before.before.before.before
@@ -33,7 +33,7 @@ accepted-requires c κs = search rules
 play-input-requires : tie.Need-play_input-machine-requires
 play-input-requires c κs =
     let told = (accepting c).accepted-sound in
-    let start = (started (accepting c)).start in
+    let start = (started (accepting c)).start-begun in
     let a = (first (started (accepting c))).args in
     known_start a.pool.now a.table.now a.image.now start.result.answer told.result _ start.ensures.0 told.ensures start.ensures.1
 
@@ -60,7 +60,7 @@ returns c =
     let w = world_of left.result left.new.sound left.new.pool in (
       record {
         world = w;
-        input = subst (λ v. RollPlayed image v w) starting.start.ensures.1 left.ensures;
+        input = subst (λ v. RollPlayed image v w) starting.start-begun.ensures.1 left.ensures;
         archived = put.ensures;
       },
       rw put.auto.out (answered-fits image w start.args.sandbox start.args.out.now put.result _ put.ensures),

@@ -56,7 +56,7 @@ accepted-requires c κs = search rules
 play-requires : tie.Need-play-requires
 play-requires c κs =
     let told = (accepting c).accepted-sound in
-    let start = (started (accepting c)).start in
+    let start = (started (accepting c)).start-begun in
     let branch = roomy (started (accepting c)) in
     let a = (start_of branch.before.before).args in
     let lines = few-lines (length a.roll.now) in (
@@ -84,7 +84,7 @@ returns-2 c =
     let branch = roomy starting in
     let first = start_of branch.before.before in
     room-for-all first.args.image.now first.args.roll.now (lent first) _ branch.room_for-room.result.lines _ _
-    (has_room branch).0 (has_room branch).1 starting.start.ensures.1 playing.play.ensures
+    (has_room branch).0 (has_room branch).1 starting.start-begun.ensures.1 playing.play.ensures
 
 pub gazhuppin_play_spec : {M : Type 1} → statement M
 gazhuppin_play_spec =

@@ -75,7 +75,7 @@ abbrev told_as : tie.In-Accepted → tie.After-decide-decision
 told_as c = deciding c.before
 
 abbrev valued_of : tie.After-value_of-value → tie.In-Accepted
-valued_of c = c.before.before
+valued_of c = c.before
 
 abbrev stored_of : tie.After-store_after-left → tie.After-value_of-value
 stored_of c = c.before.before.before
@@ -150,8 +150,8 @@ returns-2 c row a =
     let decided = told_as told in
     let s = start_of decided in
     let e = told.in-Accepted.is in
-    acted-accepted s.args.image.now s.args.q s.args.b s.args.all (store_in s) row a valued.value_of.result _ _
-    stored.store_after-left.result.runs (accepted-here decided e row a) (valued.value_of.ensures s.args.all.held)
+    acted-accepted s.args.image.now s.args.q s.args.b s.args.all (store_in s) row a valued.value_of-value.result _ _
+    stored.store_after-left.result.runs (accepted-here decided e row a) (valued.value_of-value.ensures s.args.all.held)
     (c.record_after-after.ensures ∙ ap (λ (present : Areas). record_with s.args.q present s.args.b.rec) (areas-here decided e))
     (stored.store_after-left.ensures row (asked_here decided e row a))
 

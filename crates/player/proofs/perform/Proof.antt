@@ -49,7 +49,7 @@ from_start c pool table written = subst (λ x. Talked (image_in c) x pool table 
 
 -- the world that a turn meets
 abbrev world_at : AtLoop → World
-world_at c = world_of c.loop.machine c.loop.pool c.loop.table
+world_at c = world_of c.loop-number.machine c.loop-number.pool c.loop-number.table
 
 -- ---- what a turn leaves
 
@@ -60,13 +60,13 @@ abbrev loop_of : AfterTurn → AtLoop
 loop_of c = c.before.before.before.before.before.before
 
 abbrev pool_after : AfterTurn → List ℕ
-pool_after c = c.turn.new.1.0
+pool_after c = c.turn-progress.new.1.0
 
 abbrev table_after : AfterTurn → List ℕ
-table_after c = c.turn.new.1.1.0
+table_after c = c.turn-progress.new.1.1.0
 
 abbrev turn_at : AfterTurn → Turn
-turn_at c = turn_of c.turn.result c.turn.new.1.1.1.1.0 c.turn.new.1.1.1.1.1.0
+turn_at c = turn_of c.turn-progress.result c.turn-progress.new.1.1.1.1.0 c.turn-progress.new.1.1.1.1.1.0
 
 -- ---- the needs
 
@@ -113,7 +113,7 @@ returns c =
     let got = turning.turn-progress in
     let at = loop_of turning in
     from_start at (pool_after turning) (table_after turning) got.result.written
-    (ended_by (image_in at) (world_begun at) at.loop.number (world_at at) at.loop.invariant.3 got.result.machine (pool_after turning) (table_after turning)
+    (ended_by (image_in at) (world_begun at) at.loop-number.number (world_at at) at.loop-number.invariant.3 got.result.machine (pool_after turning) (table_after turning)
     (turn_at turning) got.ensures.0 got.result.more got.ensures.1 c.if-not-progress.true)
 
 add-number : tie.Need-overflow_add-number invariant-loop decreases-loop
@@ -129,11 +129,11 @@ loop-again c =
     let at = loop_of turning in
     let v = world_of got.result.machine (pool_after turning) (table_after turning) in (
       omega (arith, turning.loop-number-test.true),
-      got.auto.player ∙ at.loop.invariant.1,
-      got.auto.pool ∙ at.loop.invariant.2,
-      one-turn-more (image_in at) (world_begun at) at.loop.number (world_at at) (turn_at turning) v at.loop.invariant.3
+      got.auto.player ∙ at.loop-number.invariant.1,
+      got.auto.pool ∙ at.loop-number.invariant.2,
+      one-turn-more (image_in at) (world_begun at) at.loop-number.number (world_at at) (turn_at turning) v at.loop-number.invariant.3
           got.ensures.0 got.result.more got.ensures.1 c.if-not-progress.false,
-      known-answers _ (image_in at) at.loop.number (world_at at) (turn_at turning) v at.loop.invariant.4 got.ensures.0,
+      known-answers _ (image_in at) at.loop-number.number (world_at at) (turn_at turning) v at.loop-number.invariant.4 got.ensures.0,
     )
 
 same-length-3 : tie.Need-shape_of-pool invariant-loop decreases-loop

@@ -19,7 +19,7 @@ abbrev start_of : tie.After-read_full-got → tie.Start
 start_of c = c.before.before.before.before.before.before.before
 
 abbrev reading_of : tie.After-play-after → tie.After-read_full-got
-reading_of c = c.before.before.before.before.before.before.before
+reading_of c = c.before.before.before.before.before.before
 
 abbrev playing_of : tie.After-lines_of-size → tie.After-play-after
 playing_of c = c.before.before.before.before.before.before.before
@@ -46,7 +46,7 @@ play-requires c κs =
     let reading = c.before.before.before.before.before.before in
     let start = start_of reading in
     let few = one_line reading in
-    rw (← reading.read-full.ensures.1) (omega (arith, few, start.requires.0.1), (omega (arith, few, start.requires.1.0), start.requires.1.1))
+    rw (← reading.read_full-got.ensures.1) (omega (arith, few, start.requires.0.1), (omega (arith, few, start.requires.1.0), start.requires.1.1))
 
 lines-of-requires : tie.Need-lines_of-size-requires
 lines-of-requires c κs = search rules

@@ -88,7 +88,7 @@ opened : (c : tie.After-put_maps-arg-1) → let s = behind_open c in
     placed line.result line.new.out ≡ put (to s) (out s) (start s)
 opened c =
     let s = behind_open c in
-    let first = (made_lines (first_line c)).before.line in
+    let first = (made_lines (first_line c)).before.line-opening in
     (first_line c).put_line-opened.ensures ∙ ap (λ (q : Request). put (to s) (out s) (q ∷ [])) first.ensures
 
 abbrev behind_maps : tie.After-put_writes-arg-1 → tie.Start
@@ -96,42 +96,42 @@ behind_maps c = behind_open (map_lines c).before
 
 mapped : (c : tie.After-put_writes-arg-1) → let s = behind_maps c in
     let lines = (map_lines c).put_maps-mapped in
-    placed lines.result lines.last.1.0 ≡ put (to s) (out s) (to_maps s.args.snapshot)
+    placed lines.result lines.new.out ≡ put (to s) (out s) (to_maps s.args.snapshot)
 mapped c =
     let before = (map_lines c).before in
     let s = behind_maps c in
     let line = (first_line before).put_line-opened in
     let lines = (map_lines c).put_maps-mapped in
     next-put (to s) line.result (out s) line.new.out (start s) (maps_of s.args.snapshot) (maps s) (opened before)
-    lines.result lines.last.1.0 lines.ensures
+    lines.result lines.new.out lines.ensures
 
 abbrev behind_writes : tie.After-put_protects-arg-1 → tie.Start
 behind_writes c = behind_maps (write_lines c).before
 
 wrote : (c : tie.After-put_protects-arg-1) → let s = behind_writes c in
     let lines = (write_lines c).put_writes-written in
-    placed lines.result lines.last.1.1.1.1.0 ≡ put (to s) (out s) (until_writes s)
+    placed lines.result lines.new.out ≡ put (to s) (out s) (until_writes s)
 wrote c =
     let before = (write_lines c).before in
     let s = behind_writes c in
     let last = (map_lines before).put_maps-mapped in
     let lines = (write_lines c).put_writes-written in
-    next-put (to s) last.result (out s) last.last.1.0 (to_maps s.args.snapshot) (writes s) (written s) (mapped before)
-    lines.result lines.last.1.1.1.1.0 lines.ensures
+    next-put (to s) last.result (out s) last.new.out (to_maps s.args.snapshot) (writes s) (written s) (mapped before)
+    lines.result lines.new.out lines.ensures
 
 abbrev behind_protects : tie.After-put_line-arg-2-1 → tie.Start
 behind_protects c = behind_writes (protect_lines c).before
 
 locked : (c : tie.After-put_line-arg-2-1) → let s = behind_protects c in
     let lines = (protect_lines c).put_protects-protected in
-    placed lines.result lines.last.1.0 ≡ put (to s) (out s) (until_protects s)
+    placed lines.result lines.new.out ≡ put (to s) (out s) (until_protects s)
 locked c =
     let before = (protect_lines c).before in
     let s = behind_protects c in
     let last = (write_lines before).put_writes-written in
     let lines = (protect_lines c).put_protects-protected in
-    next-put (to s) last.result (out s) last.last.1.1.1.1.0 (until_writes s) (protects_of s.args.snapshot) (protected s) (wrote before)
-    lines.result lines.last.1.0 lines.ensures
+    next-put (to s) last.result (out s) last.new.out (until_writes s) (protects_of s.args.snapshot) (protected s) (wrote before)
+    lines.result lines.new.out lines.ensures
 
 -- the needs
 
@@ -154,20 +154,20 @@ put-writes-requires : tie.Need-put_writes-written-requires
 put-writes-requires c κs =
     let s = behind_maps c in
     let last = (map_lines c).put_maps-mapped in
-    (s.requires.0, next-room (to s) last.result (out s) last.last.1.0 (to_maps s.args.snapshot) (writes s) (written s) (mapped c))
+    (s.requires.0, next-room (to s) last.result (out s) last.new.out (to_maps s.args.snapshot) (writes s) (written s) (mapped c))
 
 put-protects-requires : tie.Need-put_protects-protected-requires
 put-protects-requires c κs =
     let s = behind_writes c in
     let last = (write_lines c).put_writes-written in
-    next-room (to s) last.result (out s) last.last.1.1.1.1.0 (until_writes s) (protects_of s.args.snapshot) (protected s) (wrote c)
+    next-room (to s) last.result (out s) last.new.out (until_writes s) (protects_of s.args.snapshot) (protected s) (wrote c)
 
 put-line-requires-2 : tie.Need-put_line-requires
 put-line-requires-2 c κs =
     let s = behind_protects c in
     let last = (protect_lines c).put_protects-protected in
     rw (lines_made c).line-closing.ensures
-    (next-room (to s) last.result (out s) last.last.1.0 (until_protects s) (closing s.args.snapshot.sandbox) (all s) (locked c))
+    (next-room (to s) last.result (out s) last.new.out (until_protects s) (closing s.args.snapshot.sandbox) (all s) (locked c))
 
 same_length : tie.Need-shape_of-out
 same_length c = search rules
@@ -178,9 +178,9 @@ returns c =
     let s = behind_protects before in
     let last = (protect_lines before).put_protects-protected in
     let closed = c.put_line in
-    next-put (to s) last.result (out s) last.last.1.0 (until_protects s) (closing s.args.snapshot.sandbox) (all s) (locked before)
+    next-put (to s) last.result (out s) last.new.out (until_protects s) (closing s.args.snapshot.sandbox) (all s) (locked before)
     closed.result closed.new.out
-    (closed.ensures ∙ ap (λ (q : Request). put last.result last.last.1.0 (q ∷ [])) (lines_made before).line-closing.ensures)
+    (closed.ensures ∙ ap (λ (q : Request). put last.result last.new.out (q ∷ [])) (lines_made before).line-closing.ensures)
     ∙ whole s.args.image.now s.args.pool.now s.args.table.now s.args.snapshot (to s) (out s)
 
 pub put_roll_spec : {M : Type 1} → statement M

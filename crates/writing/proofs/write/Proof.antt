@@ -33,7 +33,7 @@ abbrev behind : tie.After-touch-left → tie.Start
 behind c = c.before.before.before.before.before.before
 
 abbrev touched : tie.After-struct_known-4-1 → tie.After-touch-left
-touched c = c.before.before.before.before.before.before.before.before.before.before
+touched c = c.before.before.before.before.before.before.before.before.before
 
 -- ---- the needs
 

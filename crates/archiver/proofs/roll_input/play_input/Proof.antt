@@ -26,7 +26,7 @@ AtLoop = tie.At-loop-number invariant-loop decreases-loop
 
 -- the world that a line meets
 abbrev world_at : AtLoop → World
-world_at c = world_of c.loop.state c.loop.pool c.loop.table
+world_at c = world_of c.loop-number.state c.loop-number.pool c.loop-number.table
 
 -- and the one that the roll met
 abbrev start_of : AtLoop → tie.Start invariant-loop decreases-loop
@@ -58,7 +58,7 @@ abbrev read_of : AfterPlay → AfterRead
 read_of c = c.before.before.before.before.before.before
 
 abbrev world_after : AfterPlay → World
-world_after c = world_of c.play.result c.play.new.1.0 c.play.new.1.1.0
+world_after c = world_of c.play-state.result c.play-state.new.1.0 c.play-state.new.1.1.0
 
 -- ---- the needs
 
@@ -86,8 +86,8 @@ play-requires c κs =
     let at = loop_of reading in
     let few = few-lines reading.read_full-got.result (few_bytes reading) in
     let start = start_of at in
-    let known = known-so-far (image_in at) (world_begun at) at.loop.number (world_at at) at.loop.invariant.3 start.args.sound start.requires in
-    rw (← reading.read_full-got.ensures.1) (omega (arith, few), (omega (arith, few, at.loop.invariant.0), known))
+    let known = known-so-far (image_in at) (world_begun at) at.loop-number.number (world_at at) at.loop-number.invariant.3 start.args.sound start.requires in
+    rw (← reading.read_full-got.ensures.1) (omega (arith, few), (omega (arith, few, at.loop-number.invariant.0), known))
 
 is-whole-requires : tie.Need-is_whole-requires invariant-loop decreases-loop
 is-whole-requires c κs = search rules
@@ -104,8 +104,8 @@ returns c =
     let playing = c.before.before.before.before.before.before.before in
     let reading = read_of playing in
     let at = loop_of reading in
-    let low : at.loop.number ≤ 65535 = omega (arith, reading.before.before.loop-number-test.true) in
-    ended (image_in at) (world_begun at) at.loop.number (world_at at) at.loop.invariant.3 low _ _ _ (world_after playing)
+    let low : at.loop-number.number ≤ 65535 = omega (arith, reading.before.before.loop-number-test.true) in
+    ended (image_in at) (world_begun at) at.loop-number.number (world_at at) at.loop-number.invariant.3 low _ _ _ (world_after playing)
     (rw (← reading.read_full-got.ensures.1) (short-line reading.read_full-got.result told.result told.ensures (few_bytes reading) c.if-not-is_whole.true-raw))
     playing.play-state.ensures
 
@@ -122,12 +122,12 @@ loop-again c =
     let reading = read_of playing in
     let at = loop_of reading in
     let got = reading.read_full-got in
-    let low : at.loop.number ≤ 65535 = omega (arith, reading.before.before.loop-number-test.true) in
+    let low : at.loop-number.number ≤ 65535 = omega (arith, reading.before.before.loop-number-test.true) in
     let whole : got.result ≡ 43 = whole-line got.result told.result told.ensures c.if-not-is_whole.false-raw in (
       omega (arith, low),
-      playing.play-state.auto.pool ∙ at.loop.invariant.1,
-      playing.play-state.auto.table ∙ at.loop.invariant.2,
-      one_more (image_in at) (world_begun at) at.loop.number (world_at at) at.loop.invariant.3 low _ _ _ (world_after playing) (sym got.ensures.1 ∙ whole)
+      playing.play-state.auto.pool ∙ at.loop-number.invariant.1,
+      playing.play-state.auto.table ∙ at.loop-number.invariant.2,
+      one_more (image_in at) (world_begun at) at.loop-number.number (world_at at) at.loop-number.invariant.3 low _ _ _ (world_after playing) (sym got.ensures.1 ∙ whole)
           playing.play-state.ensures,
     )
 

@@ -13,7 +13,7 @@ same_length c = search rules
 
 returns : tie.Need-returns-then-are_empty
 returns c =
-    let a = c.before.before.before.before.before.args in
+    let a = c.args in
     sym (free_to-none 256 a.at _ 8 (empty-at a.table.now a.at 8 _ c.are_empty.ensures c.if-are_empty.true))
 
 free-each-requires : tie.Need-free_each-requires

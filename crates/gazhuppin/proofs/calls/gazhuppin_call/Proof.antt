@@ -18,7 +18,7 @@ abbrev hands : tie.Start → Handed
 hands c = handed c.args.state.now c.args.pool.now c.args.table.now
 
 abbrev asking : tie.After-is_state → tie.After-request-q
-asking c = c.before.before
+asking c = c.before
 
 abbrev start : tie.After-request-q → tie.Start
 start c = c.before.before.before.before.before
@@ -30,7 +30,7 @@ abbrev behind_yes : tie.Else-not-is_state → tie.Start
 behind_yes c = start (asking c.before)
 
 abbrev passed : tie.After-decode → tie.Else-not-is_state
-passed c = c.before.before
+passed c = c.before
 
 abbrev decoded : tie.After-call-reply → tie.After-decode
 decoded c = c.before.before.before
@@ -101,7 +101,7 @@ returns-2 c =
     let first = behind_yes branch in
     let known = (asking branch.before).slice_known-1.given in
     let bytes : Bytes first.args.state.now = record { at = λ i. omega (arith, known i) } in
-    let reply = calling.call in
+    let reply = calling.call-reply in
     let request = (asking branch.before).request-q in
     rw (← request.ensures)
     (call-stepped first.args.image.now (hands first) request.result bytes (a-state branch)
