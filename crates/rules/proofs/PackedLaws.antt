@@ -19,17 +19,17 @@ use Rattle.rules.specs.After.{packed_after}
 
 module _ (q : Request) (b : Record) (r : Packed) where
   pub packed-map : q.code ≡ map_code → (first : ℕ) (t : Attributes) → first ≡ first_of (slots b.present) q → t ≡ new_page q
-      → r ≡ pack (changed (slots b.present) first q.p2 (Change.map_code t)) → r ≡ packed_after q b
+      → r ≡ pack (changed (slots b.present) first q.p2 (Change.Map t)) → r ≡ packed_after q b
   unfolding packed_after slots_after
   packed-map e first t f n h =
       let map : (q is map_code) ≡ true = rw e in
       rw map (rw (f, n) at h)
 
-  pub packed-unmap : q.code ≡ unmap_code → r ≡ pack (changed (slots b.present) q.p1 q.p2 Change.unmap_code) → r ≡ packed_after q b
+  pub packed-unmap : q.code ≡ unmap_code → r ≡ pack (changed (slots b.present) q.p1 q.p2 Change.Unmap) → r ≡ packed_after q b
   unfolding packed_after slots_after
   packed-unmap e h = rw e h
 
-  pub packed-protect : q.code ≡ protect_code → r ≡ pack (changed (slots b.present) q.p1 q.p2 (Change.protect_code q.p3)) → r ≡ packed_after q b
+  pub packed-protect : q.code ≡ protect_code → r ≡ pack (changed (slots b.present) q.p1 q.p2 (Change.Protect q.p3)) → r ≡ packed_after q b
   unfolding packed_after slots_after
   packed-protect e h = rw e h
 
