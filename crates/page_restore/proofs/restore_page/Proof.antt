@@ -25,24 +25,24 @@ behind c = c.before.before.before.before.before.before
 
 -- the entries
 abbrev front : tie.After-case_of → ℕ
-front c = let a = (behind c).args in get_or a.table.now a.at 0
+front c = let a = c.args in get_or a.table.now a.at 0
 
 abbrev back : tie.After-case_of → ℕ
-back c = let a = (behind c).args in get_or a.table.now (a.at + 64) 0
+back c = let a = c.args in get_or a.table.now (a.at + 64) 0
 
 -- the store, with any marks
 abbrev st : tie.After-case_of → Held → Store
-st c h = let a = (behind c).args in kept h a.pool.now a.table.now
+st c h = let a = c.args in kept h a.pool.now a.table.now
 
 is : (c : tie.After-case_of) (k : RewindCase) → c.case_of.result ≡ k → k ≡ case_of (front c) (back c) (behind c).args.backing
 is c k e = sym e ∙ c.case_of.ensures
 
 meets : (c : tie.After-case_of) (k : RewindCase) → c.case_of.result ≡ k → Meets (front c) (back c) (behind c).args.backing k
-meets c k e = met (front c) (back c) (behind c).args.backing k (is c k e)
+meets c k e = met (front c) (back c) c.args.backing k (is c k e)
 
 -- what is left of the pool and what is told, whatever marks there are
 abbrev Left : tie.After-case_of → List ℕ → Bool → Type 0
-Left c pool d = (h : Held) → let a = (behind c).args in Restored a.image.now a.at (a.at + 64) a.backing (st c h) pool d
+Left c pool d = (h : Held) → let a = c.args in Restored a.image.now a.at (a.at + 64) a.backing (st c h) pool d
 
 -- ---- the needs
 
@@ -72,26 +72,22 @@ enum-told-2 c = search rules
 
 frame-of-requires : tie.Need-frame_of-requires
 frame-of-requires c κs =
-    let told = c.before in
-    let found = told.before in
-    let m = meets found Copied told.in-Copied.is in
-    (omega (arith, m.0, m.1), (behind found).requires.1.0.few _)
+    let found = c.before.before in
+    let m = meets found Copied c.in-Copied.is in
+    (omega (arith, m.0, m.1), c.requires.1.0.few _)
 
 frame-of-requires-2 : tie.Need-frame_of-requires-in-Copied
 frame-of-requires-2 c κs =
-    let told = c.before.before in
-    let found = told.before in
-    let m = meets found Copied told.in-Copied.is in
-    (omega (arith, m.0, m.1), (behind found).requires.1.0.few _)
+    let found = c.before.before.before in
+    let m = meets found Copied c.in-Copied.is in
+    (omega (arith, m.0, m.1), c.requires.1.0.few _)
 
 restore-from-requires : tie.Need-restore_from-requires
 restore-from-requires c κs =
-    let told = c.before.before.before in
-    let found = told.before in
-    let s = behind found in
-    let m = meets found Copied told.in-Copied.is in
-    let front-room = s.requires.1.0.room s.args.at in
-    let back-room = s.requires.1.0.room (s.args.at + 64) in (
+    let found = c.before.before.before.before in
+    let m = meets found Copied c.in-Copied.is in
+    let front-room = c.requires.1.0.room c.args.at in
+    let back-room = c.requires.1.0.room (c.args.at + 64) in (
       omega (arith, c.frame_of.ensures, m.0, m.1, front-room, back-room),
       omega (arith, c.frame_of-in-Copied.ensures, m.0, m.1, front-room, back-room),
     )
@@ -101,42 +97,34 @@ enum-told-3 c = search rules
 
 frame-of-requires-3 : tie.Need-frame_of-requires-in-Zeroed
 frame-of-requires-3 c κs =
-    let told = c.before in
-    let found = told.before in
-    let s = behind found in
-    ((meets found Zeroed told.in-Zeroed.is).0, s.requires.1.0.few s.args.at)
+    let found = c.before.before in
+    ((meets found Zeroed c.in-Zeroed.is).0, c.requires.1.0.few c.args.at)
 
 restore-zeros-requires : tie.Need-restore_zeros-requires
 restore-zeros-requires c κs =
-    let told = c.before.before in
-    let found = told.before in
-    let s = behind found in
-    omega (arith, c.frame_of-in-Zeroed.ensures, (meets found Zeroed told.in-Zeroed.is).0, s.requires.1.0.room s.args.at)
+    let found = c.before.before.before in
+    omega (arith, c.frame_of-in-Zeroed.ensures, (meets found Zeroed c.in-Zeroed.is).0, c.requires.1.0.room c.args.at)
 
 enum-known-page : tie.Need-enum_known-page
 enum-known-page c = search rules
 
 frame-of-requires-4 : tie.Need-frame_of-requires-in-ImagePage
 frame-of-requires-4 c κs =
-    let told = c.before in
-    let found = told.before in
-    let s = behind found in
-    ((meets found (ImagePage told.in-ImagePage.page) told.in-ImagePage.is).0, s.requires.1.0.few s.args.at)
+    let found = c.before.before in
+    ((meets found (ImagePage c.in-ImagePage.page) c.in-ImagePage.is).0, c.requires.1.0.few c.args.at)
 
 restore-image-requires : tie.Need-restore_image-requires
 restore-image-requires c κs =
-    let told = c.before.before in
-    let found = told.before in
-    let s = behind found in
-    let m = meets found (ImagePage told.in-ImagePage.page) told.in-ImagePage.is in (
-      omega (arith, c.frame_of-in-ImagePage.ensures, m.0, s.requires.1.0.room s.args.at),
-      omega (arith, ap backing_end m.2, s.requires.1.1),
+    let found = c.before.before.before in
+    let m = meets found (ImagePage c.in-ImagePage.page) c.in-ImagePage.is in (
+      omega (arith, c.frame_of-in-ImagePage.ensures, m.0, c.requires.1.0.room c.args.at),
+      omega (arith, ap backing_end m.2, c.requires.1.1),
     )
 
 returns : tie.Need-returns-in-Shared
 returns c =
     let found = c.before in
-    let a = (behind found).args in
+    let a = c.args in
     let left : Left found a.pool.now false =
     λ h. shared-left a.image.now a.at (a.at + 64) a.backing (st found h) (is found Shared c.in-Shared.is) in
     (λ h. (left h).0, λ h. (left h).1)
@@ -146,15 +134,13 @@ same_length c = search rules
 
 returns-2 : tie.Need-returns-in-Copied
 returns-2 c =
-    let copied = c.before.before in
-    let told = copied.before.before.before.before in
-    let found = told.before in
-    let a = (behind found).args in
-    let from = copied.frame_of.ensures in
-    let to = copied.frame_of-in-Copied.ensures in
-    let left : Left found copied.restore_from.new.pool copied.restore_from.result =
-    λ h. copied-left a.image.now a.at (a.at + 64) a.backing (st found h) _ _ (is found Copied told.in-Copied.is)
-    (rw (from, to) at copied.restore_from.ensures) in
+    let found = c.before.before.before.before.before.before.before in
+    let a = c.args in
+    let from = c.frame_of.ensures in
+    let to = c.frame_of-in-Copied.ensures in
+    let left : Left found c.restore_from.new.pool c.restore_from.result =
+    λ h. copied-left a.image.now a.at (a.at + 64) a.backing (st found h) _ _ (is found Copied c.in-Copied.is)
+    (rw (from, to) at c.restore_from.ensures) in
     (λ h. (left h).0, λ h. (left h).1)
 
 same-length-2 : tie.Need-shape_of-pool-in-Zeroed
@@ -162,13 +148,11 @@ same-length-2 c = search rules
 
 returns-3 : tie.Need-returns-in-Zeroed
 returns-3 c =
-    let cleared = c.before.before in
-    let told = cleared.before.before.before in
-    let found = told.before in
-    let a = (behind found).args in
-    let left : Left found cleared.restore_zeros.new.pool cleared.restore_zeros.result =
-    λ h. zeroed-left a.image.now a.at (a.at + 64) a.backing (st found h) _ _ (is found Zeroed told.in-Zeroed.is)
-    (rw cleared.frame_of-in-Zeroed.ensures at cleared.restore_zeros.ensures) in
+    let found = c.before.before.before.before.before.before in
+    let a = c.args in
+    let left : Left found c.restore_zeros.new.pool c.restore_zeros.result =
+    λ h. zeroed-left a.image.now a.at (a.at + 64) a.backing (st found h) _ _ (is found Zeroed c.in-Zeroed.is)
+    (rw c.frame_of-in-Zeroed.ensures at c.restore_zeros.ensures) in
     (λ h. (left h).0, λ h. (left h).1)
 
 same-length-3 : tie.Need-shape_of-pool-in-ImagePage
@@ -176,14 +160,11 @@ same-length-3 c = search rules
 
 returns-4 : tie.Need-returns-in-ImagePage
 returns-4 c =
-    let filled = c.before.before in
-    let told = filled.before.before.before in
-    let found = told.before in
-    let a = (behind found).args in
-    let page = told.page.given in
-    let left : Left found filled.restore_image.new.pool filled.restore_image.result =
-    λ h. image-left a.image.now a.at (a.at + 64) a.backing (st found h) _ _ page.0.0
-    (is found (ImagePage page.0.0) page.1) (rw filled.frame_of-in-ImagePage.ensures at filled.restore_image.ensures) in
+    let found = c.before.before.before.before.before.before in
+    let a = c.args in
+    let left : Left found c.restore_image.new.pool c.restore_image.result =
+    λ h. image-left a.image.now a.at (a.at + 64) a.backing (st found h) _ _ c.in-ImagePage.page
+    (is found (ImagePage c.in-ImagePage.page) c.in-ImagePage.is) (rw c.frame_of-in-ImagePage.ensures at c.restore_image.ensures) in
     (λ h. (left h).0, λ h. (left h).1)
 
 pub restore_page_spec : {M : Type 1} → statement M
