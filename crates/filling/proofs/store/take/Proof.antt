@@ -16,7 +16,7 @@ use Rattle.filling.proofs.store.take.Tie as tie
 -- ---- what is known of the back entry
 
 abbrev behind : tie.After-back_if-under → tie.Start
-behind c = c.before.before.before.before.before.before.before.before
+behind c = c.before.before.before.before.before.before.before
 
 abbrev committed : tie.Start → Bool
 committed s = is_committed s.args.page.slot
@@ -49,7 +49,7 @@ fill-frame-requires c κs =
         rw (under-is under) (few-if 256 _ _ ranged _ (committed s)),
         (
           rw (under-is under) (room-if 256 _ _ ranged _ (committed s)),
-          omega (arith, ap backing_end under.backing-at.ensures, s.requires.0.backed),
+          omega (arith, ap backing_end under.backing_at-backing.ensures, s.requires.0.backed),
         ),
       ),
     )
@@ -89,7 +89,7 @@ returns c =
     rw (
       ← under-if 256 (kept a.held a.pool.now a.table.now) (back_at a.page) bytes (committed s),
       ← under-is under,
-      ← under.backing-at.ensures,
+      ← under.backing_at-backing.ensures,
       c.with.ensures,
       filled.fill_frame.ensures,
       c.front_index-at.ensures,
