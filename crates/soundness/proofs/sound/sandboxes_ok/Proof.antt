@@ -115,7 +115,7 @@ returns c = λ h pool.
 mul-again : tie.Need-offset_bounds-sandboxes-k-in-loop-s invariant-loop decreases-loop
 mul-again c = search rules
 
-array-copy-out-again : tie.Need-array-copy-out-preserved invariant-loop decreases-loop
+array-copy-out-again : tie.Need-bounds-sandboxes-k-in-loop-s invariant-loop decreases-loop
 array-copy-out-again c = search rules
 
 -- a sandbox that passed has entries within its share
@@ -162,9 +162,6 @@ returns-3 c = λ h pool.
     let l = c.loop-s in
     sym (l.invariant.1 h pool ∙ every-end (tests h pool a.table.now a.images a.sandboxes) 4 l.s c.loop-s-test.false)
 
-by-rules-bounds-sandboxes-k-in-loop-s : tie.Need-bounds-sandboxes-k-in-loop-s invariant-loop decreases-loop
-by-rules-bounds-sandboxes-k-in-loop-s c = search rules
-
 pub sandboxes_ok_spec : {M : Type 1} → statement M
 sandboxes_ok_spec =
     tie.close
@@ -178,7 +175,7 @@ sandboxes_ok_spec =
     sandbox-ok-requires
     returns
     mul-again
-    by-rules-bounds-sandboxes-k-in-loop-s
+    array-copy-out-again
     runs-ok-requires
     returns-2
     add-s

@@ -122,7 +122,7 @@ returns-5 c =
     let a = (start3 p).args in
     rw c.shares.ensures.0
     (shares-decide a.image.now (world (start3 p)) (lengths-hold (else1-of-sandboxes-ok p.before))
-    (marks-hold (at-else2 p.before)) t.result (t.ensures a.m.held a.pool.now) (not-false _ p.if-not-sandboxes_ok.false) q.result
+    (marks-hold (at-else2 p.before)) t.result (t.ensures a.m.held a.pool.now) (not-false _ p.if-not-sandboxes_ok.false-raw) q.result
     (q.ensures a.table.now) (not-false _ c.if-not-spare_ok.false-raw))
 
 pub sound_spec : {M : Type 1} → statement M
