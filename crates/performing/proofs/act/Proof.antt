@@ -107,10 +107,9 @@ enum_told c = search rules
 
 value-of-requires : tie.Need-value_of-value-requires
 value-of-requires c κs =
-    let told = c.before in
-    let decided = told_as told in
+    let decided = told_as c in
     let s = start_of decided in
-    let a = (asked_here decided told.enum_told.given.1 (there s) (its s)).1 in
+    let a = (asked_here decided c.in-Accepted.is (there s) (its s)).1 in
     let own = own-ready s.args.image.now s.args.q s.args.b s.args.all (store_in s) (there s) (its s) a.row in
     (a.row, (a.fit, (own, (filed-ranged 256 (frames_of (world_in s)) (store_in s) a.filed, (a.filed.few, s.requires.1.0)))))
 
@@ -126,15 +125,14 @@ record-after-requires c κs =
     let told = valued_of (stored_of c.before.before.before.before.before.before) in
     let decided = told_as told in
     let s = start_of decided in
-    (asked_here decided told.enum_told.given.1 (there s) (its s)).1.fit
+    (asked_here decided told.in-Accepted.is (there s) (its s)).1.fit
 
 returns : tie.Need-returns-in-Refused
 returns c row a =
-    let arm = c. in
-    let decided = deciding arm.before in
+    let decided = deciding c.before in
     let s = start_of decided in
-    acted-refused s.args.image.now s.args.q s.args.b s.args.all (store_in s) row a arm.in-Refused.why
-    (ap verdict_number (sym arm.in-Refused.is) ∙ number-here decided row a)
+    acted-refused s.args.image.now s.args.q s.args.b s.args.all (store_in s) row a c.in-Refused.why
+    (ap verdict_number (sym c.in-Refused.is) ∙ number-here decided row a)
 
 same_length : tie.Need-shape_of-pool
 same_length c = search rules
