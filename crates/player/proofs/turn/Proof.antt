@@ -43,7 +43,7 @@ slice-aggregate-play c = search rules
 
 play-requires : tie.Need-play-after-requires
 play-requires c κs =
-    let reading = c.before.before.before.before.before.before in
+    let reading = c.before.before.before.before.before in
     let start = start_of reading in
     let few = one_line reading in
     rw (← reading.read_full-got.ensures.1) (omega (arith, few, start.requires.0.1), (omega (arith, few, start.requires.1.0), start.requires.1.1))
@@ -62,7 +62,7 @@ slice-reshare-prefix-write-all c =
     omega (arith, few, c.lines_of-size.ensures, playing.play-after.auto.out, (start_of reading).requires.0.1)
 
 slice-aggregate-write-all : tie.Need-slice_bounds-write_all-end-2
-slice-aggregate-write-all c = sym (length-take-le _ _ (slice-reshare-prefix-write-all c.before))
+slice-aggregate-write-all c = sym (length-take-le _ _ (slice-reshare-prefix-write-all c))
 
 write-all-requires : tie.Need-write_all-written-requires
 write-all-requires c κs = search rules
@@ -85,7 +85,7 @@ same-length-4 c = search rules
 returns : tie.Need-returns
 returns c =
     let writing = c.before in
-    let playing = playing_of writing.before.before in
+    let playing = playing_of writing.before in
     let played = playing.play-after in
     let reading = reading_of playing in
     let got = reading.read_full-got in
