@@ -136,16 +136,15 @@ rewind-requires c κs =
 with-present-requires : tie.Need-with_present-after-requires
 with-present-requires c κs = search rules
 
-cast-t30 : tie.Need-overflow-cast-t30
+cast-t30 : tie.Need-overflow_cast-result
 cast-t30 c = search rules
 
 returns : tie.Need-returns-in-Refused
 returns c row all a =
-    let arm = c. in
-    let deciding = arm.before in
+    let deciding = c.before in
     let s = decided deciding in
-    acted-refused s.args.image.now s.args.q s.args.b all (store_in s) row a arm.in-Refused.why
-    (ap verdict_number (sym arm.in-Refused.is) ∙ number-here deciding all row a)
+    acted-refused s.args.image.now s.args.q s.args.b all (store_in s) row a c.in-Refused.why
+    (ap verdict_number (sym c.in-Refused.is) ∙ number-here deciding all row a)
 
 same_length : tie.Need-shape_of-pool
 same_length c = search rules
