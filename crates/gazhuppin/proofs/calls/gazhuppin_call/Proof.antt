@@ -70,7 +70,7 @@ returns c =
     (call-unsound first.args.image.now (hands first) request.result c.without_state.result (no-state branch) c.without_state.ensures)
 
 decode-requires : tie.Need-decode-requires
-decode-requires c κs = state-long (behind_yes c.before).args.state.now (a-state c.before)
+decode-requires c κs = state-long (behind_yes c).args.state.now (a-state c)
 
 call-requires : tie.Need-call-reply-requires
 call-requires c κs = search rules
@@ -105,7 +105,7 @@ returns-2 c =
     let request = (asking branch.before).request-q in
     rw (← request.ensures)
     (call-stepped first.args.image.now (hands first) request.result bytes (a-state branch)
-    decoding.decode.result reply.result c.by.result encoding.new.out reply.last.1.0 reply.last.1.1.0
+    decoding.decode.result reply.result c.by.result encoding.new.out reply.new.pool reply.new.table
     decoding.decode.ensures reply.ensures encoding.ensures c.by.ensures)
 
 pub gazhuppin_call_spec : {M : Type 1} → statement M
