@@ -48,8 +48,8 @@ run-here c = (chosen c).at-run.ensures ∙ ap (row (behind c).args.b.runs) (plac
 frames-here : (c : tie.After-lesser) → c.lesser.result ≡ granted (behind c).args.q.p2 (lengths_of (behind c).args.b.runs)
 frames-here c =
     let s = behind c in
-    frames-there s.args.q s.args.b s.requires.0 (tested (chosen c)).before.before.if1.false
-    (tested (chosen c)).if2.false
+    frames-there s.args.q s.args.b s.requires.0 (tested (chosen c)).before.before.if-q-ne-ANY_PAGE.false
+    (tested (chosen c)).if-q-ne0.false
     _ c.lesser.result _ (place_is c) (chosen c).at-run.ensures (counted c)
 
 -- behind the frames that are granted
@@ -123,8 +123,8 @@ returns-3 c =
     let granting = granted_by c in
     let counting = granting.before in
     let s = behind counting in
-    let named = (tested (chosen counting)).before.before.if1.false in
-    let image = (tested (chosen counting)).if2.false in
+    let named = (tested (chosen counting)).before.before.if-q-ne-ANY_PAGE.false in
+    let image = (tested (chosen counting)).if-q-ne0.false in
     let place = (chosen counting).fitting-place.result in (
       λ pool. granting.grant-granted.ensures.0 pool
           ∙ taken-store s.args.q s.args.b s.requires.0 named image place counting.lesser.result (chosen counting).at-run.result (place_is counting)
