@@ -25,7 +25,7 @@ unfolding numbers_in
 line-ahead roll rest zero k h = absurd (omega arith)
 line-ahead roll rest (suc n) k h =
     ap (λ ns. line_in ns k) (append_assoc (numbers_in roll n) _ rest)
-    ∙ by_cases (ltb k n) (λ e. line-ahead roll _ n k (ltb-true k n e)) (λ e.
+    ∙ by_cases (ltb k n) (λ e. line-ahead roll (numbers_of (line_at roll n) ++ rest) n k (ltb-true k n e)) (λ e.
     let same : k ≡ n = omega (arith, ltb-false k n e) in
     rw same (numbers-back (numbers_in roll n) rest n (line_at roll n) (length-ahead roll n)))
 

@@ -1,3 +1,2 @@
--- In reading order.
-pub mod Again
+-- The one file.
 pub mod AheadLaws
