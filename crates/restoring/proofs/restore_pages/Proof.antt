@@ -39,12 +39,12 @@ few-of left n e l = go (dec_lt left 8)
     go (yes b) = let m : n ≡ left = e ∙ rw (lt-ltb left 8 b) in (omega arith, omega arith, omega arith)
     go (no b) = let m : n ≡ 8 = e ∙ rw (le-ltb left 8 (omega arith)) in (omega arith, omega arith, omega arith)
 
-group : (c : tie.After-group_of-n invariant-loop decreases-loop) → let l = c.loop-i in let n = c.group_of.result in
+group : (c : tie.After-group_of-n invariant-loop decreases-loop) → let l = c.loop-i in let n = c.group_of-n.result in
     (0 < n) × (l.i + n ≤ (behind c.before.before).args.pages) × (n ≤ 8)
 group c =
     let l = c.loop-i in
     let pages : ℕ = (behind c.before.before).args.pages in
-    let f = few-of (pages - l.i) c.group_of.result c.group_of.ensures (omega (arith, c.loop-i-test.true)) in
+    let f = few-of (pages - l.i) c.group_of-n.result c.group_of-n.ensures (omega (arith, c.loop-i-test.true)) in
     (f.0, omega (arith, f.1, c.loop-i-test.true), f.2)
 
 next-front-requires : tie.Need-next_front-i-requires invariant-loop decreases-loop
@@ -87,7 +87,7 @@ restore-each-requires c κs =
     let s = behind some.before.before in
     let a = s.args in
     let n = group some in
-    let part = backed-part a.image.now a.backing a.pages s.requires.1.1.0 l.i some.group_of.result n.1 in
+    let part = backed-part a.image.now a.backing a.pages s.requires.1.1.0 l.i some.group_of-n.result n.1 in
     (omega (arith, s.requires.0, n.1), (l.invariant.2, (rw c.advanced.ensures part, omega (arith, n.2))))
 
 add-changed : tie.Need-overflow_add-changed invariant-loop decreases-loop
@@ -97,7 +97,7 @@ add-changed c =
     let l = some.loop-i in
     let s = behind some.before.before in
     let a = s.args in
-    let n = some.group_of.result in
+    let n = some.group_of-n.result in
     let st : Store = kept none_held a.pool.now a.table.now in
     let r : Store = kept none_held l.pool a.table.now in
     let so_far = changed-few a.image.now a.at (λ k. true) (advance a.backing) st l.i in
@@ -127,7 +127,7 @@ loop-again c =
     let l = some.loop-i in
     let s = behind some.before.before in
     let a = s.args in
-    let n = some.group_of.result in
+    let n = some.group_of-n.result in
     let on : Backing = advance a.backing l.i in
     let st : Held → Store = λ h. kept h a.pool.now a.table.now in
     let r : Held → Store = λ h. kept h l.pool a.table.now in
