@@ -63,26 +63,26 @@ front-index-requires c κs = search rules
 
 restore-pages-requires : tie.Need-restore_pages-changed-requires
 restore-pages-requires c κs =
-    let at = c.before.before in
+    let at = c.before in
     let s = behind at in
     let a = s.args in
     let st : Store = kept a.done.held a.pool.now a.table.now in
     let n : ℕ = a.area.first.0 - a.done.page.0 in
     let k = free_to-kept-as 256 (front_of a.s a.done.page.0) st (between at) n (placed at).free_before-held.ensures s.requires.1.1.1.1.0 in (
-      omega (arith, at.front-index.ensures, s.requires.0, s.requires.1.1.0),
+      omega (arith, at.front_index-at.ensures, s.requires.0, s.requires.1.1.0),
       (k.ranged, (s.requires.1.1.1.1.1.0, omega (arith, s.requires.1.1.0))),
     )
 
 add-t22 : tie.Need-overflow_add-result
-add-t22 c = let s = behind c.before.before.before.before.before.before.before in omega (arith, s.requires.1.1.0)
+add-t22 c = let s = behind c.before.before.before.before.before.before in omega (arith, s.requires.1.1.0)
 
 add-t24 : tie.Need-overflow_add-result-2
 add-t24 c =
     let restored = c.before.before.before.before in
-    let at = restored.before.before.before in
+    let at = restored.before.before in
     let s = behind at in
     let a = s.args in
-    let few = changed-few a.image.now at.front-index.result (λ i. true) (advance a.area.backing) (between at) a.area.pages in
+    let few = changed-few a.image.now at.front_index-at.result (λ i. true) (advance a.area.backing) (between at) a.area.pages in
     omega (arith, (restored.restore_pages-changed.ensures (placed at).free_before-held.result).told, few, s.requires.1.0, s.requires.1.1.0, s.requires.1.1.1.1.1.1)
 
 same_length : tie.Need-shape_of-pool
@@ -94,14 +94,14 @@ same-length-2 c = search rules
 returns-2 : tie.Need-returns
 returns-2 c =
     let restored = c.before.before.before.before in
-    let at = restored.before.before.before in
+    let at = restored.before.before in
     let a = (behind at).args in
     let area = a.area in
-    let e : area.committed ≡ true = not-false _ (freed (placed at)).if1.false in
+    let e : area.committed ≡ true = not-false _ (freed (placed at)).if-not-area.false in
     let f = (placed at).free_before-held in
     let st : Store = kept a.done.held a.pool.now a.table.now in
-    let made = area-made a.image.now a.s area a.done.page.0 st (between at) _ _ at.front-index.result a.done.changed
-    at.front-index.ensures f.ensures (restored.restore_pages-changed.ensures f.result) in
+    let made = area-made a.image.now a.s area a.done.page.0 st (between at) _ _ at.front_index-at.result a.done.changed
+    at.front_index-at.ensures f.ensures (restored.restore_pages-changed.ensures f.result) in
     (made.0 ∙ chosen _ _ area.committed e, (chosen _ _ area.committed e, made.1 ∙ chosen _ _ area.committed e))
 
 pub with_area_spec : {M : Type 1} → statement M
