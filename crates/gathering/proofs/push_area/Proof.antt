@@ -24,16 +24,16 @@ push-requires : tie.Need-push-requires
 push-requires c κs = search rules
 
 abbrev at-is-spared : tie.After-push → tie.After-is_spared
-at-is-spared c = c.before.before.before
+at-is-spared c = c.before.before.before.before
 
 abbrev start-of-push : tie.After-push → tie.Start
-start-of-push c = start-of-is-spared c.before.before.before
+start-of-push c = start-of-is-spared c.before.before.before.before
 
 returns-2 : tie.Need-returns
 returns-2 c =
     let a = (start-of-push c).args in
     area-pushed a.table.now a.sandbox a.area a.runs _ (at-is-spared c).is_spared.ensures _ _
-    (not-false _ c.if1.false) c.fronts-run.ensures c.push.ensures
+    (not-false _ c.if-not-is_spared.false-raw) c.fronts-run.ensures c.push.ensures
 
 pub push_area_spec : {M : Type 1} → statement M
 push_area_spec = tie.close (tie.spec is-spared-requires returns fronts-requires push-requires returns-2)
