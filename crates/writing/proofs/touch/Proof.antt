@@ -56,8 +56,8 @@ small s = page-small s.args.q.p1 ((asked s).fit.written s.requires.0).0
 
 -- ---- what is known behind each part
 
-abbrev argued : tie.After-front-arg → tie.Start
-argued c = c.before.before.before.before.before.before.before.before
+abbrev argued : tie.After-held-1 → tie.Start
+argued c = c.before.before.before.before.before.before.before
 
 abbrev fronted : tie.After-front-front → tie.Start
 fronted c = argued c.before
