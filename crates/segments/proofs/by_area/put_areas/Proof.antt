@@ -32,11 +32,11 @@ turn_of c = c.before.before.before.before
 abbrev start_of : At → tie.Start invariant-loop decreases-loop
 start_of c = (turn_of c).before.before.before.before
 
-put-here : (c : At) → only c.is_told.result c.before.before.line_of.result ≡ lines (start_of c) (turn_of c).loop-k.k
+put-here : (c : At) → only c.is_told.result c.before.before.line_of-line.result ≡ lines (start_of c) (turn_of c).loop-k.k
 put-here c =
     let a = (start_of c).args in
     let area : Area = get_or a.snapshot.areas.list (turn_of c).loop-k.k none in
-    ap (λ b. only b c.before.before.line_of.result) c.is_told.ensures ∙ ap (only (is_told a.segment area)) c.before.before.line_of.ensures
+    ap (λ b. only b c.before.before.line_of-line.result) c.is_told.ensures ∙ ap (only (is_told a.segment area)) c.before.before.line_of-line.ensures
 
 loop-holds : tie.Need-loop-k-init invariant-loop decreases-loop
 loop-holds c = let start = c.before.before in turn-first start.args.to start.args.out.now (lines start) 8
