@@ -193,7 +193,7 @@ act-requires : tie.Need-act-acted-requires Inv-loop μ-loop
 act-requires c κs =
     let found = acting c in
     let told = told_at (left_at found) in
-    ((calls told).coded, ((left_at found).before.before.before.if-q-eq-REWIND.false, ((calls told).low, ((state_in (asking told)).sandboxes, stands found))))
+    ((calls told).coded, ((left_at found).if-q-eq-REWIND.false, ((calls told).low, ((state_in (asking told)).sandboxes, stands found))))
 
 mul-after-2 : tie.Need-offset_bounds-playing-k-in-Call Inv-loop μ-loop
 mul-after-2 c = let low = (calls (told_at (left_at (acting (acted-at c).before)))).low in search rules
@@ -246,6 +246,8 @@ pub reply_lines_spec : {M : Type 1} → statement M
 reply_lines_spec =
     tie.close
     (tie.spec
+    Inv-loop
+    μ-loop
     loop-holds
     line-in-requires
     add-i

@@ -26,11 +26,11 @@ pub record SoFar (image numbers : List ℕ) (pool₀ table₀ out₀ : List ℕ)
   pub known : Known p.sound image (played_by p pool table)
   pub replied : RepliedTo image numbers p₀.first p₀.answered (played_by p₀ pool₀ table₀) out₀ i out (played_by p pool table)
 
-abbrev pub Inv-loop : tie.invariant-loop
+abbrev pub Inv-loop : tie.invariant-loop-i
 Inv-loop pool₀ table₀ image numbers out₀ playing₀ n i₀ pool table out playing i =
     (i ≤ n) × SoFar image numbers pool₀ table₀ out₀ playing₀ i pool table out playing
 
-abbrev pub μ-loop : tie.decreases-loop
+abbrev pub μ-loop : tie.decreases-loop-i
 μ-loop pool₀ table₀ image numbers out₀ playing₀ n i₀ pool table out playing i = n - i
 
 -- ---- lines replied to

@@ -38,10 +38,10 @@ use Rattle.replying.proofs.reply_lines.Proof.Upto.{Inv-loop, μ-loop}
 -- ---- what a line meets
 
 abbrev pub AtLoop : Type 0
-AtLoop = tie.At-loop Inv-loop μ-loop
+AtLoop = tie.At-loop-i Inv-loop μ-loop
 
 abbrev pub AfterAsk : Type 0
-AfterAsk = tie.After-ask Inv-loop μ-loop
+AfterAsk = tie.After-ask-asked Inv-loop μ-loop
 
 abbrev pub start_of : AtLoop → tie.Start Inv-loop μ-loop
 start_of c = c.before.before.before.before.before.before
@@ -53,16 +53,16 @@ abbrev pub image_in : AfterAsk → List ℕ
 image_in c = (start_of (loop_of c)).args.image.now
 
 abbrev pub state_in : AfterAsk → Playing
-state_in c = (loop_of c).loop.playing
+state_in c = (loop_of c).loop-i.playing
 
 abbrev pub pool_in : AfterAsk → List ℕ
-pool_in c = (loop_of c).loop.pool
+pool_in c = (loop_of c).loop-i.pool
 
 abbrev pub table_in : AfterAsk → List ℕ
-table_in c = (loop_of c).loop.table
+table_in c = (loop_of c).loop-i.table
 
 abbrev pub line_of : AfterAsk → Line
-line_of c = c.before.line-in.result
+line_of c = c.before.line_in-line.result
 
 abbrev pub world_in : AfterAsk → World
 world_in c = played_by (state_in c) (pool_in c) (table_in c)
@@ -71,10 +71,10 @@ abbrev pub machine_in : AfterAsk → Machine
 machine_in c = record { sandboxes = (state_in c).sandboxes; held = (state_in c).held }
 
 pub four : (c : AfterAsk) → length (state_in c).sandboxes ≡ 4
-four c = (loop_of c).loop.invariant.1.four
+four c = (loop_of c).loop-i.invariant.1.four
 
 pub known : (c : AfterAsk) → Known (state_in c).sound (image_in c) (world_in c)
-known c = (loop_of c).loop.invariant.1.known
+known c = (loop_of c).loop-i.invariant.1.known
 
 -- ---- what each way leaves
 
@@ -90,26 +90,26 @@ pub record Answers (s : AfterAsk) (pool table : List ℕ) (p : Playing) (a : Ans
   pub bytes : (j : ℕ) → get_or pool j 0 < 256
 
 -- a call on one of the four sandboxes
-abbrev pub asking : tie.After-known-told2 Inv-loop μ-loop → AfterAsk
-asking c = c.before.before.before
+abbrev pub asking : tie.In-Call Inv-loop μ-loop → AfterAsk
+asking c = c.before
 
-abbrev pub asked : tie.After-known-told2 Inv-loop μ-loop → Request
-asked c = c.before.asked2.given.0.0
+abbrev pub asked : tie.In-Call Inv-loop μ-loop → Request
+asked c = c.in-Call.q
 
-pub calls : (c : tie.After-known-told2 Inv-loop μ-loop) → Calls (state_in (asking c)).sound (line_of (asking c)) (asked c)
+pub calls : (c : tie.In-Call Inv-loop μ-loop) → Calls (state_in (asking c)).sound (line_of (asking c)) (asked c)
 calls c =
     let s = asking c in
-    call_line (state_in s).sound (line_of s) (asked c) (sym c.before.asked2.given.1 ∙ c.before.before.before.ask.ensures)
+    call_line (state_in s).sound (line_of s) (asked c) (sym c.in-Call.is ∙ c.ask-asked.ensures)
 
-pub passes : (c : tie.After-known-told2 Inv-loop μ-loop) → soundb (image_in (asking c)) (world_in (asking c)) ≡ true
+pub passes : (c : tie.In-Call Inv-loop μ-loop) → soundb (image_in (asking c)) (world_in (asking c)) ≡ true
 passes c =
     let s = asking c in
     sym (known_is (state_in s).sound (image_in s) (world_in s) (known s)) ∙ (calls c).known
 
-abbrev pub own : tie.After-known-told2 Inv-loop μ-loop → Sandbox
+abbrev pub own : tie.In-Call Inv-loop μ-loop → Sandbox
 own c = get_or (state_in (asking c)).sandboxes (asked c).sandbox zero_sandbox
 
-pub around : (c : tie.After-known-told2 Inv-loop μ-loop) → let s = asking c in
+pub around : (c : tie.In-Call Inv-loop μ-loop) → let s = asking c in
     Around (image_in s) (asked c) (own c) (pool_in s) (table_in s) (world_in s)
 around c =
     let s = asking c in record {
@@ -120,7 +120,7 @@ around c =
     }
 
 -- a step of the request is a turn of the line, and its value is small
-of-step : (c : tie.After-known-told2 Inv-loop μ-loop) (pool table : List ℕ) (p : Playing) (a : Answer) → let s = asking c in
+of-step : (c : tie.In-Call Inv-loop μ-loop) (pool table : List ℕ) (p : Playing) (a : Answer) → let s = asking c in
     Stepped (image_in s) (world_in s) (asked c) (record { answer = answered a; world = played_by p pool table })
     → length pool ≡ length (pool_in s) → length table ≡ length (table_in s)
     → p.first ≡ (state_in s).first → p.sound ≡ (state_in s).sound → length p.sandboxes ≡ 4
@@ -128,8 +128,8 @@ of-step : (c : tie.After-known-told2 Inv-loop μ-loop) (pool table : List ℕ) (
 of-step c pool table p a t lp lt f k four' bytes' =
     let s = asking c in
     let at = loop_of s in
-    let images = at.before.before.before.shared-slice-known.given in
-    let low = at.loop.inv.1.bytes in
+    let images = at.before.before.before.shared_slice_known-1.given in
+    let low = at.loop-i.invariant.1.bytes in
     record {
       turned = subst (λ (l : Line). Turned (image_in s) (world_in s) l (record { answer = answered a; world = played_by p pool table })) (sym (calls c).says) t;
       pool_kept = lp;
@@ -146,7 +146,7 @@ abbrev pub with_one : Playing → ℕ → Sandbox → Held → Playing
 with_one p k b marks =
     record { sandboxes = set p.sandboxes k b; held = marks; sound = p.sound; first = p.first; answered = p.answered }
 
-pub put-back : (c : tie.After-known-told2 Inv-loop μ-loop) (pool table : List ℕ) (b : Sandbox) (marks : Held) (a : Answer) → let s = asking c in
+pub put-back : (c : tie.In-Call Inv-loop μ-loop) (pool table : List ℕ) (b : Sandbox) (marks : Held) (a : Answer) → let s = asking c in
     Stepped (image_in s) (world_in s) (asked c)
     (record { answer = answered a; world = played_by (with_one (state_in s) (asked c).sandbox b marks) pool table })
     → length pool ≡ length (pool_in s) → length table ≡ length (table_in s)
@@ -157,67 +157,67 @@ put-back c pool table b marks a t lp lt bytes =
     (length-set (state_in s).sandboxes (asked c).sandbox b ∙ four s) bytes
 
 -- rewound
-abbrev pub rewound-at : tie.After-marks Inv-loop μ-loop → tie.After-rewind-sandbox Inv-loop μ-loop
+abbrev pub rewound-at : tie.After-marks-1 Inv-loop μ-loop → tie.After-rewind_sandbox-rewound Inv-loop μ-loop
 rewound-at c = c.before.before.before.before.before.before
 
-abbrev pub rewinding : tie.After-rewind-sandbox-arg2 Inv-loop μ-loop → tie.After-known-told2 Inv-loop μ-loop
+abbrev pub rewinding : tie.After-rewind_sandbox-arg-then-q-eq-REWIND-1 Inv-loop μ-loop → tie.In-Call Inv-loop μ-loop
 rewinding c = c.before.before.before.before.before.before.before
 
 -- what is told of the other sandboxes does not matter
 abbrev pub unasked : AfterAsk → Together
 unasked s = record { held = (state_in s).held; shares = shares_in (state_in s).sandboxes; kept = none_held }
 
-pub stands-alone : (c : tie.After-rewind-sandbox-arg2 Inv-loop μ-loop) → let told = rewinding c in let s = asking told in
+pub stands-alone : (c : tie.After-rewind_sandbox-arg-then-q-eq-REWIND-1 Inv-loop μ-loop) → let told = rewinding c in let s = asking told in
     Stands (image_in s) (asked told) (own told) (unasked s) (kept (state_in s).held (pool_in s) (table_in s)) (state_in s).sandboxes
 stands-alone c =
     let told = rewinding c in
     let s = asking told in
     standing (image_in s) (asked told) (machine_in s) (pool_in s) (pool_in s) (table_in s) (unasked s) refl refl
-    (four s) (calls told).low (passes told) refl (λ e. absurd (omega (arith, e, c.before.before.if1.true)))
+    (four s) (calls told).low (passes told) refl (λ e. absurd (omega (arith, e, c.if-q-eq-REWIND.true)))
 
-pub rewound : (c : tie.After-marks Inv-loop μ-loop) →
+pub rewound : (c : tie.After-marks-1 Inv-loop μ-loop) →
     let did = rewound-at c in
     let told = rewinding did.before in
     let s = asking told in
-    let left = did.rewind-sandbox.result in
-    Answers s did.rewind-sandbox.last.1.1.0 did.rewind-sandbox.last.1.1.1.0
+    let left = did.rewind_sandbox-rewound.result in
+    Answers s did.rewind_sandbox-rewound.new.pool did.rewind_sandbox-rewound.new.table
     (with_one (state_in s) (asked told).sandbox left.sandbox left.held) left.answer
 rewound c =
     let did = rewound-at c in
     let told = rewinding did.before in
     let s = asking told in
-    put-back told _ _ did.rewind-sandbox.result.sandbox did.rewind-sandbox.result.held did.rewind-sandbox.result.answer
-    (did.rewind-sandbox.ensures (state_in s).sandboxes (unasked s) (stands-alone did.before))
-    did.rewind-sandbox.kept.1.1.0 did.rewind-sandbox.kept.1.1.1.0
-    (λ j. omega (arith, c.before.before.before.before.slice-known5.given j))
+    put-back told _ _ did.rewind_sandbox-rewound.result.sandbox did.rewind_sandbox-rewound.result.held did.rewind_sandbox-rewound.result.answer
+    (did.rewind_sandbox-rewound.ensures (state_in s).sandboxes (unasked s) (stands-alone did.before))
+    did.rewind_sandbox-rewound.auto.pool did.rewind_sandbox-rewound.auto.table
+    (λ j. omega (arith, c.slice_known-then-q-eq-REWIND-1.given j))
 
 -- answered in place
-abbrev pub told_at : tie.After-answer Inv-loop μ-loop → tie.After-known-told2 Inv-loop μ-loop
-told_at c = c.before.before.before.before.before.before.before.before
+abbrev pub told_at : tie.After-answer-tried Inv-loop μ-loop → tie.In-Call Inv-loop μ-loop
+told_at c = c.before.before.before.before.before.before.before
 
-pub in_place : (c : tie.Then2 Inv-loop μ-loop) → let behind = c.before.before.before in let s = asking (told_at behind) in
-    Answers s behind.answer.new.1.0 (table_in s) (state_in s) behind.answer.result.answer
+pub in_place : (c : tie.Then-tried Inv-loop μ-loop) → let behind = c.before.before.before in let s = asking (told_at behind) in
+    Answers s behind.answer-tried.new.pool (table_in s) (state_in s) behind.answer-tried.result.answer
 in_place c =
     let behind = c.before.before.before in
     let told = told_at behind in
     let s = asking told in
-    of-step told _ _ (state_in s) behind.answer.result.answer
-    ((behind.answer.ensures (world_in s) (around told)).done c.if2.true) behind.answer.auto.1.0 refl refl refl (four s)
-    (λ j. omega (arith, c.before.slice-known8.given j))
+    of-step told _ _ (state_in s) behind.answer-tried.result.answer
+    ((behind.answer-tried.ensures (world_in s) (around told)).done c.if-tried.true) behind.answer-tried.auto.pool refl refl refl (four s)
+    (λ j. omega (arith, c.slice_known-in-Call-1.given j))
 
 -- refused without a look at a sandbox
-pub refused : (c : tie.After-asked Inv-loop μ-loop) → let s = c.before.before in
-    Answers s (pool_in s) (table_in s) (state_in s) (Refused c.asked.given.0.0)
+pub refused : (c : tie.In-Refused Inv-loop μ-loop) → let s = c.before in
+    Answers s (pool_in s) (table_in s) (state_in s) (Refused c.in-Refused.why)
 refused c =
-    let s = c.before.before in
+    let s = c.before in
     record {
-      turned = refused-line (image_in s) (world_in s) (state_in s).sound (known s) (line_of s) c.asked.given.0.0
-          (sym c.asked.given.1 ∙ c.before.before.ask.ensures);
+      turned = refused-line (image_in s) (world_in s) (state_in s).sound (known s) (line_of s) c.in-Refused.why
+          (sym c.in-Refused.is ∙ c.ask-asked.ensures);
       pool_kept = refl;
       table_kept = refl;
       small = omega arith;
       first = refl;
       known = refl;
       four = four s;
-      bytes = (loop_of s).loop.invariant.1.bytes;
+      bytes = (loop_of s).loop-i.invariant.1.bytes;
     }
