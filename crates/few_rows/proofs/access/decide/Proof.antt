@@ -60,7 +60,7 @@ module _ (frames shares : ℕ) where
   row-6 c = ap not c.within_limits.ensures ∙ limits-row (view (at6 c)) (request (at6 c))
 
   past-6 : (c : tie.Else-not-within_limits) → Past SnapshotTaken (at6 c.before)
-  past-6 c = (sym (row-6 c.before) ∙ c.if-not-within_limits.false, past-4 c.before.before)
+  past-6 c = (sym (row-6 c.before) ∙ c.if-not-within_limits.false-raw, past-4 c.before.before)
 
   past-8 : (c : tie.Else-not-within_limits) → Past NotMapped (at6 c.before)
   past-8 c =
@@ -96,7 +96,7 @@ module _ (frames shares : ℕ) where
   past-9 c =
       let looked = c.before.before in
       let s = start looked in
-      past9 (view frames shares s) (request s) (few s) (sym (row-9 c.before) ∙ c.if-not-is_mapped.false) (past-8 frames shares (limited looked))
+      past9 (view frames shares s) (request s) (few s) (sym (row-9 c.before) ∙ c.if-not-is_mapped.false-raw) (past-8 frames shares (limited looked))
 
   row-12 : (c : tie.After-rights_at) → let s = start (mapped c).before.before in
       (request s is write_code && not (eqb c.rights_at.result 3)) ≡ applies (view frames shares s) (request s) NotWritable

@@ -48,7 +48,7 @@ module _ (frames shares : ℕ) where
   row-6 c = ap not c.within_limits.ensures ∙ limits-row (view (at6 c)) (request (at6 c))
 
   past-6 : (c : tie.Else-not-within_limits) → let s = at6 c.before in Behind (view s) (request s) NoSnapshot
-  past-6 c = let s = at6 c.before in past6 (view s) (request s) (few s) (sym (row-6 c.before) ∙ c.if-not-within_limits.false) (past-4 c.before.before)
+  past-6 c = let s = at6 c.before in past6 (view s) (request s) (few s) (sym (row-6 c.before) ∙ c.if-not-within_limits.false-raw) (past-4 c.before.before)
 
   row-8 : (c : tie.After-no_snapshot) → c.no_snapshot.result ≡ applies (view (at8 c)) (request (at8 c)) NoSnapshot
   row-8 c = c.no_snapshot.ensures (view (at8 c)) refl
