@@ -33,71 +33,65 @@ use Rattle.in_place.proofs.read_or_write.Tie as tie
 abbrev Here : tie.Start → World → Type 0
 Here s w = Around s.args.image.now s.args.q s.args.b s.args.pool.now s.args.table.now w
 
-abbrev start : tie.After-rec-1 → tie.Start
-start c = c.before.before.before.before
-
 -- ---- what was decided
 
 abbrev view : tie.Start → ℕ → ℕ → View
 view s frames shares = view_from true frames (pages_in (length s.args.image.now)) shares s.args.b.rec
 
-abbrev decided : tie.After-decide-access → tie.Start
-decided c = start c.before
+abbrev start : tie.After-decide-access → tie.Start
+start c = c.before.before.before.before.before
 
 -- refused
-refused : (c : tie.In-Refused-2) → let s = decided c.before.before in
-    (frames shares : ℕ) → refusal_number c.access-1.given.0.0 ≡ refusal (view s frames shares) s.args.q
+refused : (c : tie.In-Refused) → let s = start c.before in
+    (frames shares : ℕ) → refusal_number c.in-Refused.why ≡ refusal (view s frames shares) s.args.q
 refused c frames shares =
-    let deciding = c.before.before in
-    let s = decided deciding in
-    subst (λ (x : Access). Decides (view s frames shares) s.args.q x) c.access-1.given.1 (deciding.decide-access.ensures frames shares)
+    let s = start c.before in
+    subst (λ (x : Access). Decides (view s frames shares) s.args.q x) c.in-Refused.is (c.decide-access.ensures frames shares)
 
 -- accepted, with what stands at the page
-abbrev paged : tie.In-Page-2 → tie.Start
-paged c = decided c.before.before
+abbrev paged : tie.In-Page → tie.Start
+paged c = start c.before
 
-abbrev slot_at : tie.In-Page-2 → Slot
-slot_at c = c.access-in-Page-1.given.0.0
+abbrev slot_at : tie.In-Page → Slot
+slot_at c = c.in-Page.slot
 
-told : (c : tie.In-Page-2) (frames shares : ℕ) → Decides (view (paged c) frames shares) (paged c).args.q (Page (slot_at c))
+told : (c : tie.In-Page) (frames shares : ℕ) → Decides (view (paged c) frames shares) (paged c).args.q (Page (slot_at c))
 told c frames shares =
-    let deciding = c.before.before in
-    let s = decided deciding in
-    subst (λ (x : Access). Decides (view s frames shares) s.args.q x) c.access-in-Page-1.given.1 (deciding.decide-access.ensures frames shares)
+    let s = paged c in
+    subst (λ (x : Access). Decides (view s frames shares) s.args.q x) c.in-Page.is (c.decide-access.ensures frames shares)
 
-slot_is : (c : tie.In-Page-2) → slot_at c ≡ slots (paged c).args.b.rec.present (page_of (paged c).args.q)
+slot_is : (c : tie.In-Page) → slot_at c ≡ slots (paged c).args.b.rec.present (page_of (paged c).args.q)
 slot_is c = (told c 0 0).1
 
-number : (c : tie.In-Page-2) (w : World) → Here (paged c) w → number_at (paged c).args.image.now w (paged c).args.q ≡ 0
+number : (c : tie.In-Page) (w : World) → Here (paged c) w → number_at (paged c).args.image.now w (paged c).args.q ≡ 0
 number c w A = sym (number-here A 0 (λ frames shares. sym (told c frames shares).0))
 
-fit : (c : tie.In-Page-2) → Fit (paged c).args.q
+fit : (c : tie.In-Page) → Fit (paged c).args.q
 fit c =
     let s = paged c in
     let A = s.requires.1.1.1 in
     (asked s.args.image.now s.requires.1.1.0 s.args.q (state A) (number c s.requires.1.1.0 A)).fit
 
 -- where the byte is read, and where it is stored
-abbrev reading : tie.After-read-arg → tie.In-Page-2
-reading c = c.before.before.before.before
+abbrev reading : tie.Then-q-eq-READ → tie.In-Page
+reading c = c.before.before
 
-abbrev storing : tie.After-store-arg-1 → tie.In-Page-2
+abbrev storing : tie.After-store-arg-1 → tie.In-Page
 storing c = c.before.before.before
 
-writes : (c : tie.After-store-arg-1) → (paged (storing c)).args.q.code ≡ write_code
+writes : (c : tie.After-store-arg-1) → c.args.q.code ≡ write_code
 writes c =
-    let s = paged (storing c) in
-    let q = s.args.q in
-    let h : (q is write_code) ≡ true = rw (ne_eqb q.code read_code c.if-q-eq-READ.false) at s.requires.0 in
+    let q = c.args.q in
+    let h : (q is write_code) ≡ true = rw (ne_eqb q.code read_code c.if-q-eq-READ.false) at c.requires.0 in
     eqb-true q.code write_code h
 
 -- ---- the needs
 
 cast-images : tie.Need-overflow_cast-images
-cast-images c = omega (arith, (state (start c).requires.1.1.1).images)
+cast-images c = omega (arith, (state c.requires.1.1.1).images)
 
 decide-requires : tie.Need-decide-access-requires
-decide-requires c κs = let p = (start c).requires in (p.0, (p.1.0, ready-here p.1.1.1 p.1.0))
+decide-requires c κs = let p = c.requires in (p.0, (p.1.0, ready-here p.1.1.1 p.1.0))
 
 enum-known-access : tie.Need-enum_known-access
 enum-known-access c = search rules
@@ -108,8 +102,8 @@ enum-known-access-2 c = search rules
 read-requires : tie.Need-read-byte-requires
 read-requires c κs =
     let found = reading c in
-    let A = (paged found).requires.1.1.1 in
-    (placed-here A (paged found).requires.1.0 (slot_at found) (slot_is found) ((fit found).read c.if1.true), ranged-here A)
+    let A = c.requires.1.1.1 in
+    (placed-here A c.requires.1.0 (slot_at found) (slot_is found) ((fit found).read c.if-q-eq-READ.true), ranged-here A)
 
 cast-t20 : tie.Need-overflow_cast-result
 cast-t20 c = search rules
@@ -120,26 +114,21 @@ same_length c = search rules
 returns : tie.Need-returns-then-q-eq-READ
 returns c w A =
     let found = reading c.before in
-    let s = paged found in
-    let q = s.args.q in
-    let e = c.if1.true in
+    let q = c.args.q in
+    let e = c.if-q-eq-READ.true in
     tried_same A (Value c.read-byte.result)
-    (looked A (few-access q s.requires.0) (access-stays q s.requires.0) (number found w A) (rw e) c.read-byte.result
-    (read_here A s.requires.1.0 (slot_at found) (slot_is found) e c.read-byte.result c.read-byte.ensures))
+    (looked A (few-access q c.requires.0) (access-stays q c.requires.0) (number found w A) (rw e) c.read-byte.result
+    (read_here A c.requires.1.0 (slot_at found) (slot_is found) e c.read-byte.result c.read-byte.ensures))
 
 store-requires : tie.Need-store-stored-requires
 store-requires c κs =
-    let found = storing c in
-    let s = paged found in
-    let limits = (fit found).written (writes c) in
-    (s.requires.1.0, (limits.0, (limits.1, ranged-here s.requires.1.1.1)))
+    let limits = (fit (storing c)).written (writes c) in
+    (c.requires.1.0, (limits.0, (limits.1, ranged-here c.requires.1.1.1)))
 
 returns-2 : tie.Need-returns-in-Refused
 returns-2 c w A =
-    let arm = c. in
-    let s = decided arm.before in
-    let why = arm.in-Refused.why in
-    tried_same A (Refused why) (stepped-refused s.args.image.now w s.args.q why (number-here A (refusal_number why) (refused arm)))
+    let why = c.in-Refused.why in
+    tried_same A (Refused why) (stepped-refused c.args.image.now w c.args.q why (number-here A (refusal_number why) (refused c)))
 
 same-length-2 : tie.Need-shape_of-pool
 same-length-2 c = search rules
@@ -147,11 +136,9 @@ same-length-2 c = search rules
 returns-3 : tie.Need-returns-else-q-eq-READ
 returns-3 c w A =
     let stored = c.before.before in
-    let found = storing stored.before in
-    let s = paged found in
-    let q = s.args.q in
-    tried-store A (few-access q s.requires.0) (access-stays q s.requires.0) (number found w A) (writes stored.before) stored.store-stored.result _
-    stored.store-stored.ensures
+    let q = c.args.q in
+    tried-store A (few-access q c.requires.0) (access-stays q c.requires.0) (number (storing stored.before) w A) (writes stored.before)
+    c.store-stored.result _ c.store-stored.ensures
 
 pub read_or_write_spec : {M : Type 1} → statement M
 read_or_write_spec =
