@@ -26,13 +26,12 @@ pub roll-read : (l : List Request) (rest : List ℕ) → Sayable l → requests 
 unfolding printed_roll requests lines_in
 roll-read [] rest h = refl
 roll-read (q ∷ l) rest h =
-    rw (
-      append_assoc (printed_request q) (printed_roll l) rest,
-      lines_cons (printed_request q) (printed_roll l ++ rest) (length-request q)
-          (length l),
-      request-read q h.0,
-    )
-    (ap (λ x. q ∷ x) (roll-read l rest h.1))
+    let more : List ℕ = printed_roll l ++ rest in
+    let joined : printed_roll (q ∷ l) ++ rest ≡ printed_request q ++ more = append_assoc (printed_request q) (printed_roll l) rest in
+    ap (λ (text : List ℕ). requests (lines_in text (suc (length l)))) joined
+    ∙ ap requests (lines_cons (printed_request q) more (length-request q) (length l))
+    ∙ ap (λ (line : Line). requests (line ∷ lines_in more (length l))) (request-read q h.0)
+    ∙ ap (λ (m : List Request). q ∷ m) (roll-read l rest h.1)
 
 -- no more requests than lines
 fewer : (lines : List Line) → length (requests lines) ≤ length lines
