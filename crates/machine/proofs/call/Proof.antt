@@ -48,9 +48,9 @@ a_call : (c : tie.Else-not-is_call) → is_call (behind_code c).args.q ≡ true
 a_call c = sym c.is_call.ensures ∙ not-false c.is_call.result c.if-not-is_call.false-raw
 
 abbrev behind_state : tie.Else-not-sound → tie.Start
-behind_state c = behind_code c.before.before.before.before
+behind_state c = behind_code c.before.before
 
-fails : (c : tie.Then-not-sound) → let start = behind_code c.before.before.before.before in soundb (image_in start) (world_in start) ≡ false
+fails : (c : tie.Then-not-sound) → let start = behind_code c.before.before in soundb (image_in start) (world_in start) ≡ false
 fails c = sym c.sound.ensures ∙ not-true c.sound.result c.if-not-sound.true-raw
 
 passes : (c : tie.Else-not-sound) → soundb (image_in (behind_state c)) (world_in (behind_state c)) ≡ true
@@ -70,7 +70,7 @@ abbrev rewound-row : tie.Then-q-eq-REWIND → tie.Else-q-ge-SANDBOXES
 rewound-row c = c.before.before.before.before.before
 
 abbrev tried : tie.After-answer-tried → tie.Else-q-ge-SANDBOXES
-tried c = row_of c.before.before.before
+tried c = row_of c.before.before
 
 abbrev own : tie.Start → Sandbox
 own s = get_or s.args.machine.sandboxes s.args.q.sandbox zero_sandbox
@@ -150,7 +150,7 @@ same-length-2 c = search rules
 
 returns-2 : tie.Need-returns-then-not-sound
 returns-2 c =
-    let coded = c.before.before.before.before.before in
+    let coded = c.before.before.before in
     let start = behind_code coded in
     rw c.refuse-then-not-sound.ensures
     (stepped-refused (image_in start) (world_in start) start.args.q Unsound
@@ -174,7 +174,7 @@ returns-3 c =
     let start = behind_state sounded in
     rw c.refuse-then-q-ge-SANDBOXES.ensures
     (stepped-refused (image_in start) (world_in start) start.args.q NotOpen
-    (number-four (image_in start) (world_in start) start.args.q (a_call sounded.before.before.before.before) (passes sounded)
+    (number-four (image_in start) (world_in start) start.args.q (a_call sounded.before.before) (passes sounded)
     (omega (arith, c.if-q-ge-SANDBOXES.true))))
 
 cast-k : tie.Need-overflow_cast-k
@@ -218,7 +218,7 @@ returns-4 c =
 
 answer-requires : tie.Need-answer-tried-requires
 answer-requires c κs =
-    let row = row_of c.before.before in
+    let row = row_of c.before in
     (in-row row, (world_in (behind_row row), around row))
 
 same-length-7 : tie.Need-shape_of-pool-then-tried
@@ -241,8 +241,8 @@ act-requires c κs =
     let told = c.before.before in
     let row = tried (left-of told) in
     let s = behind_row row in (
-      a_call row.before.before.before.before.before.before,
-      ((left-of told).if4.false, (in-row row, (s.args.machine.sandboxes, stands told))),
+      a_call row.before.before.before.before,
+      ((left-of told).if-q-eq-REWIND.false, (in-row row, (s.args.machine.sandboxes, stands told))),
     )
 
 mul-after : tie.Need-offset_bounds-m-k-2
