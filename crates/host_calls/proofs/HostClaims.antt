@@ -45,6 +45,8 @@ host-over-gaps image h l q t c bytes y S u =
 calls-run : (image : List ℕ) (h l : Handed) (qs : List Request) (as' : List Answered) → h ≡ hands_of (world_in h) → Calls image h qs as' l
     → Run image (world_in h) qs as' (world_in l) × (l ≡ hands_of (world_in l))
 calls-run image h l [] [] e Calls.none = (none, e)
+calls-run image h l [] (a ∷ as') e c = elim c [ ]
+calls-run image h l (q ∷ qs) [] e c = elim c [ ]
 calls-run image h l (q ∷ qs) (a ∷ as') e (Calls.more {k = k} {t = t} c r) =
     let y : is_state h.state ≡ true = ap (λ (k : Handed). is_state k.state) e ∙ passes (machine_of (world_in h)) in
     let rest = calls-run image k l qs as' (c.stepped y).1 r in
@@ -62,6 +64,8 @@ run-called : (image : List ℕ) (w v : World) (qs : List Request) (as' : List An
     → Calls image (hands_of w) qs as' (hands_of v)
 unfolding told
 run-called image w v [] [] S none = Calls.none
+run-called image w v [] (a ∷ as') S r = elim r [ ]
+run-called image w v (q ∷ qs) [] S r = elim r [ ]
 run-called image w v (q ∷ qs) (a ∷ as') S (more {o = o} s r) =
     let shaped = sound-is-shaped image w S in
     let again = world-again w shaped in
