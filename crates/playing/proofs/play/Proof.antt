@@ -43,14 +43,14 @@ abbrev start_of : AtLoop → tie.Start invariant-loop decreases-loop
 start_of c = c.before.before.before.before.before.before.before.before.before.before
 
 -- there is a line left, it starts within the roll, and the numbers of as many as are read ahead have room
-left : (c : Counted) → (loop_of c).loop.playing.answered < lines_of (length (start_of (loop_of c)).args.roll.now)
-left c = omega (arith, c.before.loop-playing-test.true, (loop_of c).before.lines_of.ensures)
+left : (c : Counted) → (loop_of c).loop-playing.playing.answered < lines_of (length (start_of (loop_of c)).args.roll.now)
+left c = omega (arith, c.before.loop-playing-test.true, (loop_of c).before.lines_of-lines.ensures)
 
-within : (c : Counted) → (loop_of c).loop.playing.answered * 43 ≤ length (start_of (loop_of c)).args.roll.now
+within : (c : Counted) → (loop_of c).loop-playing.playing.answered * 43 ≤ length (start_of (loop_of c)).args.roll.now
 within c = starts _ _ (left c)
 
-room : (c : Counted) → c.ahead.result * 8 ≤ length (loop_of c).loop.numbers
-room c = omega (arith, c.ahead.ensures, (loop_of c).loop.invariant.4)
+room : (c : Counted) → c.ahead-end.result * 8 ≤ length (loop_of c).loop-playing.numbers
+room c = omega (arith, c.ahead-end.ensures, (loop_of c).loop-playing.invariant.4)
 
 -- ---- lines read ahead
 
@@ -61,7 +61,7 @@ abbrev counted : Read → Counted
 counted c = c.before.before.before
 
 abbrev many : Read → ℕ
-many c = (counted c).ahead.result
+many c = (counted c).ahead-end.result
 
 abbrev numbers_read : Read → List ℕ
 numbers_read c = c.read_lines.new.numbers
@@ -71,7 +71,7 @@ length-read c = c.read_lines.auto.numbers ∙ length-take-le _ _ (room (counted 
 
 -- all numbers, and those that are handed on
 abbrev numbers_then : Read → List ℕ
-numbers_then c = numbers_read c ++ drop (many c * 8) (loop_of (counted c)).loop.numbers
+numbers_then c = numbers_read c ++ drop (many c * 8) (loop_of (counted c)).loop-playing.numbers
 
 abbrev block : Read → List ℕ
 block c = take (many c * 8) (numbers_then c)
@@ -84,27 +84,27 @@ block-lines c = rw (block-is c, length-read c) (omega arith)
 
 length-then : (c : Read) → length (numbers_then c) ≡ 512
 length-then c =
-    let numbers = (loop_of (counted c)).loop.numbers in
+    let numbers = (loop_of (counted c)).loop-playing.numbers in
     omega (
       arith,
       length-append (numbers_read c) (drop (many c * 8) numbers),
       length-read c,
       length-drop (many c * 8) numbers,
       room (counted c),
-      (loop_of (counted c)).loop.inv.4,
+      (loop_of (counted c)).loop-playing.invariant.4,
     )
 
-some : (c : Read) → (1 ≤ many c) × ((loop_of (counted c)).loop.playing.answered + many c ≤ (loop_of (counted c)).before.lines_of.result)
-some c = (omega (arith, (counted c).ahead.ensures, (counted c).before.loop-playing-test.true), omega (arith, (counted c).ahead.ensures, (counted c).before.loop-playing-test.true))
+some : (c : Read) → (1 ≤ many c) × ((loop_of (counted c)).loop-playing.playing.answered + many c ≤ (loop_of (counted c)).before.lines_of-lines.result)
+some c = (omega (arith, (counted c).ahead-end.ensures, (counted c).before.loop-playing-test.true), omega (arith, (counted c).ahead-end.ensures, (counted c).before.loop-playing-test.true))
 
 lines-read : (c : Read) (i : ℕ) → i < length (block c) / 8
-    → line_in (block c) i ≡ line_at (start_of (loop_of (counted c))).args.roll.now ((loop_of (counted c)).loop.playing.answered + i)
+    → line_in (block c) i ≡ line_at (start_of (loop_of (counted c))).args.roll.now ((loop_of (counted c)).loop-playing.playing.answered + i)
 lines-read c i less =
     let roll = (start_of (loop_of (counted c))).args.roll.now in
-    let numbers = (loop_of (counted c)).loop.numbers in
+    let numbers = (loop_of (counted c)).loop-playing.numbers in
     let as_many : length (take (many c * 8) numbers) / 8 ≡ many c = rw (length-take-le (many c * 8) numbers (room (counted c))) (omega arith) in
     lines-ahead roll (numbers_read c) (drop (length (take (many c * 8) numbers) / 8 * 8) (take (many c * 8) numbers)) (drop (many c * 8) numbers)
-    (loop_of (counted c)).loop.playing.answered (length (take (many c * 8) numbers) / 8) (many c * 8) c.read_lines.ensures (length-read c) i
+    (loop_of (counted c)).loop-playing.playing.answered (length (take (many c * 8) numbers) / 8) (many c * 8) c.read_lines.ensures (length-read c) i
     (omega (arith, less, block-lines c, as_many))
 
 -- ---- the needs
@@ -146,7 +146,7 @@ read-lines-requires : tie.Need-read_lines-requires invariant-loop decreases-loop
 read-lines-requires c κs = search rules
 
 array-share-prefix-numbers : tie.Need-slice_bounds-numbers-end-in-loop-playing invariant-loop decreases-loop
-array-share-prefix-numbers c = let read = c.before.before.before in omega (arith, length-then read, room (counted read), (loop_of (counted read)).loop.inv.4)
+array-share-prefix-numbers c = let read = c.before.before.before in omega (arith, length-then read, room (counted read), (loop_of (counted read)).loop-playing.invariant.4)
 
 slice-aggregate-reply-lines : tie.Need-slice_bounds-reply_lines-end invariant-loop decreases-loop
 slice-aggregate-reply-lines c =
@@ -158,13 +158,13 @@ reply-lines-requires c κs =
     let read = c.before.before.before.before.before in
     let at = loop_of (counted read) in
     let s = start_of at in
-    let inv = at.loop.invariant in
-    let lines = at.before.lines_of.ensures in
+    let inv = at.loop-playing.invariant in
+    let lines = at.before.lines_of-lines.ensures in
     let known = known-played s.args.player.sound _ _ s.args.roll.now _ _ _ _ _ s.requires.1.1 inv.7 in
     rw (block-lines read) (
       omega (arith, (some read).1, lines, inv.3, s.requires.0),
       omega (arith, (some read).1, lines, inv.5, s.requires.1.0),
-      subst (λ b. Known b s.args.image.now (played_by at.loop.playing at.loop.pool at.loop.table)) (sym inv.6) known,
+      subst (λ b. Known b s.args.image.now (played_by at.loop-playing.playing at.loop-playing.pool at.loop-playing.table)) (sym inv.6) known,
     )
 
 loop-less : tie.Need-loop-playing-smaller invariant-loop decreases-loop
@@ -179,7 +179,7 @@ loop-again c =
     let read = c.before.before.before.before.before.before.before.before.before.before.before.before in
     let at = loop_of (counted read) in
     let s = start_of at in
-    let inv = at.loop.invariant in (
+    let inv = at.loop-playing.invariant in (
       omega (arith, reply.ensures.2, block-lines read, (some read).1),
       reply.auto.pool ∙ inv.1,
       reply.auto.table ∙ inv.2,
@@ -187,8 +187,8 @@ loop-again c =
       length-then read,
       reply.ensures.1 ∙ inv.5,
       reply.ensures.3 ∙ inv.6,
-      played-then s.args.image.now (block read) s.args.roll.now s.args.out.now at.loop.out _ _ at.loop.playing.first
-          at.loop.playing.answered _ _ _ _ _ inv.7 (lines-read read) reply.ensures.0 inv.5 reply.ensures.2,
+      played-then s.args.image.now (block read) s.args.roll.now s.args.out.now at.loop-playing.out _ _ at.loop-playing.playing.first
+          at.loop-playing.playing.answered _ _ _ _ _ inv.7 (lines-read read) reply.ensures.0 inv.5 reply.ensures.2,
     )
 
 same_length : tie.Need-shape_of-pool invariant-loop decreases-loop
