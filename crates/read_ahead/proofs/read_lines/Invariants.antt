@@ -7,7 +7,7 @@ abbrev pub invariant-loop-reader : goal.invariant-loop-reader
 invariant-loop-reader l = record {
   src : l.reader.src.now ≡ l.roll;
   bound : l.reader.line ≤ l.lines;
-  ahead : l.numbers ≡ numbers_in l.roll l.reader.line ++ drop (l.reader.line * 8) l.initial.numbers
+  ahead : l.numbers ≡ numbers_in l.roll l.reader.line ++ drop (l.reader.line * 8) l.initial.numbers;
 }
 
 abbrev pub decreases-loop-reader : goal.decreases-loop-reader
