@@ -16,13 +16,13 @@ use Rattle.player.proofs.perform.Statement.{statement}
 use Rattle.player.proofs.perform.Tie as tie
 
 abbrev invariant-loop : tie.invariant-loop-number
-invariant-loop pool₀ table₀ image sound machine₀ number₀ pool table machine number =
+invariant-loop rt pool₀ table₀ image sound machine₀ number₀ pool table machine number =
     (number ≤ 65536) × (length pool ≡ length pool₀) × (length table ≡ length table₀)
     × GoesOnTo image (world_of machine₀ pool₀ table₀) number (world_of machine pool table)
     × Known sound image (world_of machine pool table)
 
 abbrev decreases-loop : tie.decreases-loop-number
-decreases-loop pool₀ table₀ image sound machine₀ number₀ pool table machine number = 65536 - number
+decreases-loop rt pool₀ table₀ image sound machine₀ number₀ pool table machine number = 65536 - number
 
 -- ---- what is known in the loop
 
@@ -60,13 +60,13 @@ abbrev loop_of : AfterTurn → AtLoop
 loop_of c = c.before.before.before.before.before.before
 
 abbrev pool_after : AfterTurn → List ℕ
-pool_after c = c.turn-progress.new.1.0
+pool_after c = c.turn-progress.new.pool
 
 abbrev table_after : AfterTurn → List ℕ
-table_after c = c.turn-progress.new.1.1.0
+table_after c = c.turn-progress.new.table
 
 abbrev turn_at : AfterTurn → Turn
-turn_at c = turn_of c.turn-progress.result c.turn-progress.new.1.1.1.1.0 c.turn-progress.new.1.1.1.1.1.0
+turn_at c = turn_of c.turn-progress.result c.turn-progress.new.line c.turn-progress.new.reply
 
 -- ---- the needs
 
@@ -129,8 +129,8 @@ loop-again c =
     let at = loop_of turning in
     let v = world_of got.result.machine (pool_after turning) (table_after turning) in (
       omega (arith, turning.loop-number-test.true),
-      got.auto.player ∙ at.loop-number.invariant.1,
-      got.auto.pool ∙ at.loop-number.invariant.2,
+      got.auto.pool ∙ at.loop-number.invariant.1,
+      got.auto.table ∙ at.loop-number.invariant.2,
       one-turn-more (image_in at) (world_begun at) at.loop-number.number (world_at at) (turn_at turning) v at.loop-number.invariant.3
           got.ensures.0 got.result.more got.ensures.1 c.if-not-progress.false,
       known-answers _ (image_in at) at.loop-number.number (world_at at) (turn_at turning) v at.loop-number.invariant.4 got.ensures.0,
