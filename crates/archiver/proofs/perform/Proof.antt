@@ -57,7 +57,7 @@ returns c =
     let starting = started (accepting playing.before) in
     let start = first starting in
     let image = start.args.image.now in
-    let w = world_of left.result left.new.sound left.new.pool in (
+    let w = world_of left.result left.new.pool left.new.table in (
       record {
         world = w;
         input = subst (λ v. RollPlayed image v w) starting.start-begun.ensures.1 left.ensures;

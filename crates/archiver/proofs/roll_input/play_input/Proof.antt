@@ -3,7 +3,8 @@ use mathlib.Core.Path.{◌≡◌, refl, sym, ◌∙◌}
 use mathlib.Core.List.{List}
 use Prim.Native.Nat.{ℕ, ◌-◌, ◌≤◌}
 use native.Mathlib.Omega.{arith}
-use lib.ListN.{length}
+use lib.ListN.{length, take}
+use lib.Seq.{length-take-le}
 use borrow.Author.Rules.{rules}
 use Rattle.state.specs.World.{World, world_of}
 use Rattle.playing.proofs.AheadLaws.{few-lines}
@@ -12,12 +13,12 @@ use Rattle.archiver.proofs.roll_input.play_input.Statement.{statement}
 use Rattle.archiver.proofs.roll_input.play_input.Tie as tie
 
 abbrev invariant-loop : tie.invariant-loop-number
-invariant-loop sound pool₀ table₀ image state₀ number₀ pool table state number =
+invariant-loop rt sound pool₀ table₀ image state₀ number₀ pool table state number =
     (number ≤ 65536) × (length pool ≡ length pool₀) × (length table ≡ length table₀)
     × SoFar image (world_of state₀ pool₀ table₀) number (world_of state pool table)
 
 abbrev decreases-loop : tie.decreases-loop-number
-decreases-loop sound pool₀ table₀ image state₀ number₀ pool table state number = 65536 - number
+decreases-loop rt sound pool₀ table₀ image state₀ number₀ pool table state number = 65536 - number
 
 -- ---- what is known in the loop
 
@@ -44,10 +45,14 @@ abbrev AfterRead : Type 0
 AfterRead = tie.After-read_full-got invariant-loop decreases-loop
 
 abbrev loop_of : AfterRead → AtLoop
-loop_of c = c.before.before.before
+loop_of c = c.before.before.before.before.before
 
 few_bytes : (c : AfterRead) → c.read_full-got.result ≤ 43
-few_bytes c = omega (arith, c.read_full-got.ensures.0, c.read_full-got.auto.1.0)
+few_bytes c = omega (arith, c.read_full-got.ensures, c.read_full-got.auto.buf)
+
+-- as many bytes as were read stand at the line's start
+got_bytes : (c : AfterRead) → c.read_full-got.result ≡ length (take c.read_full-got.result c.read_full-got.new.buf)
+got_bytes c = sym (length-take-le _ _ c.read_full-got.ensures)
 
 -- ---- and played
 
@@ -58,12 +63,15 @@ abbrev read_of : AfterPlay → AfterRead
 read_of c = c.before.before.before.before.before.before
 
 abbrev world_after : AfterPlay → World
-world_after c = world_of c.play-state.result c.play-state.new.1.0 c.play-state.new.1.1.0
+world_after c = world_of c.play-state.result c.play-state.new.pool c.play-state.new.table
 
 -- ---- the needs
 
 loop-holds : tie.Need-loop-number-init invariant-loop decreases-loop
 loop-holds c = (omega arith, refl, refl, none_so_far _ _)
+
+stdin-requires : tie.Need-stdin-input-requires invariant-loop decreases-loop
+stdin-requires c κs = search rules
 
 slice-aggregate-read-full : tie.Need-slice_bounds-read_full-end invariant-loop decreases-loop
 slice-aggregate-read-full c = search rules
@@ -87,7 +95,7 @@ play-requires c κs =
     let few = few-lines reading.read_full-got.result (few_bytes reading) in
     let start = start_of at in
     let known = known-so-far (image_in at) (world_begun at) at.loop-number.number (world_at at) at.loop-number.invariant.3 start.args.sound start.requires in
-    rw (← reading.read_full-got.ensures.1) (omega (arith, few), (omega (arith, few, at.loop-number.invariant.0), known))
+    rw (← got_bytes reading) (omega (arith, few), (omega (arith, few, at.loop-number.invariant.0), known))
 
 is-whole-requires : tie.Need-is_whole-requires invariant-loop decreases-loop
 is-whole-requires c κs = search rules
@@ -104,9 +112,9 @@ returns c =
     let playing = c.before.before.before.before.before.before.before in
     let reading = read_of playing in
     let at = loop_of reading in
-    let low : at.loop-number.number ≤ 65535 = omega (arith, reading.before.before.loop-number-test.true) in
+    let low : at.loop-number.number ≤ 65535 = omega (arith, reading.loop-number-test.true) in
     ended (image_in at) (world_begun at) at.loop-number.number (world_at at) at.loop-number.invariant.3 low _ _ _ (world_after playing)
-    (rw (← reading.read_full-got.ensures.1) (short-line reading.read_full-got.result told.result told.ensures (few_bytes reading) c.if-not-is_whole.true-raw))
+    (rw (← got_bytes reading) (short-line reading.read_full-got.result told.result told.ensures (few_bytes reading) c.if-not-is_whole.true-raw))
     playing.play-state.ensures
 
 add-number : tie.Need-overflow_add-number invariant-loop decreases-loop
@@ -122,12 +130,12 @@ loop-again c =
     let reading = read_of playing in
     let at = loop_of reading in
     let got = reading.read_full-got in
-    let low : at.loop-number.number ≤ 65535 = omega (arith, reading.before.before.loop-number-test.true) in
+    let low : at.loop-number.number ≤ 65535 = omega (arith, reading.loop-number-test.true) in
     let whole : got.result ≡ 43 = whole-line got.result told.result told.ensures c.if-not-is_whole.false-raw in (
       omega (arith, low),
       playing.play-state.auto.pool ∙ at.loop-number.invariant.1,
       playing.play-state.auto.table ∙ at.loop-number.invariant.2,
-      one_more (image_in at) (world_begun at) at.loop-number.number (world_at at) at.loop-number.invariant.3 low _ _ _ (world_after playing) (sym got.ensures.1 ∙ whole)
+      one_more (image_in at) (world_begun at) at.loop-number.number (world_at at) at.loop-number.invariant.3 low _ _ _ (world_after playing) (sym (got_bytes reading) ∙ whole)
           playing.play-state.ensures,
     )
 
@@ -150,6 +158,7 @@ play_input_spec =
     invariant-loop
     decreases-loop
     loop-holds
+    stdin-requires
     slice-aggregate-read-full
     read-full-requires
     array-share-prefix-line
