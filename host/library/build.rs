@@ -1,4 +1,4 @@
-//! Links the proved machine, a static library that `rt staticlib gazhuppin` writes.
+//! Links the proved machine, a static library that `tools/build gazhuppin` writes.
 
 use std::env;
 use std::path::{Path, PathBuf};
@@ -12,7 +12,7 @@ fn main() {
     if !library.is_file() {
         let missing = library.display();
         println!(
-            "cargo::error={missing} is missing: `rt staticlib gazhuppin`, run in the project's \
+            "cargo::error={missing} is missing: `tools/build gazhuppin`, run in the project's \
              root, writes it; GAZHUPPIN_LIB can name another folder that has it"
         );
         return;

@@ -1,6 +1,6 @@
 """The proved machine of rewinding sandboxes, for Python.
 
-The static library that `rt staticlib gazhuppin` writes becomes a shared object by one command, in the project's root:
+The static library that `tools/build gazhuppin` writes becomes a shared object by one command, in the project's root:
 
     gcc -shared -o target/staticlib/libgazhuppin.so -Wl,--whole-archive target/staticlib/libgazhuppin.a -Wl,--no-whole-archive
 

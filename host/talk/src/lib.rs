@@ -22,10 +22,10 @@ pub fn root() -> PathBuf {
     Path::new(env!("CARGO_MANIFEST_DIR")).join("../..")
 }
 
-/// The player, which `rt check player` builds.
+/// The player, which `tools/build player` builds.
 pub fn player() -> PathBuf {
     let player = root().join("target/bin/player");
-    assert!(player.is_file(), "{} is missing: `rt check player` builds it", player.display());
+    assert!(player.is_file(), "{} is missing: `tools/build player` builds it", player.display());
     player.canonicalize().expect("the player's path")
 }
 
