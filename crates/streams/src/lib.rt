@@ -5,7 +5,7 @@
 
 ghost use Rattle.std.specs.Prelude.{◌≤◌, length};
 
-use std::io::{Print, Read};
+use std::io::{Error, Print, Read, Result};
 
 // Reads until the buffer is full, the stream ends or a read fails, and says how many bytes it put at the buffer's start.
 pub fn read_full<R: Read>(stream: &mut R, buf: &mut [u8]) -> usize
@@ -37,8 +37,17 @@ pub fn write_output(rt: &HostRuntime, bytes: &[u8]) -> bool {
     match rt.stdout().write_all(bytes) {
         Ok(()) => true,
         Err(error) => {
-            let _ = eprintln!(rt; "stdout: {error}");
+            let _ = say_why(rt, &error);
             false
         }
+    }
+}
+
+// Says on standard error why standard output takes no more: the system's words for it, without its number.
+fn say_why(rt: &HostRuntime, error: &Error) -> Result<()> {
+    let text = format!(in rt.alloc(); "{error}")?;
+    match text.as_str().split_once(" (os error ") {
+        Some((reason, _)) => eprintln!(rt; "stdout: {reason}"),
+        None => eprintln!(rt; "stdout: {text}"),
     }
 }
