@@ -23,7 +23,7 @@ use marks::Marks;
 use playing::Player;
 use roll_input::play_input;
 use starting::{accepted, start};
-use std::env::args;
+use std::env::Env;
 use streams::write_output;
 
 mod roll_input;
@@ -86,26 +86,14 @@ fn size(answer: Answer) -> usize
     codes::value(answer) as usize * Line::BYTES
 }
 
-// The sandbox that the program's argument names; none where there is no such argument, or where it cannot be read.
+// The sandbox that the program's argument names.
 fn sandbox(rt: &HostRuntime) -> u16 {
-    match args(rt) {
-        Ok(mut all) => {
-            let _program = all.next();
-            match all.next() {
-                Some(text) => name_of(text.as_bytes()),
-                None => name_of(&[]),
-            }
-        }
-        Err(_) => name_of(&[]),
-    }
-}
-
-// The sandbox that a text names.
-fn name_of(text: &[u8]) -> u16 {
-    if text.len() == 0 {
-        return name(0, 0);
-    }
-    name(text.len(), text[0])
+    let mut text = [0u8; 1];
+    let bytes = match rt.arg(1, &mut text) {
+        Ok(bytes) => bytes,
+        Err(_) => 0,
+    };
+    name(bytes, text[0])
 }
 
 // Says a refusal's number on standard error.

@@ -43,11 +43,13 @@ pub fn write_output(rt: &HostRuntime, bytes: &[u8]) -> bool {
     }
 }
 
-// Says on standard error why standard output takes no more: the system's words for it, without its number.
+// Says on standard error why standard output takes no more: the system's words for it, without its number where there is memory to leave that out.
 fn say_why(rt: &HostRuntime, error: &Error) -> Result<()> {
-    let text = format!(in rt.alloc(); "{error}")?;
-    match text.as_str().split_once(" (os error ") {
-        Some((reason, _)) => eprintln!(rt; "stdout: {reason}"),
-        None => eprintln!(rt; "stdout: {text}"),
+    match format!(in rt.alloc(); "{error}") {
+        Ok(text) => match text.as_str().split_once(" (os error ") {
+            Some((reason, _)) => eprintln!(rt; "stdout: {reason}"),
+            None => eprintln!(rt; "stdout: {text}"),
+        },
+        Err(_) => eprintln!(rt; "stdout: {error}"),
     }
 }

@@ -42,7 +42,7 @@ fn no_room_for_the_answers() {
     assert_eq!(played.status.code(), Some(1));
 }
 
-/// Nobody reads the answers: the system ends the player.
+/// Nobody reads the answers: the player says so and ends.
 #[test]
 fn a_reader_that_is_gone() {
     let mut gone = Command::new("true").stdin(Stdio::piped()).spawn().expect("a reader");
