@@ -32,7 +32,8 @@ pub fn decide(b: Record, frames: u8, images: u8, shares: u16, q: Request) -> Dec
     if !within_limits(q, images) {
         return refuse(Refusal::OutsideLimits);
     }
-    if snapshot_taken(b, q) {
+    let taken = snapshot_taken(b, q);
+    if taken {
         return refuse(Refusal::SnapshotTaken);
     }
     if no_snapshot(b, q) {

@@ -60,14 +60,14 @@ row6 c = ap not c.within_limits.ensures ∙ limits-row (view (at6 c)) (request (
 past6 : (c : tie.Else-not-within_limits) → Past SnapshotTaken (at6 c.before)
 past6 c = (sym (row6 c.before) ∙ c.if-not-within_limits.false-raw, past5 c.before.before)
 
-abbrev at7 : tie.After-snapshot_taken → tie.Start
+abbrev at7 : tie.After-snapshot_taken-taken → tie.Start
 at7 c = at6 c.before.before
 
-row7 : (c : tie.After-snapshot_taken) → c.snapshot_taken.result ≡ Row SnapshotTaken (at7 c)
-row7 c = c.snapshot_taken.ensures (view (at7 c)) refl
+row7 : (c : tie.After-snapshot_taken-taken) → c.snapshot_taken-taken.result ≡ Row SnapshotTaken (at7 c)
+row7 c = c.snapshot_taken-taken.ensures (view (at7 c)) refl
 
-past7 : (c : tie.Else-snapshot_taken) → Past NoSnapshot (at7 c.before)
-past7 c = (sym (row7 c.before) ∙ c.if-snapshot_taken.false, past6 c.before.before)
+past7 : (c : tie.Else-taken) → Past NoSnapshot (at7 c.before)
+past7 c = (sym (row7 c.before) ∙ c.if-taken.false, past6 c.before.before)
 
 abbrev at8 : tie.After-no_snapshot → tie.Start
 at8 c = at7 c.before.before
@@ -119,18 +119,18 @@ returns-3 c =
     refused (view s) (request s) s.args.b OutsideLimits c.refuse-then-not-within_limits.result c.refuse-then-not-within_limits.ensures
     (past5 test.before) (sym (row6 test) ∙ c.if-not-within_limits.true-raw)
 
-snapshot-taken-requires : tie.Need-snapshot_taken-requires
+snapshot-taken-requires : tie.Need-snapshot_taken-taken-requires
 snapshot-taken-requires c κs = search rules
 
-refuse-requires-4 : tie.Need-refuse-requires-then-snapshot_taken
+refuse-requires-4 : tie.Need-refuse-requires-then-taken
 refuse-requires-4 c κs = search rules
 
-returns-4 : tie.Need-returns-then-snapshot_taken
+returns-4 : tie.Need-returns-then-taken
 returns-4 c =
     let test = c.before.before in
     let s = at7 test in
-    refused (view s) (request s) s.args.b SnapshotTaken c.refuse-then-snapshot_taken.result c.refuse-then-snapshot_taken.ensures
-    (past6 test.before) (sym (row7 test) ∙ c.if-snapshot_taken.true)
+    refused (view s) (request s) s.args.b SnapshotTaken c.refuse-then-taken.result c.refuse-then-taken.ensures
+    (past6 test.before) (sym (row7 test) ∙ c.if-taken.true)
 
 no-snapshot-requires : tie.Need-no_snapshot-requires
 no-snapshot-requires c κs = search rules
