@@ -1,4 +1,4 @@
--- Request A5, "rewind_code told as the paper tells it", of the machine that runs: what an accepted rewind makes of each committed page still mapped, in any state.
+-- Request A5, "Rewind told as the paper tells it", of the machine that runs: what an accepted rewind makes of each committed page still mapped, in any state.
 use Rattle.std.specs.Prelude.{◌≡◌, true, List, ℕ, ◌<◌}
 use Rattle.interface.specs.declared.request.Request.{Request}
 use Rattle.interface.specs.declared.page.Backing.{Backing}

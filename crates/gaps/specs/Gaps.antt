@@ -23,7 +23,7 @@ pub record Unmaps (v : View) (q : Request) : Type 0 where
 unfoldable pub is_hole : Slots → ℕ → ℕ → Bool
 is_hole f a n = every (λ i. joins (previous f i) (f i)) a (suc n)
 
--- ---- "unmap_code now passes over unmapped pages"
+-- ---- "Unmap now passes over unmapped pages"
 
 -- the unmap of n pages of sandbox s from first on
 abbrev pub unmap_of : ℕ → ℕ → ℕ → Request

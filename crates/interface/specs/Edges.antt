@@ -102,7 +102,7 @@ eight_edges =
     readable 16 1 gives refused 14 ∷ readable 15 1 gives ok 15 ∷ map_at 15 1 gives refused 14 ∷
     -- "the lowest gap that fits"
     readable 64 1 gives ok 1 ∷ readable 64 2 gives ok 15 ∷
-    -- A2, "unmap_code now passes over unmapped pages": over all areas and gaps, from a gap to a gap, over one gap alone; a protect does not
+    -- A2, "Unmap now passes over unmapped pages": over all areas and gaps, from a gap to a gap, over one gap alone; a protect does not
     call₂ unmap_code 0 64 gives ok 0 ∷ call₂ unmap_code 1 3 gives ok 0 ∷ call₂ unmap_code 2 2 gives ok 0 ∷ call₂ unmap_code 1 2 gives ok 0 ∷ call₂ unmap_code 1 1 gives ok 0 ∷
     call₂ unmap_code 15 49 gives ok 0 ∷ call₃ protect_code 0 3 1 gives refused 9 ∷ call₃ protect_code 1 2 1 gives refused 9 ∷ call₃ protect_code 2 2 1 gives refused 9 ∷ []
 

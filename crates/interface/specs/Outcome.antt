@@ -23,8 +23,8 @@ new_page q = record { rights = q.p5; committed = false; backing = backing_of q }
 abbrev pub page_on : Attributes → ℕ → Slot
 page_on t pages = Mapped (record { rights = t.rights; committed = t.committed; backing = advance t.backing pages })
 
--- "map_code makes the pages mapped and uncommitted"; "unmap_code takes away mapping"; "protect_code stores the rights"; "snapshot_code commits every mapped page";
--- "rewind_code puts the whole copy in place"
+-- "Map makes the pages mapped and uncommitted"; "Unmap takes away mapping"; "Protect stores the rights"; "Snapshot commits every mapped page";
+-- "Rewind puts the whole copy in place"
 unfoldable pub slots_after : Request → Slots → Option Slots → Slots
 slots_after q f c =
     (let first = first_of f q in over first q.p2 (λ i. page_on (new_page q) (i - first)) f) when q is map_code else
@@ -34,10 +34,10 @@ slots_after q f c =
     copied c when q is rewind_code else
     f
 
--- "snapshot_code .. copies all pages": the pages as it leaves them
+-- "Snapshot .. copies all pages": the pages as it leaves them
 unfoldable pub copy_after {ℓ} : {A : Type ℓ} → Request → A → Option A → Option A
 copy_after q now c = some now when q is snapshot_code else c
 
--- "open_code .. stores the share"
+-- "Open .. stores the share"
 abbrev pub share_after : Request → ℕ → ℕ
 share_after q share = q.p1 when q is open_code else share

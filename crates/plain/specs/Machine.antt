@@ -82,11 +82,11 @@ backing_byte image (Image p) j = get_or image (page_bytes * p.0 + j) 0
 abbrev pub new_bytes : Given → Request → ℕ → ℕ → ℕ → ℕ
 new_bytes g q first i j = backing_byte g.image (advance (backing_of q) (i - first)) j
 
--- "write_code stores the byte"
+-- "Write stores the byte"
 abbrev pub stored : Request → (ℕ → ℕ → ℕ) → ℕ → ℕ → ℕ
 stored q f i j = q.p2 when eqb i (page_of q) && eqb j (offset_of q) else f i j
 
--- "map_code makes the pages mapped .. with .. bytes, zero or the image's"; "write_code stores the byte"; "rewind_code puts the whole copy in place"
+-- "Map makes the pages mapped .. with .. bytes, zero or the image's"; "Write stores the byte"; "Rewind puts the whole copy in place"
 unfoldable pub bytes_after : Given → Request → Core → ℕ → ℕ → ℕ
 bytes_after g q c =
     (let first = first_of c.pages.slots q in over first q.p2 (new_bytes g q first) c.pages.bytes) when q is map_code else
@@ -110,8 +110,8 @@ core_after g q c = record {
 unfoldable pub frames_held : Traces → ℕ
 frames_held t = count t.front page_count + count t.back page_count + sum t.runs run_places
 
--- "unmap_code takes away .. front mark"; "write_code .. sets its page's front mark"; "snapshot_code .. turns front marks into back marks";
--- rewind_code: "a front mark stays only where the page was still committed"
+-- "Unmap takes away .. front mark"; "Write .. sets its page's front mark"; "Snapshot .. turns front marks into back marks";
+-- Rewind: "a front mark stays only where the page was still committed"
 abbrev pub front_alone : Request → Slots → (ℕ → Bool) → ℕ → Bool
 front_alone q f front =
     over q.p1 q.p2 (λ i. false) front when q is unmap_code else
@@ -126,7 +126,7 @@ front_after q f t =
     over (first_of f q) (granted q.p2 t.runs) (λ i. true) t.front when takes_run q else
     front_alone q f t.front
 
--- "snapshot_code .. turns front marks into back marks and copies all pages"; "rewind_code puts the whole copy in place"
+-- "Snapshot .. turns front marks into back marks and copies all pages"; "Rewind puts the whole copy in place"
 unfoldable pub back_after : Request → Traces → ℕ → Bool
 back_after q t =
     t.front when q is snapshot_code else
@@ -174,7 +174,7 @@ unfoldable pub changed : Core → ℕ
 changed c = changed_pages c.pages.slots (same_at c)
 
 -- map: "Value: first page"; read: "Value: the byte"; snapshot: "Value: pages committed"; call 10: the page; else "Value 0 where none is named". Document 01
--- names none for rewind; from A4 on "rewind_code answers the number of committed pages still mapped whose bytes differed from the snapshot".
+-- names none for rewind; from A4 on "Rewind answers the number of committed pages still mapped whose bytes differed from the snapshot".
 unfoldable pub core_value : Given → Request → Core → ℕ
 core_value g q c =
     first_of c.pages.slots q when q is map_code else

@@ -8,7 +8,7 @@ use Rattle.plain.specs.Cases.{Case, cases_over, no_image}
 
 abbrev pub over_gaps_rolls : List (List Line)
 over_gaps_rolls =
-    -- "unmap_code now passes over unmapped pages": three areas and the two gaps between them, two pages written; their numbers can be mapped again, and read 0
+    -- "Unmap now passes over unmapped pages": three areas and the two gaps between them, two pages written; their numbers can be mapped again, and read 0
     (call₁ open_code 16 gives ok 0 ∷ map_at 2 2 gives ok 2 ∷ readable 5 2 gives ok 5 ∷ map_at 8 2 gives ok 8 ∷ call₂ write_code 768 7 gives ok 0 ∷
     call₂ write_code 2048 9 gives ok 0 ∷ call report_code gives ok 2 ∷ call₂ unmap_code 2 8 gives ok 0 ∷ call report_code gives ok 0 ∷ call₁ read_code 768 gives refused 9 ∷
     call₁ read_code 1280 gives refused 9 ∷ call₁ read_code 2304 gives refused 9 ∷ map_at 64 10 gives ok 0 ∷ call₁ read_code 768 gives ok 0 ∷ call₁ read_code 2048 gives ok 0 ∷ []) ∷

@@ -1,4 +1,4 @@
--- Request A4, "How many pages were put back?", as a table of rolls with their answers, each written from its sentence: "rewind_code answers the number of committed
+-- Request A4, "How many pages were put back?", as a table of rolls with their answers, each written from its sentence: "Rewind answers the number of committed
 -- pages still mapped whose bytes differed from the snapshot".
 use Rattle.std.specs.Prelude.{List, [], ◌∷◌}
 use Rattle.interface.specs.Requests.{open_code, map_code, unmap_code, protect_code, read_code, write_code, snapshot_code, rewind_code, report_code, compare_code}
