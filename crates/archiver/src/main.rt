@@ -24,6 +24,7 @@ use playing::Player;
 use roll_input::play_input;
 use starting::{accepted, start};
 use std::env::Env;
+use std::io::writer;
 use streams::write_output;
 
 mod roll_input;
@@ -44,7 +45,9 @@ fn main(rt: HostRuntime) {
         &mut out,
     );
     let size = size(answer);
-    write_output(&rt, &out[..size]);
+    let stdout = rt.stdout();
+    let mut output = writer(&stdout);
+    write_output(&rt, &mut output, &out[..size]);
     say(&rt, codes::number(answer));
 }
 

@@ -18,6 +18,7 @@ use image_file::{Found, image_bytes, load};
 use lines::{Line, lines_of};
 use marks::Marks;
 use playing::{Player, play};
+use std::io::writer;
 use streams::{read_full, write_output};
 
 fn main(rt: HostRuntime) {
@@ -78,7 +79,9 @@ fn turn(
     let got = read_full(&mut input, line);
     let after = play(player, pool, table, image, &line[..got], reply);
     let size = lines_of(got) * Line::REPLY;
-    let written = write_output(rt, &reply[..size]);
+    let stdout = rt.stdout();
+    let mut output = writer(&stdout);
+    let written = write_output(rt, &mut output, &reply[..size]);
     Progress {
         machine: after,
         got: got,

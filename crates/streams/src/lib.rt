@@ -3,9 +3,10 @@
 // It stands on the library's streams alone.
 #![tactic(auto)]
 
-ghost use Rattle.std.specs.Prelude.{◌≤◌, length};
+ghost use Rattle.std.specs.Prelude.{◌≤◌, length, IsTrue};
+ghost use Rattle.std.specs.Io.KnownBytes.{Appends};
 
-use std::io::{Error, Print, Read, Result};
+use std::io::{Error, Read, Result, Write};
 
 // Reads until the buffer is full, the stream ends or a read fails, and says how many bytes it put at the buffer's start.
 pub fn read_full<R: Read>(stream: &mut R, buf: &mut [u8]) -> usize
@@ -32,9 +33,12 @@ fn read_some<R: Read>(stream: &mut R, buf: &mut [u8]) -> usize
     }
 }
 
-// Writes all of the bytes to standard output and says so; or stops where it takes no more, says why on standard error, and says that it did not.
-pub fn write_output(rt: &HostRuntime, bytes: &[u8]) -> bool {
-    match rt.stdout().write_all(bytes) {
+// Writes all of the bytes and says so; or stops where the stream takes no more, says why on standard error, and says that it did not. Of a stream that tells
+// what it holds: where all were written, it holds them behind what it held.
+pub fn write_output<W: Write>(rt: &HostRuntime, stream: &mut W, bytes: &[u8]) -> bool
+    ensures { IsTrue result → Appends (W.contents stream.old) (W.contents stream.new) bytes.now }
+{
+    match stream.write_all(bytes) {
         Ok(()) => true,
         Err(error) => {
             let _ = say_why(rt, &error);
