@@ -8,7 +8,7 @@ use lib.Dec.{eqb, ltb}
 use lib.ListN.{length}
 use borrow.Author.Tests.{ltb-false, eqb-true}
 use Rattle.basics.proofs.TestLaws.{by_cases}
-use Rattle.interface.specs.declared.answer.Answer.{Answer}
+use Rattle.interface.specs.Answers.{Answer}
 use Rattle.interface.specs.declared.request.Request.{Request}
 use Rattle.interface.specs.Answers.{value_of}
 use Rattle.interface.specs.Refusals.{View, is_taken, archive_refusal}

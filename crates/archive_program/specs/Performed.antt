@@ -1,6 +1,6 @@
 -- What the program reads, answers and writes.
 use Rattle.std.specs.Prelude.{◌≡◌, List, ℕ, ◌*◌, take}
-use Rattle.interface.specs.declared.answer.Answer.{Answer}
+use Rattle.interface.specs.Answers.{Answer}
 use Rattle.interface.specs.Answers.{value_of}
 use Rattle.state.specs.World.{World}
 use Rattle.replay.specs.Snapshot.{written}

@@ -2,7 +2,7 @@
 use Rattle.std.specs.Prelude.{◌≡◌, true, false, List, [], ℕ, ◌≤◌, ◌<◌, length}
 use Rattle.std.proofs.Math.Option.{some}
 use Rattle.interface.specs.Numbers.{sandbox_count}
-use Rattle.interface.specs.declared.answer.Answer.{Answer}
+use Rattle.interface.specs.Answers.{Answer}
 use Rattle.interface.specs.Answers.{answered}
 use Rattle.interface.specs.Examples.{refused}
 use Rattle.lines.specs.Lines.{lines_of}

@@ -13,14 +13,8 @@ const NO_SANDBOX: u16 = 4;
 pub fn name(bytes: usize, first: u8) -> u16
     ensures { result ≡ named bytes first }
 {
-    if bytes != 1 {
-        return NO_SANDBOX;
+    match (bytes, first) {
+        (1, b'0'..=b'3') => u16::from(first - b'0'),
+        _ => NO_SANDBOX,
     }
-    if first < b'0' {
-        return NO_SANDBOX;
-    }
-    if b'3' < first {
-        return NO_SANDBOX;
-    }
-    (first - b'0') as u16
 }

@@ -24,23 +24,21 @@ pub fn play_input(
     ensures { let before = world_of machine pool.old table.old in
         RollPlayed image.now before (world_of result pool.new table.new) }
 {
-    let mut state = machine;
-    let mut number: u32 = 1;
-    while number <= Player::LAST {
-        let mut line = [0u8; Line::BYTES];
+    let mut machine = machine;
+    for line in 1..=Player::LAST {
+        let mut read = [0u8; Line::BYTES];
         let mut reply = [0u8; Line::REPLY];
         let mut input = rt.stdin();
-        let got = read_full(&mut input, &mut line);
+        let got = read_full(&mut input, &mut read);
         let player = Player {
-            machine: state,
-            sound: sound,
-            line: number,
+            machine,
+            sound,
+            line,
         };
-        state = play(player, pool, table, image, &line[..got], &mut reply);
+        machine = play(player, pool, table, image, &read[..got], &mut reply);
         if !is_whole(got) {
-            return state;
+            return machine;
         }
-        number += 1;
     }
-    state
+    machine
 }

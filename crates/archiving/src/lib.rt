@@ -28,25 +28,23 @@ pub fn write_archive(
         left result out.new ≡ written image.now world sandbox out.old }
 {
     if !sound(machine, pool, table, image) {
-        return Answer::Refused(Refusal::Unsound);
+        return Err(Refusal::Unsound);
     }
     let k = sandbox as usize;
-    if Machine::SANDBOXES <= k {
-        return Answer::Refused(Refusal::NotOpen);
+    if k >= Machine::SANDBOXES {
+        return Err(Refusal::NotOpen);
     }
-    let sandboxes = machine.sandboxes;
-    let b = sandboxes[k];
-    if !b.rec.opened {
-        return Answer::Refused(Refusal::NotOpen);
+    let b = machine.sandboxes[k].rec;
+    if !b.opened {
+        return Err(Refusal::NotOpen);
     }
-    if !b.rec.taken {
-        return Answer::Refused(Refusal::NoSnapshot);
+    if !b.taken {
+        return Err(Refusal::NoSnapshot);
     }
-    let areas = b.rec.snapshot;
     let snapshot = Snapshot {
         sandbox: sandbox as u8,
-        share: b.rec.share,
-        areas: areas,
+        share: b.share,
+        areas: b.snapshot,
     };
     put_fitting(out, snapshot, image, pool, table)
 }

@@ -13,10 +13,8 @@ pub fn are_unchanged(present: Areas, snapshot: Areas) -> bool
     ensures { result ≡ unchanged present snapshot }
 {
     let mut same = true;
-    for k in 0..Area::MOST {
-        let area = present.list[k];
-        let copied = snapshot.list[k];
-        same = same & stays(area, copied);
+    for (k, area) in present.list.iter().enumerate() {
+        same &= stays(*area, snapshot.list[k]);
     }
     same
 }

@@ -4,7 +4,8 @@ use mathlib.Core.Path.{◌≡◌, refl}
 use mathlib.Core.Bool.{Bool, true, false, not, ◌||◌}
 use native.Mathlib.Omega.{arith}
 use native.Mathlib.Decide.{dec_lt}
-use lib.ListN.{get_or}
+use mathlib.Core.List.{List}
+use lib.ListN.{length, get_or, take}
 use Rattle.basics.specs.Choice.{◌when◌else◌}
 use Rattle.basics.specs.Ranges.{count}
 use Rattle.basics.proofs.CountLaws.{count_small}
@@ -13,7 +14,7 @@ use Rattle.areas.specs.declared.area.Area.{Area}
 use Rattle.areas.specs.declared.area.Areas.{Areas}
 use Rattle.areas.specs.Areas.{none, slot_of, slots}
 use Rattle.areas.specs.Walk.{Formed}
-use Rattle.areas.proofs.WalkLaws.{end_of, Before, before-start, before-gap, before-area, before_last, before-next, before-none}
+use Rattle.areas.proofs.WalkLaws.{end_of, Before, before-start, before-gap, before-area, before_last, before-next, before-none, held-at}
 use Rattle.area_counts.specs.Counts.{counts, counted_pages}
 
 -- a run of numbers of which all pass, or none
@@ -81,6 +82,11 @@ module _ (s : Areas) (F : Formed s) (c : Bool) where
           let y = count-run passes first (at k).pages (c || not (at k).committed) area in
           let e : r.page + (first - r.page) ≡ first = omega arith in
           record { page = end_of s k; there = before-next s F k r.page r.there d; counted = omega (arith, r.counted, y, rw e at x) }
+
+  -- the same, of the areas that it holds
+  pub counted-on : (l : List Area) → l ≡ take s.count s.list → (k n m : ℕ) → k < length l → m ≡ counted_pages c (get_or l k none)
+      → Counted s c k n → Counted s c (k + 1) (n + m)
+  counted-on l e k n m d h r = rw (h, held-at s F l e k d) (counted_next k n r)
 
   -- behind the last area nothing more counts
   pub counted-all : (k n : ℕ) → s.count ≤ k → Counted s c k n → n ≡ count passes 64

@@ -5,7 +5,8 @@ use mathlib.Core.Bool.{Bool, true, false}
 use native.Mathlib.Omega.{arith}
 use native.Mathlib.Nat.{add-zero}
 use lib.Dec.{eqb, ltb}
-use lib.ListN.{get_or}
+use mathlib.Core.List.{List}
+use lib.ListN.{length, get_or, take}
 use borrow.Author.Tests.{ltb-true, ltb-false, eqb-true, eq-eqb, not-false}
 use Rattle.basics.specs.Choice.{◌when◌else◌, same}
 use Rattle.basics.specs.Ranges.{one, count}
@@ -17,7 +18,7 @@ use Rattle.areas.specs.declared.area.Area.{Area}
 use Rattle.areas.specs.declared.area.Areas.{Areas}
 use Rattle.areas.specs.Areas.{none, slots}
 use Rattle.areas.specs.Walk.{Formed}
-use Rattle.areas.proofs.WalkLaws.{end_of, Before, before-start, before-gap, before-area, before_last, before-next}
+use Rattle.areas.proofs.WalkLaws.{end_of, Before, before-start, before-gap, before-area, before_last, before-next, held-length, held-at}
 use Rattle.area_counts.specs.Counts.{clamped, overlap, mapped_in}
 use Rattle.area_counts.proofs.CountedLaws.{count-run}
 
@@ -117,6 +118,12 @@ module _ (s : Areas) (F : Formed s) (first n : ℕ) (h : first + n ≤ 64) where
       let to-a : p + (a - p) ≡ a = omega arith in
       let to-e : a + (e - a) ≡ e = omega arith in
       record { page = end_of s k; there = before-next s F k r.page r.there d; counted = omega (arith, r.counted, rw to-a at x, rw to-e at y) }
+
+  -- the same, of the areas that it holds
+  pub covered-on : (l : List Area) → l ≡ take s.count s.list → (k m p : ℕ) → k < length l → p ≡ overlap (get_or l k none) first n
+      → Covered s first n k m → Covered s first n (k + 1) (m + p)
+  covered-on l e k m p d g r =
+      rw (g, held-at s F l e k d) (covered_next k m (omega (arith, held-length s F l e)) r)
 
   pub covered-all : (k m : ℕ) → s.count ≤ k → Covered s first n k m → m ≡ mapped_in (slots s) first n
   unfolding mapped_in

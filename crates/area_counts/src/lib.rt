@@ -10,12 +10,13 @@ ghost use Rattle.interface.specs.Numbers.{page_count};
 ghost use Rattle.interface.specs.Slots.{mapped_pages, uncommitted_pages, all_are};
 ghost use Rattle.areas.specs.Areas.{slots};
 ghost use Rattle.areas.specs.Walk.{Formed};
-ghost use Rattle.area_counts.specs.Counts.{counts, counted_pages, clamped, overlap, mapped_in};
+ghost use Rattle.area_counts.specs.Counts.{counts, counted_pages, overlap, mapped_in};
 
 use areas::area::{Area, Areas};
 use interface::PageNo;
 
 // How many pages are mapped.
+#[tactic(auto, unfolding(interface::specs::Slots::mapped_pages))]
 pub fn mapped_pages(areas: Areas) -> u8
     requires { Formed areas }
     ensures { result ≡ mapped_pages (slots areas) }
@@ -24,6 +25,7 @@ pub fn mapped_pages(areas: Areas) -> u8
 }
 
 // How many pages are mapped and not committed.
+#[tactic(auto, unfolding(interface::specs::Slots::uncommitted_pages))]
 pub fn uncommitted_pages(areas: Areas) -> u8
     requires { Formed areas }
     ensures { result ≡ uncommitted_pages (slots areas) }
@@ -36,11 +38,10 @@ fn pages(areas: Areas, committed: bool) -> u8
     requires { Formed areas }
     ensures { result ≡ count (λ i. counts committed (slots areas i)) page_count }
 {
-    let count = areas.count as usize;
+    // A loop: `sum` would ask beforehand that the whole fits a byte, which is known area by area.
     let mut n: u8 = 0;
-    for k in 0..count {
-        let area = areas.list[k];
-        n += counted(area, committed);
+    for area in areas.as_slice() {
+        n += counted(*area, committed);
     }
     n
 }
@@ -73,9 +74,8 @@ fn mapped_in(areas: Areas, first: PageNo, n: u8) -> u8
     ensures { result ≡ mapped_in (slots areas) first.0 n }
 {
     let mut pages: u8 = 0;
-    for k in 0..areas.count {
-        let area = areas.list[k as usize];
-        pages += overlap(area, first, n);
+    for area in areas.as_slice() {
+        pages += overlap(*area, first, n);
     }
     pages
 }
@@ -87,18 +87,5 @@ fn overlap(area: Area, first: PageNo, n: u8) -> u8
     ensures { result ≡ overlap area first.0 n }
 {
     let end = first.0 + n;
-    clamped(first.0, end, area.first.0 + area.pages) - clamped(first.0, end, area.first.0)
-}
-
-// The number from low to high that is nearest to this one.
-fn clamped(low: u8, high: u8, x: u8) -> u8
-    ensures { result ≡ clamped low high x }
-{
-    if x < low {
-        return low;
-    }
-    if high < x {
-        return high;
-    }
-    x
+    (area.first.0 + area.pages).clamp(first.0, end) - area.first.0.clamp(first.0, end)
 }

@@ -5,7 +5,8 @@ use mathlib.Core.Bool.{Bool, true, false, false≢true}
 use native.Mathlib.Omega.{arith}
 use native.Mathlib.Decide.{dec_lt}
 use lib.Dec.{leb}
-use lib.ListN.{get_or}
+use mathlib.Core.List.{List}
+use lib.ListN.{length, get_or, take}
 use borrow.Author.Tests.{le-leb, lt-leb}
 use Rattle.basics.specs.Ranges.{lowest}
 use Rattle.basics.proofs.TestLaws.{by_cases, and_right, and-of}
@@ -15,7 +16,7 @@ use Rattle.areas.specs.declared.area.Area.{Area}
 use Rattle.areas.specs.declared.area.Areas.{Areas}
 use Rattle.areas.specs.Areas.{none, slots}
 use Rattle.areas.specs.Walk.{Formed}
-use Rattle.areas.proofs.WalkLaws.{end_of, Before, before-start, before-gap, before-area, before_last, before-next}
+use Rattle.areas.proofs.WalkLaws.{end_of, Before, before-start, before-gap, before-area, before_last, before-next, held-length, held-at}
 
 -- numbers that do not pass are passed over
 lowest-skip : (P : ℕ → Bool) (e a d : ℕ) → a + d ≤ e → ((i : ℕ) → a ≤ i → i < a + d → P i ≡ false) → lowest P a (e - a) ≡ lowest P (a + d) (e - (a + d))
@@ -85,6 +86,21 @@ module _ (s : Areas) (F : Formed s) (n k page : ℕ) (r : Sought s n k page) whe
             gap-met (slots s) n i (at k).first.0 (omega arith) (omega arith)
             (area-mapped (at k).first.0 (omega arith) (omega (arith, (F.formed.each k d).some)))
         met i a b (no c) = gap-met (slots s) n i i (omega arith) (omega arith) (area-mapped i (omega arith) b)
+
+  -- the same, of the areas that it holds
+  module _ (l : List Area) (e : l ≡ take s.count s.list) (d : k < length l) where
+    there-is : get_or l k none ≡ at k
+    there-is = held-at s F l e k d
+
+    inside-count : k < s.count
+    inside-count = omega (arith, held-length s F l e)
+
+    pub held-before : n ≤ (get_or l k none).first.0 - page → page ≡ lowest_gap (slots s) n
+    held-before h = gap-before inside-count (rw there-is at h)
+
+    pub held-behind : (get_or l k none).first.0 - page < n
+        → Sought s n (k + 1) ((get_or l k none).first.0 + (get_or l k none).pages)
+    held-behind h = rw there-is (gap-behind inside-count (rw there-is at h))
 
   module _ (d : s.count ≤ k) where
     -- behind the last area

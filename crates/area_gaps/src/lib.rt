@@ -16,8 +16,7 @@ pub fn lowest_gap(areas: Areas, n: u8) -> u8
     ensures { result ≡ lowest_gap (slots areas) n }
 {
     let mut page: u8 = 0;
-    for k in 0..areas.count {
-        let area = areas.list[k as usize];
+    for area in areas.as_slice() {
         if n <= area.first.0 - page {
             return page;
         }

@@ -4,17 +4,17 @@
 // It stands on `areas`, whose runs it cuts, and on `interface` and `slots`.
 #![tactic(auto)]
 
-ghost use Rattle.std.specs.Prelude.{◌≡◌, ◌&&◌, ◌+◌, ◌-◌, ◌≤◌, min, max, ltb};
+ghost use Rattle.std.specs.Prelude.{◌≡◌, ◌&&◌, ◌+◌, ◌≤◌, min, ltb};
 ghost use Rattle.interface.specs.Numbers.{page_count};
 ghost use Rattle.interface.specs.Slots.{start_of};
 ghost use Rattle.area_parts.specs.Parts.{area_from, part_of, updated_area};
 
 use areas::area::Area;
 use interface::{Attributes, PageNo};
-use slots::{backing_at, page_on};
+use slots::advanced;
 
 // What becomes of an area: it is kept as it is, gets rights, or becomes committed.
-#[derive(Clone, Copy)]
+#[derive(Clone, Copy, Debug, PartialEq, Eq)]
 pub enum Update {
     Keep,
     Rights(u8),
@@ -26,23 +26,12 @@ impl Update {
     pub fn area(self, area: Area) -> Area
         ensures { result ≡ updated_area self area }
     {
-        let first = area.first;
-        let backing = area.backing;
         match self {
             Update::Keep => area,
-            Update::Rights(rights) => Area {
-                first: first,
-                pages: area.pages,
-                rights: rights,
-                committed: area.committed,
-                backing: backing,
-            },
+            Update::Rights(rights) => Area { rights, ..area },
             Update::Commit => Area {
-                first: first,
-                pages: area.pages,
-                rights: area.rights,
                 committed: true,
-                backing: backing,
+                ..area
             },
         }
     }
@@ -64,15 +53,13 @@ pub fn part(area: Area, from: u8, to: u8) -> Area
     ensures { result ≡ part_of area from to }
 {
     let start = area.first.0;
-    let first = most(start, from);
-    let end = least(start + area.pages, to);
-    let backing = backing_at(page_on(area.attributes(), first - start));
+    let first = start.max(from);
+    let end = (start + area.pages).min(to);
     Area {
         first: PageNo(first),
-        pages: less(end, first),
-        rights: area.rights,
-        committed: area.committed,
-        backing: backing,
+        pages: end.saturating_sub(first),
+        backing: advanced(area.backing, first - start),
+        ..area
     }
 }
 
@@ -80,13 +67,12 @@ pub fn part(area: Area, from: u8, to: u8) -> Area
 pub fn area_from(page: u8, pages: u8, t: Attributes) -> Area
     ensures { result ≡ area_from page pages t }
 {
-    let backing = t.backing;
     Area {
         first: PageNo(page),
-        pages: pages,
+        pages,
         rights: t.rights,
         committed: t.committed,
-        backing: backing,
+        backing: t.backing,
     }
 }
 
@@ -94,27 +80,5 @@ pub fn area_from(page: u8, pages: u8, t: Attributes) -> Area
 pub fn within(page: usize) -> u8
     ensures { result ≡ min page page_count }
 {
-    if page < PageNo::COUNT {
-        return page as u8;
-    }
-    PageNo::COUNT as u8
-}
-
-fn least(a: u8, b: u8) -> u8
-    ensures { result ≡ min a b }
-{
-    if a < b { a } else { b }
-}
-
-fn most(a: u8, b: u8) -> u8
-    ensures { result ≡ max a b }
-{
-    if a < b { b } else { a }
-}
-
-// How much less the second is, nothing where it is more.
-fn less(a: u8, b: u8) -> u8
-    ensures { result ≡ a - b }
-{
-    if b < a { a - b } else { 0 }
+    page.min(PageNo::COUNT) as u8
 }

@@ -63,7 +63,7 @@ pub fn with_area(
     let at = front_index(s, first);
     let changed = restore_pages(pool, table, image, at, area.pages, backing);
     Rewound {
-        held: held,
+        held,
         page: PageNo(first.0 + area.pages),
         changed: before + changed,
     }

@@ -20,6 +20,7 @@ pub fn well_formed(areas: Areas, images: u8) -> bool
     let count = areas.count as usize;
     // Only an area that starts where the one before it ends can go on there.
     let mut end: usize = 0;
+    // By place, not by area: each is looked at beside the one before it.
     for k in 0..count {
         let area = areas.list[k];
         if !is_fitting(area, end, images) {

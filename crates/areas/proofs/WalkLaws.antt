@@ -4,7 +4,9 @@ use mathlib.Core.Path.{◌≡◌}
 use mathlib.Core.Bool.{false}
 use native.Mathlib.Omega.{arith}
 use native.Mathlib.Decide.{dec_lt, ℕ_discrete}
-use lib.ListN.{get_or}
+use mathlib.Core.List.{List}
+use lib.ListN.{length, get_or, take}
+use Rattle.std.proofs.lemmas.List.{get_or-take, length-take-le}
 use Rattle.basics.proofs.RangeLaws.{inside-yes, inside-below, inside_past}
 use Rattle.interface.specs.declared.page.Slot.TheVariants.{Unmapped}
 use Rattle.areas.specs.declared.area.Area.{Area}
@@ -42,6 +44,13 @@ module _ (s : Areas) (F : Formed s) where
   -- an area ends before each later one starts
   pub order : (j k : ℕ) → j < k → k < s.count → end_of s j ≤ (at k).first.0
   order = formed-order F.images s F.formed
+
+  -- the areas that it holds, place by place
+  pub held-length : (l : List Area) → l ≡ take s.count s.list → length l ≡ s.count
+  held-length l e = rw e (length-take-le s.count s.list (omega (arith, F.formed.eight, F.formed.few)))
+
+  pub held-at : (l : List Area) → l ≡ take s.count s.list → (k : ℕ) → k < length l → get_or l k none ≡ at k
+  held-at l e k d = rw e (get_or-take s.count s.list k none (omega (arith, held-length l e)))
 
   -- no area ends behind the last page
   pub end-small : (k : ℕ) → end_of s k ≤ 64

@@ -1,16 +1,16 @@
 // An area, a sandbox's areas, and what stands at a page as they say it.
-ghost use Rattle.std.specs.Prelude.{◌≡◌, ◌≤◌, ◌<◌};
+ghost use Rattle.std.specs.Prelude.{◌≡◌, ◌≤◌, ◌<◌, take};
 ghost use Rattle.interface.specs.Numbers.{page_count};
 ghost use Rattle.interface.specs.Slots.{start_of};
 ghost use Rattle.areas.specs.Areas.{none, empty, attributes_of, covers, slot_of, slots, Near};
 ghost use Rattle.areas.specs.Formed.{goes_on};
 
-use crate::basic::{is_inside, is_same};
+use crate::basic::is_inside;
 use interface::{Attributes, Backing, PageNo, Slot};
 use slots::{follows, page_on};
 
 // "Each area has a backing: anonymous, or image with its first image page. It has rights .. and a mark"
-#[derive(Clone, Copy)]
+#[derive(Clone, Copy, Debug, PartialEq, Eq)]
 pub struct Area {
     pub first: PageNo,
     pub pages: u8,
@@ -19,8 +19,8 @@ pub struct Area {
     pub backing: Backing,
 }
 
-// The first `count` places hold areas, the others none.
-#[derive(Clone, Copy)]
+// The first `count` places hold areas, the others none. The number stands beside a fixed list, since memory is fixed: there is no heap.
+#[derive(Clone, Copy, Debug, PartialEq, Eq)]
 pub struct Areas {
     pub count: u8,
     pub list: [Area; Area::MOST],
@@ -34,11 +34,18 @@ impl Areas {
     pub fn empty() -> Self
         ensures { result ≡ empty }
     {
-        let nothing = Area::none();
         Areas {
             count: 0,
-            list: [nothing; Area::MOST],
+            list: [Area::none(); Area::MOST],
         }
+    }
+
+    // The areas that it holds.
+    pub fn as_slice(&self) -> &[Area]
+        requires { self.now.count ≤ 8 }
+        ensures { result.now ≡ take self.now.count self.now.list }
+    {
+        &self.list[..usize::from(self.count)]
     }
 
     // What stands at a page.
@@ -47,8 +54,7 @@ impl Areas {
         requires page_bound { page.0 < page_count }
         ensures { result ≡ slots self page.0 }
     {
-        for k in 0..Area::MOST {
-            let area = self.list[k];
+        for area in self.list.iter() {
             if area.covers(page) {
                 return area.slot(page);
             }
@@ -78,11 +84,10 @@ impl Area {
     pub fn attributes(self) -> Attributes
         ensures { result ≡ attributes_of self }
     {
-        let backing = self.backing;
         Attributes {
             rights: self.rights,
             committed: self.committed,
-            backing: backing,
+            backing: self.backing,
         }
     }
 
@@ -90,19 +95,16 @@ impl Area {
     pub(crate) fn covers(self, page: PageNo) -> bool
         ensures { result ≡ covers self page.0 }
     {
-        let first = self.first;
-        is_inside(first, self.pages, page)
+        is_inside(self.first, self.pages, page)
     }
 
     // Whether a page goes on where the area ends.
     pub fn goes_on(self, page: PageNo, t: Attributes) -> bool
         ensures { result ≡ goes_on self page.0 t }
     {
-        let mine = self.backing;
-        let other = t.backing;
-        let behind = self.first.0 as usize + self.pages as usize == page.0 as usize;
+        let behind = usize::from(self.first.0) + usize::from(self.pages) == usize::from(page.0);
         let agrees = (self.rights == t.rights)
-            & (is_same(self.committed, t.committed) & follows(mine, self.pages, other));
+            & ((self.committed == t.committed) & follows(self.backing, self.pages, t.backing));
         behind & agrees
     }
 

@@ -6,6 +6,7 @@ use Prim.Native.Nat.{ℕ, ◌≤◌, ◌<◌}
 use lib.Dec.{ltb}
 use borrow.Author.Tests.{ltb-true, ltb-false}
 use Rattle.basics.proofs.TestLaws.{by_cases}
+use Rattle.std.specs.Prelude.{Result, Ok, Err}
 use Rattle.interface.specs.declared.answer.Refusal.{Refusal}
 use Rattle.interface.specs.declared.answer.Refusal.TheVariants.{Malformed, NoSuchCall, Unsound, NotOpen}
 use Rattle.interface.specs.declared.request.Request.{Request}
@@ -19,22 +20,20 @@ use Rattle.step.proofs.CallLaws.{stepped-refused, number-two, number-three, numb
 use Rattle.roll.specs.Known.{Known}
 use Rattle.roll.specs.Play.{Turned}
 use Rattle.roll.proofs.KnownLaws.{known_is}
-use Rattle.asking.specs.declared.Asked.{Asked}
-use Rattle.asking.specs.declared.Asked.TheVariants.{Refused, Call}
 use Rattle.asking.specs.Asked.{asked_by}
 
 -- what an answer asks: the refusal, and whether there is one
-abbrev why_of : Asked → Refusal
-why_of (Refused why) = why
-why_of (Call q) = Malformed
+abbrev why_of : Result Request Refusal → Refusal
+why_of (Err why) = why
+why_of (Ok q) = Malformed
 
-abbrev is_refused : Asked → Bool
-is_refused (Refused why) = true
-is_refused (Call q) = false
+abbrev is_refused : Result Request Refusal → Bool
+is_refused (Err why) = true
+is_refused (Ok q) = false
 
-abbrev request_of : Request → Asked → Request
-request_of q (Refused why) = q
-request_of q (Call p) = p
+abbrev request_of : Request → Result Request Refusal → Request
+request_of q (Err why) = q
+request_of q (Ok p) = p
 
 -- a refusal that leaves the world
 abbrev turned_back : Refusal → World → Outcome
@@ -45,29 +44,30 @@ false-true e = absurd (false≢true e)
 
 -- what a line asks, by each way
 module _ (sound : Bool) (q : Request) where
-  pub asks-no-call : is_call q ≡ false → asked_by sound (LineCall q) ≡ Refused NoSuchCall
+  pub asks-no-call : is_call q ≡ false → asked_by sound (LineCall q) ≡ Err NoSuchCall
   unfolding asked_by
   asks-no-call none = rw none
 
-  pub asks-unsound : is_call q ≡ true → sound ≡ false → asked_by sound (LineCall q) ≡ Refused Unsound
+  pub asks-unsound : is_call q ≡ true → sound ≡ false → asked_by sound (LineCall q) ≡ Err Unsound
   unfolding asked_by
   asks-unsound coded fails = rw (coded, fails)
 
-  pub asks-past : is_call q ≡ true → sound ≡ true → ltb q.sandbox 4 ≡ false → asked_by sound (LineCall q) ≡ Refused NotOpen
+  pub asks-past : is_call q ≡ true → sound ≡ true → ltb q.sandbox 4 ≡ false → asked_by sound (LineCall q) ≡ Err NotOpen
   unfolding asked_by
   asks-past coded holds past = rw (coded, holds, past)
 
-  pub asks-call : is_call q ≡ true → sound ≡ true → ltb q.sandbox 4 ≡ true → asked_by sound (LineCall q) ≡ Call q
+  pub asks-call : is_call q ≡ true → sound ≡ true → ltb q.sandbox 4 ≡ true → asked_by sound (LineCall q) ≡ Ok q
   unfolding asked_by
   asks-call coded holds low = rw (coded, holds, low)
 
 module _ (image : List ℕ) (w : World) (sound : Bool) (K : Known sound image w) where
   -- turned back by the row that was found
-  by_row : (line : Line) (a : Asked) (why : Refusal) → a ≡ asked_by sound line → asked_by sound line ≡ Refused why
+  by_row : (line : Line) (a : Result Request Refusal) (why : Refusal) → a ≡ asked_by sound line → asked_by sound line ≡ Err why
       → Turned image w line (turned_back why w) → Turned image w line (turned_back (why_of a) w)
   by_row line a why e f t = subst (λ (x : Refusal). Turned image w line (turned_back x w)) (sym (ap why_of (e ∙ f))) t
 
-  refused-call : (q : Request) (a : Asked) → a ≡ asked_by sound (LineCall q) → is_refused a ≡ true → Turned image w (LineCall q) (turned_back (why_of a) w)
+  refused-call : (q : Request) (a : Result Request Refusal) → a ≡ asked_by sound (LineCall q) → is_refused a ≡ true
+      → Turned image w (LineCall q) (turned_back (why_of a) w)
   refused-call q a e r =
       let tested = sym (known_is sound image w K) in
       by_cases (is_call q)
@@ -82,10 +82,10 @@ module _ (image : List ℕ) (w : World) (sound : Bool) (K : Known sound image w)
       (stepped-refused image w q NoSuchCall (number-two image w q none)))
 
   -- a line that is refused without a look at a sandbox
-  pub refused-line : (line : Line) (why : Refusal) → Refused why ≡ asked_by sound line → Turned image w line (turned_back why w)
+  pub refused-line : (line : Line) (why : Refusal) → Err why ≡ asked_by sound line → Turned image w line (turned_back why w)
   unfolding asked_by
-  refused-line LineMalformed why e = ap (λ (a : Asked). turned_back (why_of a) w) e
-  refused-line (LineCall q) why e = refused-call q (Refused why) e refl
+  refused-line LineMalformed why e = ap (λ (a : Result Request Refusal). turned_back (why_of a) w) e
+  refused-line (LineCall q) why e = refused-call q (Err why) e refl
 
 -- a line that asks for a call
 pub record Calls (sound : Bool) (line : Line) (q : Request) : Type 0 where
@@ -94,7 +94,7 @@ pub record Calls (sound : Bool) (line : Line) (q : Request) : Type 0 where
   pub known : sound ≡ true
   pub low : q.sandbox < 4
 
-call-of : (sound : Bool) (p q : Request) → Call q ≡ asked_by sound (LineCall p) → Calls sound (LineCall p) q
+call-of : (sound : Bool) (p q : Request) → Ok q ≡ asked_by sound (LineCall p) → Calls sound (LineCall p) q
 call-of sound p q e =
     by_cases (is_call p)
     (λ coded. by_cases sound
@@ -107,7 +107,7 @@ call-of sound p q e =
     (λ fails. false-true (ap is_refused (e ∙ asks-unsound sound p coded fails))))
     (λ none. false-true (ap is_refused (e ∙ asks-no-call sound p none)))
 
-pub call_line : (sound : Bool) (line : Line) (q : Request) → Call q ≡ asked_by sound line → Calls sound line q
+pub call_line : (sound : Bool) (line : Line) (q : Request) → Ok q ≡ asked_by sound line → Calls sound line q
 unfolding asked_by
 call_line sound LineMalformed q e = false-true (ap is_refused e)
 call_line sound (LineCall p) q e = call-of sound p q e

@@ -11,28 +11,22 @@ use interface::{Refusal, Request};
 use lines::Line;
 use state::sandbox::Machine;
 
-// What a line asks: a call on one of the four sandboxes of a sound state, or nothing that can be performed, and why.
-#[derive(Clone, Copy)]
-pub enum Asked {
-    Refused(Refusal),
-    Call(Request),
-}
-
-// Rows 1 to 3, and row 4 of a sandbox past the four: what is refused without a look at a sandbox. Whether the state is sound is known.
-pub fn ask(sound: bool, line: Line) -> Asked
+// What a line asks: a call on one of the four sandboxes of a sound state, or nothing that can be performed, and why. Rows 1 to 3, and row 4 of a sandbox past
+// the four, are what is refused without a look at a sandbox. Whether the state is sound is known.
+pub fn ask(sound: bool, line: Line) -> Result<Request, Refusal>
     ensures { result ≡ asked_by sound line }
 {
     let Line::Call(q) = line else {
-        return Asked::Refused(Refusal::Malformed);
+        return Err(Refusal::Malformed);
     };
     if !codes::is_call(q) {
-        return Asked::Refused(Refusal::NoSuchCall);
+        return Err(Refusal::NoSuchCall);
     }
     if !sound {
-        return Asked::Refused(Refusal::Unsound);
+        return Err(Refusal::Unsound);
     }
     if q.sandbox as usize >= Machine::SANDBOXES {
-        return Asked::Refused(Refusal::NotOpen);
+        return Err(Refusal::NotOpen);
     }
-    Asked::Call(q)
+    Ok(q)
 }

@@ -26,8 +26,8 @@ pub fn read(pool: &[u8], table: &[u16], image: &[u8], slot: Slot, q: Request) ->
     let number = page_of(q);
     let page = VirtualPage {
         sandbox: q.sandbox as u8,
-        number: number,
-        slot: slot,
+        number,
+        slot,
     };
     reading::store::read_byte(pool, table, image, page, offset_of(q))
 }

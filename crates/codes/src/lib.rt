@@ -28,8 +28,8 @@ pub fn number(answer: Answer) -> u8
     ensures { result ≡ number_of answer }
 {
     match answer {
-        Answer::Value(_) => 0,
-        Answer::Refused(why) => refusal_number(why),
+        Ok(_) => 0,
+        Err(why) => refusal_number(why),
     }
 }
 
@@ -38,8 +38,8 @@ pub fn value(answer: Answer) -> u32
     ensures { result ≡ value_of answer }
 {
     match answer {
-        Answer::Value(v) => v,
-        Answer::Refused(_) => 0,
+        Ok(v) => v,
+        Err(_) => 0,
     }
 }
 
@@ -47,21 +47,5 @@ pub fn value(answer: Answer) -> u32
 pub fn refusal_number(why: Refusal) -> u8
     ensures { result ≡ refusal_number why }
 {
-    match why {
-        Refusal::Malformed => 1,
-        Refusal::NoSuchCall => 2,
-        Refusal::Unsound => 3,
-        Refusal::NotOpen => 4,
-        Refusal::AlreadyOpen => 5,
-        Refusal::OutsideLimits => 6,
-        Refusal::SnapshotTaken => 7,
-        Refusal::NoSnapshot => 8,
-        Refusal::NotMapped => 9,
-        Refusal::AlreadyMapped => 10,
-        Refusal::NoGap => 11,
-        Refusal::NotWritable => 12,
-        Refusal::ShareExceeded => 13,
-        Refusal::TooManyAreas => 14,
-        Refusal::OutputTooShort => 15,
-    }
+    why as u8
 }

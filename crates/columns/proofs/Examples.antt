@@ -1,7 +1,7 @@
 -- Fields and a reply of document 01, computed on the definitions.
 use mathlib.Core.Path.{◌≡◌, refl}
 use mathlib.Core.List.{[], ◌∷◌, map}
-use Rattle.columns.specs.declared.Field.TheVariants.{Number, Bad}
+use Rattle.std.specs.Prelude.{Some, None}
 use Rattle.columns.specs.Prints.{columns, printed_field, printed_line, printed_reply}
 use Rattle.columns.specs.Fields.{with_digit, with_column, columns_read, field_of}
 
@@ -17,7 +17,7 @@ fields : map field_of
     ∷ (49 ∷ 32 ∷ 32 ∷ 32 ∷ 32 ∷ 32 ∷ [])
     ∷ (9 ∷ 32 ∷ 32 ∷ 32 ∷ 32 ∷ 49 ∷ [])
     ∷ [])
-    ≡ Number 300 ∷ Number 0 ∷ Bad ∷ Number 65535 ∷ Bad ∷ Bad ∷ Bad ∷ Bad ∷ Bad ∷ []
+    ≡ Some 300 ∷ Some 0 ∷ None ∷ Some 65535 ∷ None ∷ None ∷ None ∷ None ∷ None ∷ []
 unfolding field_of columns_read with_column with_digit
 fields = refl
 

@@ -1,13 +1,11 @@
--- What the code that reads a field says on the way: a number in place of a field, and blanks. No claim stands on it.
-use Rattle.std.specs.Prelude.{ℕ, Bool, List, get_or, ltb, eqb}
+-- What the code that reads a field says on the way: what a number stands for, and blanks. No claim stands on it.
+use Rattle.std.specs.Prelude.{ℕ, Bool, List, get_or, ltb, eqb, Option, Some, None}
 use Rattle.basics.specs.Choice.{◌when◌else◌}
 use Rattle.basics.specs.Ranges.{every}
-use Rattle.columns.specs.declared.Field.{Field}
-use Rattle.columns.specs.declared.Field.TheVariants.{Number, Bad}
 
--- what is said where a number was read, or one above 65,535 in place of none
-abbrev pub as_field : ℕ → Field
-as_field n = Bad when ltb 65535 n else Number n
+-- what a number that was read stands for in a field: above 65,535 for none
+abbrev pub as_field : ℕ → Option ℕ
+as_field n = None when ltb 65535 n else Some n
 
 -- whether the n bytes from a place on are blanks
 abbrev pub blanks : List ℕ → ℕ → ℕ → Bool

@@ -6,32 +6,21 @@
 ghost use Rattle.std.specs.Prelude.{◌≡◌};
 ghost use Rattle.columns.specs.Reading.{as_field};
 
-// What 6 columns say: a number, or none.
-#[derive(Clone, Copy)]
-pub enum Field {
-    Number(u16),
-    Bad,
-}
+// "fields of 6 columns", of which the last always has a digit; numbers are decimal
+pub const COLUMNS: usize = 6;
 
-impl Field {
-    // "fields of 6 columns", of which the last always has a digit; numbers are decimal
-    pub const COLUMNS: usize = 6;
+pub const LAST_COLUMN: usize = 5;
 
-    pub const LAST_COLUMN: usize = 5;
+pub const RADIX: u32 = 10;
+// "a number 0 to 65,535"
+pub const MOST: u32 = 65_535;
 
-    pub const RADIX: u32 = 10;
-    // "a number 0 to 65,535"
-    pub const MOST: u32 = 65_535;
-    // A number above it is read where a field says none.
-    pub const NONE: u32 = 65_536;
-}
-
-// What a number that was read stands for: above 65,535 for none.
-pub fn as_field(n: u32) -> Field
+// What a number that was read stands for in a field: above 65,535 for none. The limit is the document's, and not the type's, as it would be of `try_from`.
+pub fn as_field(n: u32) -> Option<u16>
     ensures { result ≡ as_field n }
 {
-    if n > Field::MOST {
-        return Field::Bad;
+    if n > MOST {
+        return None;
     }
-    Field::Number(n as u16)
+    Some(n as u16)
 }

@@ -19,14 +19,7 @@ pub fn all_committed(areas: Areas) -> bool
     requires { Formed areas }
     ensures { result ≡ every (λ i. mark_ok (slots areas i)) 0 page_count }
 {
-    let count = areas.count as usize;
-    for k in 0..count {
-        let area = areas.list[k];
-        if !area.committed {
-            return false;
-        }
-    }
-    true
+    areas.as_slice().iter().all(|area| area.committed)
 }
 
 // Whether the committed pages are snapshot pages with the same backing. Most often the snapshot's area in the same place has them.
@@ -35,12 +28,9 @@ pub fn all_backed(present: Areas, snapshot: Areas) -> bool
     requires formed_2 { Formed snapshot }
     ensures { result ≡ every (λ i. backing_ok (slots present i) (slots snapshot i)) 0 page_count }
 {
-    let count = present.count as usize;
-    for k in 0..count {
-        let area = present.list[k];
-        let copy = snapshot.list[k];
-        if !lies_in(area, copy) {
-            if !is_backed(area, snapshot) {
+    for (k, area) in present.as_slice().iter().enumerate() {
+        if !lies_in(*area, snapshot.list[k]) {
+            if !is_backed(*area, snapshot) {
                 return false;
             }
         }
@@ -56,11 +46,9 @@ fn is_backed(area: Area, snapshot: Areas) -> bool
     if !area.committed {
         return true;
     }
-    let count = snapshot.count as usize;
-    let mut page = area.first.0 as usize;
-    for k in 0..count {
-        let copy = snapshot.list[k];
-        page = reached(area, copy, page);
+    let mut page = usize::from(area.first.0);
+    for copy in snapshot.as_slice() {
+        page = reached(area, *copy, page);
     }
-    area.first.0 as usize + area.pages as usize <= page
+    usize::from(area.first.0) + usize::from(area.pages) <= page
 }

@@ -30,8 +30,8 @@ pub fn read(pool: &[u8], table: &[u16], image: &[u8], b: Record, q: Request) -> 
     let slot = present.slot(number);
     let page = VirtualPage {
         sandbox: q.sandbox as u8,
-        number: number,
-        slot: slot,
+        number,
+        slot,
     };
     reading::store::read_byte(
         pool,

@@ -19,7 +19,7 @@ use interface::PageNo;
 use records::Record;
 
 // Where a sandbox and its snapshot differ.
-#[derive(Clone, Copy)]
+#[derive(Clone, Copy, Debug, PartialEq, Eq)]
 pub struct Difference;
 
 impl Difference {

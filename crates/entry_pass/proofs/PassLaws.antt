@@ -2,14 +2,16 @@
 use mathlib.Core.Path.{◌≡◌, refl, sym, ap, ◌∙◌}
 use mathlib.Core.Logic.{⊎_elim}
 use mathlib.Core.Bool.{true, false, ◌&&◌}
-use mathlib.Core.List.{List}
+use mathlib.Core.List.{List, [], ◌∷◌}
 use Prim.Native.Nat.{ℕ, zero, suc, ◌+◌, ◌-◌, ◌≤◌, ◌<◌}
 use native.Mathlib.Nat.{add-zero}
 use native.Mathlib.Omega.{arith}
 use native.Mathlib.Numerals.{add-one}
 use borrow.Author.Tests.{lt-ltb, le-ltb, eq-eqb, ne_eqb, eqb-true}
 use lib.Dec.{eqb}
-use lib.ListN.{get_or}
+use lib.ListN.{get_or, length, take, drop, length-take, length-drop}
+use lib.Seq.{get_or-take, get_or-drop}
+use Rattle.std.specs.Prelude.{fold}
 use Rattle.basics.specs.Ranges.{every}
 use Rattle.basics.proofs.TestLaws.{both_ways, and-false}
 use Rattle.basics.proofs.LoopLaws.{every-at}
@@ -22,6 +24,7 @@ use Rattle.entry_pass.specs.declared.Pass.{Pass}
 use Rattle.marks.specs.Marks.{add_entry, marks_to, from}
 use Rattle.entry_pass.specs.Pass.{pass_entry, pass_to}
 use Rattle.marks.proofs.NamedLaws.{same_or}
+use Rattle.marks.proofs.EntryLaws.{none_at}
 
 -- a frame that is marked already
 count-again : (h : Held) (f : ℕ) → held h f ≡ 1 → count_held (mark h f 1) ≡ count_held h
@@ -113,7 +116,7 @@ module _ (n : ℕ) (few : n ≤ 128) where
 -- ---- the code's loops
 
 -- no more entries name a frame than there are
-small-step : (n : ℕ) (s : Pass) (e : ℕ) → (pass_entry n s e).named ≤ s.named + 1
+pub small-step : (n : ℕ) (s : Pass) (e : ℕ) → (pass_entry n s e).named ≤ s.named + 1
 unfolding pass_entry
 small-step n s zero = omega arith
 small-step n s (suc f) = ⊎_elim
@@ -125,21 +128,35 @@ unfolding pass_to
 pass-small n p zero = omega arith
 pass-small n p (suc i) = omega (arith, pass-small n p i, small-step n (pass_to n p i) (p i))
 
--- one more turn
-pub pass-more : (n : ℕ) (p : ℕ → ℕ) (i : ℕ) (s : Pass) → s ≡ pass_to n p i → pass_entry n s (p i) ≡ pass_to n p (i + 1)
+-- a run of entries, each by its place, is one list after another of them
+pub pass-on : (n : ℕ) (p : ℕ → ℕ) (i : ℕ) (xs : List ℕ) → ((k : ℕ) → k < length xs → get_or xs k 0 ≡ p (i + k))
+    → fold (pass_entry n) (pass_to n p i) xs ≡ pass_to n p (i + length xs)
 unfolding pass_to
-pass-more n p i s e = rw (add-one i) (ap (λ (x : Pass). pass_entry n x (p i)) e)
+pass-on n p i [] h = ap (pass_to n p) (sym (add-zero i))
+pass-on n p i (x ∷ xs) h =
+    let here : x ≡ p i = h 0 (omega arith) ∙ ap p (add-zero i) in
+    let next : (k : ℕ) → i + suc k ≡ suc i + k = λ k. omega arith in
+    ap (λ (e : ℕ). fold (pass_entry n) (pass_entry n (pass_to n p i) e) xs) here
+    ∙ pass-on n p (suc i) xs (λ k l. h (suc k) (omega arith) ∙ ap p (next k)) ∙ ap (pass_to n p) (sym (next (length xs)))
 
 -- entries that name none change nothing
-pub pass-none : (n : ℕ) (p : ℕ → ℕ) (i k : ℕ) → ((j : ℕ) → j < k → p (i + j) ≡ 0) → pass_to n p (i + k) ≡ pass_to n p i
-unfolding pass_to pass_entry
-pass-none n p i zero h = ap (pass_to n p) (add-zero i)
-pass-none n p i (suc k) h =
-    let e : i + suc k ≡ suc (i + k) = omega arith in
-    rw (e, h k (omega arith)) (pass-none n p i k (λ j l. h j (omega arith)))
+pub fold-none : (n : ℕ) (s : Pass) (xs : List ℕ) → ((k : ℕ) → k < length xs → get_or xs k 0 ≡ 0) → fold (pass_entry n) s xs ≡ s
+unfolding pass_entry
+fold-none n s [] h = refl
+fold-none n s (x ∷ xs) h =
+    let here : x ≡ 0 = h 0 (omega arith) in
+    ap (λ (e : ℕ). fold (pass_entry n) (pass_entry n s e) xs) here ∙ fold-none n s xs (λ k l. h (suc k) (omega arith))
 
--- what the test of eight entries says of each
-pub eight-none : (t : List ℕ) (first i : ℕ) → every (λ j. eqb (get_or t (first + i + j) 0) 0) 0 8 ≡ true → (j : ℕ) → j < 8 → from first t (i + j) ≡ 0
-eight-none t first i h j l =
-    let e : first + (i + j) ≡ first + i + j = omega arith in
-    ap (λ (k : ℕ). get_or t k 0) e ∙ eqb-true (get_or t (first + i + j) 0) 0 (every-at (λ j. eqb (get_or t (first + i + j) 0) 0) 0 8 h j (omega arith) l)
+pub none-each : (xs : List ℕ) → every (none_at xs) 0 (length xs) ≡ true → (k : ℕ) → k < length xs → get_or xs k 0 ≡ 0
+none-each xs h k l = eqb-true (get_or xs k 0) 0 (every-at (none_at xs) 0 (length xs) h k (omega arith) (omega arith))
+
+-- a part of a table
+pub pass-part : (n : ℕ) (t : List ℕ) (first i at d : ℕ) → at ≡ first + i → at + d ≤ length t
+    → fold (pass_entry n) (pass_to n (from first t) i) (take d (drop at t)) ≡ pass_to n (from first t) (i + d)
+pass-part n t first i at d e h =
+    let whole : length (take d (drop at t)) ≡ d = simp (length-take, length-drop) (omega arith) in
+    pass-on n (from first t) i (take d (drop at t))
+    (λ k l.
+    let place : at + k ≡ first + (i + k) = omega arith in
+    get_or-take d (drop at t) k 0 (omega arith) ∙ get_or-drop at t k 0 ∙ ap (λ (j : ℕ). get_or t j 0) place)
+    ∙ ap (λ (m : ℕ). pass_to n (from first t) (i + m)) whole

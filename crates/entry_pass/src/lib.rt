@@ -4,10 +4,10 @@
 // It stands on `marks` for the definition and for eight entries that name none, and on `frames` for the marks.
 #![tactic(auto)]
 
-ghost use Rattle.std.specs.Prelude.{◌≡◌, ◌+◌, ◌^◌, ◌≤◌, ◌<◌, length};
+ghost use Rattle.std.specs.Prelude.{◌≡◌, ◌+◌, ◌^◌, ◌≤◌, ◌<◌, length, fold};
 ghost use Rattle.interface.specs.Numbers.{most_frames};
 ghost use Rattle.marks.specs.Marks.{marks_to, from};
-ghost use Rattle.entry_pass.specs.Pass.{pass_entry, pass_to};
+ghost use Rattle.entry_pass.specs.Pass.{pass_entry};
 
 use frames::{FrameNo, Held};
 use marks::{Marks, names_none};
@@ -30,31 +30,28 @@ impl Pass {
         if entry == 0 {
             return self;
         }
-        let held = self.held;
         if entry > frames as u16 {
             return Pass {
                 inside: false,
-                named: self.named,
-                held: held,
+                ..self
             };
         }
         Pass {
-            inside: self.inside,
             named: self.named + 1,
-            held: held.with(FrameNo((entry - 1) as u8)),
+            held: self.held.with(FrameNo((entry - 1) as u8)),
+            ..self
         }
     }
 
-    // Eight more entries, from place i of a run of entries on.
-    fn add_eight(self, table: &[u16], first: usize, i: usize, frames: u8) -> Pass
-        requires i_in_bounds { first + (i + 8) ≤ length table.now }
+    // More entries, one after another.
+    fn add_each(self, frames: u8, entries: &[u16]) -> Pass
         requires frames_bound { frames ≤ most_frames }
-        requires self_value { self ≡ pass_to frames (from first table.now) i }
-        ensures { result ≡ pass_to frames (from first table.now) (i + 8) }
+        requires named_bound { self.named + length entries.now < 2 ^ 64 }
+        ensures { result ≡ fold (pass_entry frames) self entries.now }
     {
         let mut found = self;
-        for j in i..i + Marks::TOGETHER {
-            found = found.add(frames, table[first + j]);
+        for entry in entries {
+            found = found.add(frames, *entry);
         }
         found
     }
@@ -72,21 +69,21 @@ pub fn marks_of(table: &[u16], first: usize, entries: usize, frames: u8) -> Mark
         held: Held::none(),
     };
     // Most often eight entries in a row name no frame, and nothing changes.
-    let mut i: usize = 0;
-    while entries - i >= Marks::TOGETHER {
-        if !names_none(table, first + i) {
-            found = found.add_eight(table, first, i, frames);
+    let groups = entries / Marks::TOGETHER;
+    for k in 0..groups {
+        let at = first + k * Marks::TOGETHER;
+        let group = &table[at..at + Marks::TOGETHER];
+        if !names_none(group) {
+            found = found.add_each(frames, group);
         }
-        i += Marks::TOGETHER;
     }
-    while i < entries {
-        found = found.add(frames, table[first + i]);
-        i += 1;
-    }
+    found = found.add_each(
+        frames,
+        &table[first + groups * Marks::TOGETHER..first + entries],
+    );
     // A frame that is named twice is marked once.
-    let held = found.held;
     Marks {
-        good: found.inside & (held.count() as usize == found.named),
-        held: held,
+        good: found.inside & (found.held.count() as usize == found.named),
+        held: found.held,
     }
 }

@@ -12,33 +12,26 @@ use records::Record;
 use rows::{not_open, page_of};
 use slots::{is_mapped, rights_at};
 
-// Why a read or a write is refused; or what stands at the page of an accepted one.
-#[derive(Clone, Copy)]
-pub enum Access {
-    Refused(Refusal),
-    Page(Slot),
-}
-
-// Rows 4, 6, 9 and 12, the only ones that a read or a write can meet in a sound state.
-pub fn decide(b: Record, images: u8, q: Request) -> Access
+// Rows 4, 6, 9 and 12, the only ones that a read or a write can meet in a sound state: why it is refused, or what stands at the page of
+// an accepted one.
+pub fn decide(b: Record, images: u8, q: Request) -> Result<Slot, Refusal>
     requires is_value { (q is read_code || q is write_code) ≡ true }
     requires sandbox_bound { q.sandbox < sandbox_count }
     requires ready { Ready images b }
     ensures { (frames shares : ℕ) → Decides (view_from true frames images shares b) q result }
 {
     if not_open(b.opened, q) {
-        return Access::Refused(Refusal::NotOpen);
+        return Err(Refusal::NotOpen);
     }
     if !within_limits(q, images) {
-        return Access::Refused(Refusal::OutsideLimits);
+        return Err(Refusal::OutsideLimits);
     }
-    let present = b.present;
-    let slot = present.slot(page_of(q));
+    let slot = b.present.slot(page_of(q));
     if !is_mapped(slot) {
-        return Access::Refused(Refusal::NotMapped);
+        return Err(Refusal::NotMapped);
     }
     if (q.code == Request::WRITE) & (rights_at(slot) != Attributes::READ_WRITE) {
-        return Access::Refused(Refusal::NotWritable);
+        return Err(Refusal::NotWritable);
     }
-    Access::Page(slot)
+    Ok(slot)
 }

@@ -4,7 +4,7 @@ use mathlib.Core.Path.{◌≡◌, refl, sym, ap, ◌∙◌}
 use mathlib.Core.List.{List, [], ◌∷◌, ◌++◌, append_assoc, append-nil}
 use native.Mathlib.Omega.{arith}
 use native.Mathlib.Numerals.{add-one}
-use lib.ListN.{length, take, drop, set, drop_of_length-le, take-append-drop}
+use lib.ListN.{length, replicate, take, drop, set, drop_of_length-le, take-append-drop}
 use lib.Seq.{set_split, take_at, take-take, take-set-le, drop_at, length-take-le}
 use borrow.Author.Tests.{ne_eqb}
 use Rattle.columns.specs.Prints.{column, columns, printed_field}
@@ -15,16 +15,9 @@ drop-set : (out : List ℕ) (i byte : ℕ) → i < length out → drop i (set ou
 drop-set out i byte h = rw (set_split out i byte h) (drop_at (take i out) (byte ∷ drop (suc i) out) i (length-take-le i out (omega arith)))
 
 -- six blanks
-pub six-blanks : (out : List ℕ) → length out ≡ 6 → set (set (set (set (set (set out 0 32) 1 32) 2 32) 3 32) 4 32) 5 32 ≡ columns 6 0
+pub six-blanks : (n : ℕ) → n ≡ 6 → replicate n 32 ≡ columns 6 0
 unfolding columns
-six-blanks [] h = absurd (omega arith)
-six-blanks (a ∷ []) h = absurd (omega arith)
-six-blanks (a ∷ b ∷ []) h = absurd (omega arith)
-six-blanks (a ∷ b ∷ c ∷ []) h = absurd (omega arith)
-six-blanks (a ∷ b ∷ c ∷ d ∷ []) h = absurd (omega arith)
-six-blanks (a ∷ b ∷ c ∷ d ∷ e ∷ []) h = absurd (omega arith)
-six-blanks (a ∷ b ∷ c ∷ d ∷ e ∷ f ∷ []) h = refl
-six-blanks (a ∷ b ∷ c ∷ d ∷ e ∷ f ∷ g ∷ more) h = absurd (omega arith)
+six-blanks n h = rw h refl
 
 -- a number of one digit over blanks
 pub digit-printed : (out : List ℕ) (n : ℕ) → out ≡ columns 6 0 → n < 10 → set out 5 (48 + n) ≡ printed_field n

@@ -26,25 +26,12 @@ fn print_field(out: &mut [u8], n: u32)
     requires n_bound { n ≤ 999999 }
     ensures { out.new ≡ printed_field n }
 {
-    blank(out);
+    out.fill(b' ');
     if n < Line::RADIX {
         out[Line::LAST_COLUMN] = b'0' + n as u8;
         return;
     }
     print_digits(out, n);
-}
-
-// Six blanks.
-fn blank(out: &mut [u8])
-    requires { length out.old ≡ 6 }
-    ensures { out.new ≡ columns 6 0 }
-{
-    out[0] = b' ';
-    out[1] = b' ';
-    out[2] = b' ';
-    out[3] = b' ';
-    out[4] = b' ';
-    out[5] = b' ';
 }
 
 // Prints the digits of a number over six blanks, from the last to the first.
@@ -53,6 +40,7 @@ fn print_digits(out: &mut [u8], n: u32)
     requires n_nonzero { (0 < n) × (n ≤ 999999) }
     ensures { out.new ≡ printed_field n }
 {
+    // Counted down by hand: the loop ends with the digits, and a walk back over the columns is no plainer, since it needs a way out besides.
     let mut rest = n;
     let mut i = Line::FIELD;
     while rest > 0 {

@@ -3,8 +3,8 @@ use Prim.Native.Nat.{ℕ}
 use mathlib.Core.Path.{◌≡◌, ap, ◌∙◌}
 use mathlib.Core.Bool.{true, false}
 use mathlib.Core.List.{List}
-use Rattle.interface.specs.declared.answer.Answer.{Answer}
-use Rattle.interface.specs.declared.answer.Answer.TheVariants.{Refused}
+use Rattle.interface.specs.Answers.{Answer}
+use Rattle.std.specs.Prelude.{Err}
 use Rattle.interface.specs.declared.answer.Refusal.TheVariants.{Unsound}
 use Rattle.state.specs.declared.sandbox.Machine.{Machine}
 use Rattle.state.specs.World.{world_of}
@@ -17,7 +17,7 @@ use Rattle.host_calls.specs.Calls.{Handed, told_by}
 use Rattle.filing.specs.Filed.{left, filed}
 
 module _ (image : List ℕ) (h : Handed) (s : ℕ) (out : List ℕ) where
-  pub no-state : is_state h.state ≡ false → left (told_by (Refused Unsound)) out ≡ filed image h s out
+  pub no-state : is_state h.state ≡ false → left (told_by (Err Unsound)) out ≡ filed image h s out
   unfolding filed written_as
   no-state n = rw n
 

@@ -27,7 +27,7 @@ pub fn archive_over(
         left result out.new ≡ filed image.now before sandbox out.old }
 {
     if !is_state(state) {
-        return Told::by(Answer::Refused(Refusal::Unsound));
+        return Told::by(Err(Refusal::Unsound));
     }
     Told::by(write_archive(decode(state), pool, table, image, sandbox, out))
 }

@@ -45,12 +45,8 @@ pub fn take(
         kept result pool.new table.new
         ≡ take page_bytes (front_at page) f.0 (bytes_under image.now before page) before }
 {
-    let number = page.number;
-    let slot = page.slot;
-    let backing = backing_at(slot);
-    let under = back_if(table, page.sandbox, number, is_committed(slot));
-    fill_frame(pool, f, under, image, backing);
-    let at = front_index(page.sandbox, number);
-    table[at] = f.0 as u16 + 1;
+    let under = back_if(table, page.sandbox, page.number, is_committed(page.slot));
+    fill_frame(pool, f, under, image, backing_at(page.slot));
+    table[front_index(page.sandbox, page.number)] = f.0 as u16 + 1;
     held.with(f)
 }

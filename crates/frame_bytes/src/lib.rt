@@ -25,6 +25,5 @@ pub fn read_byte(pool: &[u8], f: FrameNo, offset: u8) -> u8
     requires { f.0 * page_bytes + page_bytes ≤ length pool.now }
     ensures { result ≡ get_or (frame page_bytes pool.now f.0) offset 0 }
 {
-    let start = f.0 as usize * Page::SIZE;
-    pages::read(&pool[start..start + Page::SIZE], offset as usize)
+    pages::read(pages::part_of(pool, f.0), offset as usize)
 }

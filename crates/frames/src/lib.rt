@@ -13,7 +13,7 @@ ghost use Rattle.frames.specs.Frames.{held, mark, none_held, same_held, count_he
 use words::{has, lowest_set, put};
 
 // The number of a frame of the pool: no page number and no image page number.
-#[derive(Clone, Copy)]
+#[derive(Clone, Copy, Debug, PartialEq, Eq)]
 pub struct FrameNo(pub u8);
 
 impl FrameNo {
@@ -22,7 +22,7 @@ impl FrameNo {
 }
 
 // The marks of frames 0 to 63, and of 64 to 127.
-#[derive(Clone, Copy)]
+#[derive(Clone, Copy, Debug, PartialEq, Eq)]
 pub struct Held {
     pub low: u64,
     pub high: u64,
@@ -40,6 +40,7 @@ impl Held {
     }
 
     // Whether a frame is held.
+    #[tactic(auto, unfolding(crate::specs::Frames::held))]
     pub fn contains(self, frame: FrameNo) -> bool
         requires { frame.0 < most_frames }
         ensures { result ≡ eqb (held self frame.0) 1 }
@@ -72,14 +73,14 @@ impl Held {
     pub fn count(self) -> u8
         ensures { result ≡ count_held self }
     {
-        u64::count_ones(self.low) as u8 + u64::count_ones(self.high) as u8
+        self.low.count_ones() as u8 + self.high.count_ones() as u8
     }
 
     // Whether two have the same marks.
     pub fn same(self, other: Held) -> bool
         ensures { result ≡ same_held self other }
     {
-        (self.low == other.low) & (self.high == other.high)
+        self == other
     }
 
     // The smallest held frame; 128 where none is held.
@@ -94,6 +95,7 @@ impl Held {
     }
 
     // The frames that either marks.
+    #[tactic(auto, unfolding(crate::specs::Frames::both_held))]
     pub fn both(self, other: Held) -> Held
         ensures { result ≡ both_held self other }
     {
@@ -104,6 +106,7 @@ impl Held {
     }
 
     // Whether no frame is marked by both.
+    #[tactic(auto, unfolding(crate::specs::Frames::apart_held))]
     pub fn apart(self, other: Held) -> bool
         ensures { result ≡ apart_held self other }
     {
@@ -112,6 +115,7 @@ impl Held {
 }
 
 // The same marks, and this frame held or not.
+#[tactic(auto, unfolding(crate::specs::Frames::mark))]
 fn marked(marks: Held, frame: FrameNo, on: bool) -> Held
     requires { frame.0 < most_frames }
     ensures { result ≡ mark marks frame.0 (one on) }
@@ -120,12 +124,12 @@ fn marked(marks: Held, frame: FrameNo, on: bool) -> Held
     if n < Held::WORD {
         Held {
             low: put(marks.low, n, on),
-            high: marks.high,
+            ..marks
         }
     } else {
         Held {
-            low: marks.low,
             high: put(marks.high, n - Held::WORD, on),
+            ..marks
         }
     }
 }

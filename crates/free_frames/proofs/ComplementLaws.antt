@@ -9,7 +9,7 @@ use lib.Bits.{bit_and, and_mask}
 use lib.Count.{count_leading_zeros, leading_top}
 use Rattle.words.specs.Word.{bit}
 use Rattle.free_frames.specs.Greatest.{greatest}
-use Rattle.free_frames.specs.declared.Free.TheVariants.{Frame, None}
+use Rattle.std.specs.Prelude.{Some, None}
 use Rattle.words.proofs.WordLaws.{bit-top, bit-above}
 use Rattle.words.proofs.OperatorLaws.{bit_not, bit-mod}
 use Rattle.frames.proofs.FrameLaws.{lt-or-ge}
@@ -47,12 +47,12 @@ module _ (w n : ℕ) (hw : w < 2 ^ 64) (hn : n ≤ 64) where
     pub zeros-le : count_leading_zeros 64 (free_of w n) ≤ 63
     zeros-le = omega (arith, first.1)
 
-    pub unset-is : Frame (record { 0 = 63 - count_leading_zeros 64 (free_of w n) }) ≡ greatest (bit w) n
+    pub unset-is : Some (record { 0 = 63 - count_leading_zeros 64 (free_of w n) }) ≡ greatest (bit w) n
     unset-is =
         let j : ℕ = first.0 in
         let at : 63 - count_leading_zeros 64 (free_of w n) ≡ j = omega (arith, first.1) in
         let low : j < n = ⊎_elim (λ p. p) (λ p. absurd (not-le_of_lt below (le_trans (pow_mono p) first.2))) (lt-or-ge j n) in
         let unset : bit w j ≡ 0 = omega (arith, digit j low, bit-top j (free_of w n) first.2 first.3) in
-        ap (λ (x : ℕ). Frame (record { 0 = x })) at
+        ap (λ (x : ℕ). Some (record { 0 = x })) at
         ∙ sym (greatest-is (bit w) n j low unset
         (λ k a b e. let d : 0 ≡ 1 - bit w k = sym (bit-above (suc j) (free_of w n) k first.3 a) ∙ digit k b in omega arith))

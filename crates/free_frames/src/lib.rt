@@ -18,40 +18,32 @@ const LAST: u8 = Held::WORD - 1;
 // A word that marks each of its frames.
 const ALL: u64 = 0xffff_ffff_ffff_ffff;
 
-// A frame that is not held, where there is one.
-#[derive(Clone, Copy)]
-pub enum Free {
-    Frame(FrameNo),
-    None,
-}
-
 // The greatest frame of a pool of so many frames that is not held.
-pub fn greatest_free(marks: Held, frames: u8) -> Free
+pub fn greatest_free(marks: Held, frames: u8) -> Option<FrameNo>
     requires { frames ≤ most_frames }
     ensures { result ≡ greatest (held marks) frames }
 {
     if frames <= Held::WORD {
         return greatest_unset(marks.low, frames);
     }
-    let high = greatest_unset(marks.high, frames - Held::WORD);
-    match high {
-        Free::Frame(f) => Free::Frame(FrameNo(Held::WORD + f.0)),
-        Free::None => greatest_unset(marks.low, Held::WORD),
+    match greatest_unset(marks.high, frames - Held::WORD) {
+        Some(f) => Some(FrameNo(Held::WORD + f.0)),
+        None => greatest_unset(marks.low, Held::WORD),
     }
 }
 
 // The greatest of the low places, so many of them, whose bit is not set.
-fn greatest_unset(word: u64, places: u8) -> Free
+fn greatest_unset(word: u64, places: u8) -> Option<FrameNo>
     requires { places ≤ word_bits }
     ensures { result ≡ greatest (bit word) places }
 {
     if places == 0 {
-        return Free::None;
+        return None;
     }
     let free = !word & (ALL >> (Held::WORD - places));
     if free == 0 {
-        return Free::None;
+        return None;
     }
-    let zeros = u64::leading_zeros(free) as u8;
-    Free::Frame(FrameNo(LAST - zeros))
+    let zeros = free.leading_zeros() as u8;
+    Some(FrameNo(LAST - zeros))
 }

@@ -1,7 +1,6 @@
 // What is given up of the store: fronts freed, and everything at a start.
 ghost use Rattle.std.specs.Prelude.{◌≡◌, ◌+◌, ◌≤◌, ◌<◌, length};
 ghost use Rattle.interface.specs.Numbers.{page_bytes, page_count, sandbox_count, table_entries};
-ghost use Rattle.pages.specs.Parts.{zeros};
 ghost use Rattle.table.specs.Store.{kept, front_of, Ranged, free_to, cleared};
 
 use entry_release::free_entry;
@@ -15,7 +14,7 @@ pub fn start(pool: &mut [u8], table: &mut [u16]) -> Held
     ensures { kept result pool.new table.new ≡ cleared (length pool.old) }
 {
     pool::clear_pool(pool);
-    clear_table(table);
+    table.fill(0);
     Held::none()
 }
 
@@ -84,13 +83,4 @@ fn free_each(held: Held, pool: &mut [u8], table: &mut [u16], at: usize, n: u8) -
         h = free_entry(h, pool, table, at + i as usize);
     }
     h
-}
-
-// All entries become 0.
-fn clear_table(table: &mut [u16])
-    ensures { table.new ≡ zeros (length table.old) }
-{
-    for i in 0..table.len() {
-        table[i] = 0;
-    }
 }

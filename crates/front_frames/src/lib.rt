@@ -50,9 +50,8 @@ fn with_each(run: Held, table: &[u16], at: usize, n: u8) -> Held
     ensures { result ≡ with_entries table.now at run n }
 {
     let mut all = run;
-    for i in 0..n {
-        let entry = table[at + i as usize];
-        all = with_entry(all, entry);
+    for entry in &table[at..at + n as usize] {
+        all = with_entry(all, *entry);
     }
     all
 }

@@ -32,11 +32,10 @@ pub fn gathered(table: &[u16], present: Areas, runs: Runs, sandbox: u8) -> Runs
     ensures { (h : Words) (pool : List ℕ) →
         result ≡ tabled (row_rewound (store_of h pool table.now) sandbox (slots present) (row runs)) }
 {
-    let count = present.count as usize;
+    let count = usize::from(present.count);
     let mut all = runs;
-    for k in 0..count {
-        let area = present.list[k];
-        all = push_area(table, area, all, sandbox);
+    for area in &present.list[..count] {
+        all = push_area(table, *area, all, sandbox);
     }
     all
 }
@@ -53,15 +52,12 @@ fn push_area(table: &[u16], area: Area, runs: Runs, sandbox: u8) -> Runs
     if !is_spared(area) {
         return runs;
     }
-    let run = fronts(table, sandbox, area.first, area.pages);
-    push(runs, run)
+    push(runs, fronts(table, sandbox, area.first, area.pages))
 }
 
 // Whether the area is uncommitted and anonymous.
 fn is_spared(area: Area) -> bool
     ensures { result ≡ is_spared (Mapped (attributes_of area)) }
 {
-    let backing = area.backing;
-    let anonymous = is_anonymous(backing);
-    !area.committed & anonymous
+    !area.committed & is_anonymous(area.backing)
 }

@@ -55,10 +55,8 @@ pub extern "C" fn gazhuppin_call(
         return Told::without_state(q);
     }
     let reply = call(decode(state), pool, table, image, q);
-    let machine = reply.machine;
-    let answer = reply.answer;
-    encode(machine, state);
-    Told::by(answer)
+    encode(reply.machine, state);
+    Told::by(reply.answer)
 }
 
 // Writes the archive roll of a sandbox's snapshot into `out`, and answers the number of its lines. State, pool, table and image are only read. A refusal leaves

@@ -40,19 +40,16 @@ pub extern "C" fn gazhuppin_play(
         (regions pool.old table.old out.old)
         (regions pool.new table.new out.new) result }
 {
-    let room = room_for(roll.len(), out.len());
-    if !room.fits {
-        return room.lines;
-    }
+    let Some(lines) = room_for(roll.len(), out.len()) else {
+        return 0;
+    };
     let begun = start(pool, table, image);
-    let answer = begun.answer;
-    let sound = accepted(answer);
-    let machine = begun.machine;
+    let sound = accepted(begun.answer);
     let player = Player {
-        machine: machine,
-        sound: sound,
+        machine: begun.machine,
+        sound,
         line: 1,
     };
     play(player, pool, table, image, roll, out);
-    room.lines
+    lines
 }

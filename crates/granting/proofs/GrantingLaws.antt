@@ -1,9 +1,10 @@
 -- What a map takes of the runs.
-use Prim.Native.Nat.{ℕ}
+use Prim.Native.Nat.{ℕ, min, ◌≤◌, ◌<◌}
 use mathlib.Core.Path.{◌≡◌, ap, ◌∙◌}
 use mathlib.Core.Bool.{false}
 use lib.Dec.{leb, eqb}
-use borrow.Author.Tests.{eq-eqb, ne_eqb}
+use native.Mathlib.Omega.{arith}
+use borrow.Author.Tests.{eq-eqb, ne_eqb, leb-true, leb-false}
 use Rattle.basics.specs.Choice.{◌when◌else◌}
 use Rattle.basics.proofs.TestLaws.{by_cases}
 use Rattle.interface.specs.declared.request.Request.{Request}
@@ -36,15 +37,18 @@ module _ (q : Request) where
   unfolding map_runs
   untaken-runs b e = rw e
 
+lesser : (a b : ℕ) → min a b ≡ (a when leb a b else b)
+lesser a b = by_cases (leb a b) (λ e. let l : a ≤ b = leb-true a b e in rw e (omega arith)) (λ e. let l : b < a = leb-false a b e in rw e (omega arith))
+
 module _ (q : Request) (b : Sandbox) (e : q.code ≡ map_code) (p : q.p1 ≡ 64) (z : q.p3 ≡ 0)
     (place n : ℕ) (run : Held) (place_is : place ≡ run_for q.p2 (lengths_of b.runs)) (run_is : run ≡ row b.runs place)
-    (n-is : n ≡ (q.p2 when leb q.p2 (count_held run) else count_held run)) where
+    (n-is : n ≡ min q.p2 (count_held run)) where
   abbrev pub run-there : run ≡ row b.runs (run_for q.p2 (lengths_of b.runs))
   run-there = run_is ∙ ap (row b.runs) place_is
 
   pub frames-there : n ≡ granted q.p2 (lengths_of b.runs)
   unfolding granted
-  frames-there = n-is ∙ rw run-there
+  frames-there = n-is ∙ lesser q.p2 (count_held run) ∙ rw run-there
 
   pub taken-store : (at first : ℕ) (st : Store) → at ≡ front_of q.sandbox first → first ≡ first_of (slots b.rec.present) q
       → adopt_to at run st n ≡ map_adopts q b st

@@ -5,9 +5,8 @@
 // `rules` for a map's first page.
 #![tactic(auto)]
 
-ghost use Rattle.std.specs.Prelude.{◌≡◌, List, ℕ, ◌+◌, ◌≤◌, ◌<◌, leb, length, set};
+ghost use Rattle.std.specs.Prelude.{◌≡◌, List, ℕ, ◌+◌, ◌≤◌, ◌<◌, length, set};
 ghost use Rattle.interface.specs.Numbers.{page_count, sandbox_count, table_entries, most_frames};
-ghost use Rattle.basics.specs.Choice.{◌when◌else◌};
 ghost use Rattle.interface.specs.Requests.{map_code};
 ghost use Rattle.interface.specs.Outcome.{first_of};
 ghost use Rattle.frames.specs.Frames.{mark, count_held, least_held};
@@ -26,7 +25,7 @@ use runs::Runs;
 use state::sandbox::Sandbox;
 
 // What a request leaves: the marks of the frames that entries name, and the sandbox's runs.
-#[derive(Clone, Copy)]
+#[derive(Clone, Copy, Debug, PartialEq, Eq)]
 pub struct Left {
     pub held: Held,
     pub runs: Runs,
@@ -45,43 +44,23 @@ pub fn map(held: Held, table: &mut [u16], b: Sandbox, q: Request) -> Left
         store_of result.held pool table.new ≡ map_adopts q b before }
     ensures runs { result.runs ≡ map_runs q b }
 {
-    let runs = b.runs;
-    if q.p1 != Request::ANY_PAGE {
-        return Left {
-            held: held,
-            runs: runs,
-        };
-    }
-    if q.p3 != 0 {
-        return Left {
-            held: held,
-            runs: runs,
-        };
+    if q.p1 != Request::ANY_PAGE || q.p3 != 0 {
+        return Left { held, runs: b.runs };
     }
     let pages = q.p2 as u8;
-    let place = fitting(runs, pages);
-    let run = runs.at(place);
-    let present = b.rec.present;
-    let first = first_of(present, q);
-    let at = q.sandbox as usize * Marks::SANDBOX_ENTRIES + first as usize;
-    let granted = grant(held, table, at, run, lesser(pages, run.count()));
-    let marks = granted.held;
-    let rest = granted.rest;
+    let place = fitting(b.runs, pages);
+    let run = b.runs.at(place);
+    let first = first_of(b.rec.present, q);
+    let at = q.sandbox as usize * Marks::SANDBOX_ENTRIES + usize::from(first);
+    let granted = grant(held, table, at, run, pages.min(run.count()));
     Left {
-        held: marks,
-        runs: runs.with(place, rest),
+        held: granted.held,
+        runs: b.runs.with(place, granted.rest),
     }
-}
-
-// The lesser of two numbers.
-fn lesser(a: u8, b: u8) -> u8
-    ensures { result ≡ (a when leb a b else b) }
-{
-    if a <= b { a } else { b }
 }
 
 // The marks of the entries, and what is left of a run.
-#[derive(Clone, Copy)]
+#[derive(Clone, Copy, Debug, PartialEq, Eq)]
 struct Granted {
     held: Held,
     rest: Held,
@@ -95,14 +74,11 @@ fn grant(held: Held, table: &mut [u16], first: usize, run: Held, n: u8) -> Grant
         store_of result.held pool table.new ≡ adopt_to first run (store_of held pool table.old) n }
     ensures rest { result.rest ≡ left_of run n }
 {
-    let mut g = Granted {
-        held: held,
-        rest: run,
-    };
+    let mut granted = Granted { held, rest: run };
     for i in 0..n {
-        g = grant_one(g, table, first + i as usize);
+        granted = grant_one(granted, table, first + usize::from(i));
     }
-    g
+    granted
 }
 
 // One entry takes the smallest frame.
@@ -113,12 +89,10 @@ fn grant_one(g: Granted, table: &mut [u16], at: usize) -> Granted
     ensures rest { result.rest ≡ mark g.rest (least_held g.rest) 0 }
     ensures entry { table.new ≡ set table.old at (least_held g.rest + 1) }
 {
-    let rest = g.rest;
-    let held = g.held;
-    let f = rest.least();
-    table[at] = f as u16 + 1;
+    let f = FrameNo(g.rest.least());
+    table[at] = u16::from(f.0) + 1;
     Granted {
-        held: held.with(FrameNo(f)),
-        rest: rest.without(FrameNo(f)),
+        held: g.held.with(f),
+        rest: g.rest.without(f),
     }
 }

@@ -8,7 +8,7 @@ use lib.ListN.{length}
 use borrow.Author.Tests.{eqb-true, eq-eqb, ne_eqb, not-true, not-false}
 use Rattle.basics.proofs.TestLaws.{by_cases, never}
 use Rattle.interface.specs.declared.request.Request.{Request}
-use Rattle.interface.specs.declared.answer.Answer.{Answer}
+use Rattle.interface.specs.Answers.{Answer}
 use Rattle.interface.specs.Answers.{Answered, number_of}
 use Rattle.state.specs.World.{World, world_of}
 use Rattle.state.specs.Start.{start_answer, started_by}

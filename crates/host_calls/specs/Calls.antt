@@ -2,7 +2,7 @@
 use Rattle.std.specs.Prelude.{◌≡◌, true, false, not, List, [], ◌∷◌, ℕ, eqb, length}
 use Rattle.basics.specs.Choice.{◌when◌else◌}
 use Rattle.interface.specs.declared.request.Request.{Request}
-use Rattle.interface.specs.declared.answer.Answer.{Answer}
+use Rattle.interface.specs.Answers.{Answer}
 use Rattle.interface.specs.Answers.{Answered, number_of, value_of}
 use Rattle.interface.specs.Requests.{is_call, request_of}
 use Rattle.state.specs.World.{World, world_of}

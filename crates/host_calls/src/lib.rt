@@ -20,7 +20,7 @@ pub fn state_bytes() -> usize
 
 // What a host asks: the seven numbers of a line.
 #[repr(C)]
-#[derive(Clone, Copy)]
+#[derive(Clone, Copy, Debug, PartialEq, Eq)]
 pub struct Asked {
     pub code: u16,
     pub sandbox: u16,
@@ -50,7 +50,7 @@ impl Asked {
 
 // What a call answers, as a host sees it: the refusal's number or 0, and the value.
 #[repr(C)]
-#[derive(Clone, Copy)]
+#[derive(Clone, Copy, Debug, PartialEq, Eq)]
 pub struct Told {
     pub number: u32,
     pub value: u32,
@@ -65,7 +65,7 @@ impl Told {
         ensures { result ≡ told_by answer }
     {
         Told {
-            number: codes::number(answer) as u32,
+            number: u32::from(codes::number(answer)),
             value: codes::value(answer),
         }
     }
@@ -75,8 +75,8 @@ impl Told {
         ensures { answer_told result ≡ no_state q }
     {
         if !codes::is_call(q) {
-            return Told::by(Answer::Refused(Refusal::NoSuchCall));
+            return Told::by(Err(Refusal::NoSuchCall));
         }
-        Told::by(Answer::Refused(Refusal::Unsound))
+        Told::by(Err(Refusal::Unsound))
     }
 }

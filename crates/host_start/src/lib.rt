@@ -23,8 +23,6 @@ pub fn start_over(image: &[u8], state: &mut [u8], pool: &mut [u8], table: &mut [
         return Told::UNSOUND;
     }
     let started = start(pool, table, image);
-    let machine = started.machine;
-    let answer = started.answer;
-    encode(machine, state);
-    codes::number(answer) as u32
+    encode(started.machine, state);
+    u32::from(codes::number(started.answer))
 }

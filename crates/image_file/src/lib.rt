@@ -10,8 +10,8 @@ use std::fs::{File, open};
 use std::io::{ErrorKind, Read};
 use streams::read_full;
 
-// What became of `image.bin`.
-#[derive(Clone, Copy)]
+// What became of `image.bin`. Neither an option nor a result: that it is missing is no failure, and the theorems name the three (`image_bytes Unreadable`).
+#[derive(Clone, Copy, Debug, PartialEq, Eq)]
 pub enum Found {
     Missing,
     Whole(usize),
@@ -45,10 +45,11 @@ pub fn load(rt: &HostRuntime, image: &mut [u8]) -> Found
         Err(error) => return unopened(error.kind()),
     };
     let bytes = read_full(&mut file, image);
-    if !is_at_end(&mut file) {
-        return Found::Unreadable;
+    if is_at_end(&mut file) {
+        Found::Whole(bytes)
+    } else {
+        Found::Unreadable
     }
-    Found::Whole(bytes)
 }
 
 // What became of a file that cannot be opened: "missing" is the one that is not there.
@@ -63,9 +64,5 @@ fn unopened(kind: ErrorKind) -> Found
 
 // Whether one more read finds the file's end.
 fn is_at_end(file: &mut File) -> bool {
-    let mut more = [0u8; 1];
-    match file.read(&mut more) {
-        Ok(got) => got == 0,
-        Err(_) => false,
-    }
+    matches!(file.read(&mut [0]), Ok(0))
 }

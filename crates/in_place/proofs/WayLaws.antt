@@ -1,13 +1,14 @@
 -- What a world around a sandbox, a pool and a table gives to the parts of a call, and each way out of a call that leaves every sandbox as it is.
 use Prim.Native.Nat.{ℕ, ◌≤◌, ◌<◌}
-use mathlib.Core.Path.{◌≡◌, sym, ap, ◌∙◌}
-use mathlib.Core.Bool.{Bool, true, false, false≢true}
+use mathlib.Core.Path.{◌≡◌, refl, sym, ap, ◌∙◌}
+use mathlib.Core.Bool.{Bool, true, false}
 use mathlib.Core.List.{List}
 use native.Mathlib.Omega.{arith}
 use lib.ListN.{length, get_or, set}
 use borrow.Author.Tests.{eqb-false}
-use Rattle.interface.specs.declared.answer.Answer.{Answer}
-use Rattle.interface.specs.declared.answer.Answer.TheVariants.{Value}
+use Rattle.interface.specs.Answers.{Answer}
+use Rattle.std.specs.Prelude.{Ok, Some, None}
+use Rattle.std.specs.Bool.{then_some}
 use Rattle.interface.specs.declared.page.Slot.{Slot}
 use Rattle.interface.specs.declared.request.Request.{Request}
 use Rattle.interface.specs.Answers.{answered}
@@ -67,15 +68,11 @@ module _ {image : List ℕ} {q : Request} {b : Sandbox} {pool table : List ℕ} 
 
   -- ---- what is tried
 
-  pub tried-none : (a : Answer) → (q.code ≡ write_code → ⊥) → Tried image w q (record { done = false; answer = a }) pool
-  tried-none a x = record { done = λ t. absurd (false≢true t); left = λ t. sym A.same_pool; accepted = λ t e. absurd (x e) }
+  pub tried-none : (q.code ≡ write_code → ⊥) → Tried image w q None pool
+  tried-none x = record { done = tt; left = sym A.same_pool; accepted = λ e. absurd (x e) }
 
-  pub tried_same : (a : Answer) → Stepped image w q (record { answer = answered a; world = w }) → Tried image w q (record { done = true; answer = a }) pool
-  tried_same a s = record {
-    done = λ t. rw (← A.same_pool) s;
-    left = λ t. absurd (false≢true (sym t));
-    accepted = λ t e. absurd (false≢true (sym t));
-  }
+  pub tried_same : (a : Answer) → Stepped image w q (record { answer = answered a; world = w }) → Tried image w q (Some a) pool
+  tried_same a s = record { done = rw (← A.same_pool) s; left = tt; accepted = tt }
 
   -- ---- an accepted call that leaves every sandbox
 
@@ -94,7 +91,7 @@ module _ {image : List ℕ} {q : Request} {b : Sandbox} {pool table : List ℕ} 
 
     -- a value, and nothing changes
     pub looked : (q is write_code) ≡ false → (value : ℕ) → ((h : Held) → value ≡ value_at image q b (kept h pool table))
-        → Stepped image w q (record { answer = answered (Value value); world = w })
+        → Stepped image w q (record { answer = answered (Ok value); world = w })
     looked x value v =
         stepped image w q _ n
         (performed image w q value w.sandboxes w.store own.runs
@@ -107,7 +104,7 @@ module _ {image : List ℕ} {q : Request} {b : Sandbox} {pool table : List ℕ} 
     -- a byte stored into the front that the page has
     overwritten : q.code ≡ write_code → (after : List ℕ) → (own_entry q table ≡ 0 → ⊥)
         → ((h : Held) → kept h after table ≡ store_byte 256 (front_of q.sandbox (page_of q)) (offset_of q) q.p2 (kept h pool table))
-        → Stepped image w q (record { answer = answered (Value 0); world = with_pool after w })
+        → Stepped image w q (record { answer = answered (Ok 0); world = with_pool after w })
     overwritten e after some byte =
         let place : ℕ = front_of q.sandbox (page_of q) in
         let marks : Held = w.store.marks in
@@ -120,12 +117,9 @@ module _ {image : List ℕ} {q : Request} {b : Sandbox} {pool table : List ℕ} 
         row-left)
 
     pub tried-store : q.code ≡ write_code → (stored : Bool) (after : List ℕ) → Stored q pool table stored after
-        → Tried image w q (record { done = stored; answer = Value 0 }) after
-    tried-store e stored after S = record {
-      done = λ t. overwritten e after (S.front t) (S.byte t);
-      left = λ t. S.none t ∙ sym A.same_pool;
-      accepted = λ t e'. n;
-    }
+        → Tried image w q (then_some stored (Ok 0)) after
+    tried-store e true after S = record { done = overwritten e after (S.front refl) (S.byte refl); left = tt; accepted = tt }
+    tried-store e false after S = record { done = tt; left = S.none refl ∙ sym A.same_pool; accepted = λ e'. n }
 
   -- ---- an accepted read or write
 

@@ -1,14 +1,13 @@
 -- What is ensured of a call that leaves every sandbox and the page table as they are.
-use Rattle.std.specs.Prelude.{◌≡◌, true, false, List, ℕ}
+use Rattle.std.specs.Prelude.{◌≡◌, true, List, ℕ, Option, IfSome, IfNone}
 use Rattle.interface.specs.declared.request.Request.{Request}
-use Rattle.interface.specs.Answers.{answered}
+use Rattle.interface.specs.Answers.{Answer, answered}
 use Rattle.interface.specs.Requests.{write_code}
 use Rattle.table.specs.Store.{kept}
 use Rattle.state.specs.declared.sandbox.Sandbox.{Sandbox}
 use Rattle.state.specs.World.{World, sandbox_at}
 use Rattle.soundness.specs.Test.{soundb}
 use Rattle.step.specs.Step.{Stepped, number_at}
-use Rattle.in_place.specs.declared.InPlace.{InPlace}
 
 -- a world with another pool
 abbrev pub with_pool : List ℕ → World → World
@@ -24,15 +23,15 @@ pub record Around (image : List ℕ) (q : Request) (b : Sandbox) (pool table : L
 -- answered at once: the outcome is the step's, and of the world only the pool may have changed ("a write changes one byte inside one frame's 256 bytes of the
 -- pool", and "reads take no frame"); or left to others, and nothing has changed. A write that is left is not refused, and its "page
 -- without a front first takes an unheld frame"
-pub record Tried (image : List ℕ) (w : World) (q : Request) (r : InPlace) (pool : List ℕ) : Type 0 where
-  pub done : r.done ≡ true → Stepped image w q (record { answer = answered r.answer; world = with_pool pool w })
-  pub left : r.done ≡ false → pool ≡ w.store.pool
-  pub accepted : r.done ≡ false → q.code ≡ write_code → number_at image w q ≡ 0
+pub record Tried (image : List ℕ) (w : World) (q : Request) (r : Option Answer) (pool : List ℕ) : Type 0 where
+  pub done : IfSome r (λ a. Stepped image w q (record { answer = answered a; world = with_pool pool w }))
+  pub left : IfNone r (pool ≡ w.store.pool)
+  pub accepted : IfNone r (q.code ≡ write_code → number_at image w q ≡ 0)
 
 -- there is such a world
 abbrev pub Stands : List ℕ → Request → Sandbox → List ℕ → List ℕ → Type 0
 Stands image q b pool table = (w : World) × Around image q b pool table w
 
 -- tried in whichever such world
-abbrev pub Answers : List ℕ → Request → Sandbox → List ℕ → List ℕ → InPlace → List ℕ → Type 0
+abbrev pub Answers : List ℕ → Request → Sandbox → List ℕ → List ℕ → Option Answer → List ℕ → Type 0
 Answers image q b pool table r after = (w : World) → Around image q b pool table w → Tried image w q r after

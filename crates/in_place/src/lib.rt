@@ -1,7 +1,7 @@
 // Calls answered in place: those that leave every sandbox and the page table as they are. Reads, reports, comparisons, and writes to a page that has a
 // front: of these only a byte of the pool changes. One sandbox is looked at, and the page of a read or a write is looked up once.
-// It promises: what `answer` answers is the outcome of `step` (step/specs/Step) in any sound world with this sandbox, pool and table; where it says that it
-// did not answer, nothing has changed, and a write is one that is not refused. Which calls it answers is no part of the promise: whoever calls it performs
+// It promises: what `answer` answers is the outcome of `step` (step/specs/Step) in any sound world with this sandbox, pool and table; where it
+// answers nothing, nothing has changed, and a write is one that is not refused. Which calls it answers is no part of the promise: whoever calls it performs
 // those that it leaves.
 // It stands on `few_rows` for what is refused, on `byte_at` and `values` for what is read, stored, counted and compared, and on `step` for what a call is.
 #![tactic(auto)]
@@ -13,22 +13,20 @@ ghost use Rattle.in_place.specs.InPlace.{Stands, Answers};
 
 use crate::look::look;
 use byte_at::{read, store};
-use few_rows::Access;
 use few_rows::access::decide;
 use interface::{Answer, PageNo, Request};
 use state::sandbox::Sandbox;
 
 mod look;
 
-// Whether the call was answered, and the answer; where it was not, the answer says nothing.
-#[derive(Clone, Copy)]
-pub struct InPlace {
-    pub done: bool,
-    pub answer: Answer,
-}
-
-// A call on this sandbox, answered if it leaves every sandbox and the page table as they are. What it reads or stores lies in the pool or the image.
-pub fn answer(b: Sandbox, pool: &mut [u8], table: &[u16], image: &[u8], q: Request) -> InPlace
+// A call on this sandbox, answered if it leaves every sandbox and the page table as they are; else none. What it reads or stores lies in the pool or the image.
+pub fn answer(
+    b: Sandbox,
+    pool: &mut [u8],
+    table: &[u16],
+    image: &[u8],
+    q: Request,
+) -> Option<Answer>
     requires sandbox_bound { q.sandbox < sandbox_count }
     requires stands { Stands image.now q b pool.old table.now }
     ensures { Answers image.now q b pool.old table.now result pool.new }
@@ -38,46 +36,34 @@ pub fn answer(b: Sandbox, pool: &mut [u8], table: &[u16], image: &[u8], q: Reque
         return read_or_write(b, pool, table, image, q);
     }
     if (code == Request::REPORT) | (code == Request::COMPARE) {
-        let answer = look(b, pool, table, image, q);
-        return InPlace {
-            done: true,
-            answer: answer,
-        };
+        return Some(look(b, pool, table, image, q));
     }
-    InPlace {
-        done: false,
-        answer: Answer::Value(0),
-    }
+    None
 }
 
 // A read or a write. A write to a page without a front takes a frame, and is left.
-fn read_or_write(b: Sandbox, pool: &mut [u8], table: &[u16], image: &[u8], q: Request) -> InPlace
+fn read_or_write(
+    b: Sandbox,
+    pool: &mut [u8],
+    table: &[u16],
+    image: &[u8],
+    q: Request,
+) -> Option<Answer>
     requires is_value { (q is read_code || q is write_code) ≡ true }
     requires sandbox_bound { q.sandbox < sandbox_count }
     requires stands { Stands image.now q b pool.old table.now }
     ensures { Answers image.now q b pool.old table.now result pool.new }
 {
-    let rec = b.rec;
     let images = (image.len() / PageNo::BYTES) as u8;
-    let access = decide(rec, images, q);
-    match access {
-        Access::Refused(why) => InPlace {
-            done: true,
-            answer: Answer::Refused(why),
-        },
-        Access::Page(slot) => {
+    match decide(b.rec, images, q) {
+        Err(why) => Some(Err(why)),
+        Ok(slot) => {
             if q.code == Request::READ {
                 let byte = read(pool, table, image, slot, q);
-                return InPlace {
-                    done: true,
-                    answer: Answer::Value(byte as u32),
-                };
+                return Some(Ok(u32::from(byte)));
             }
             let stored = store(pool, table, q);
-            InPlace {
-                done: stored,
-                answer: Answer::Value(0),
-            }
+            stored.then_some(Ok(0))
         }
     }
 }

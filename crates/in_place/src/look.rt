@@ -9,7 +9,6 @@ ghost use Rattle.in_place.specs.InPlace.{Around, Stands};
 
 use few_rows::unpaged::decide;
 use interface::{Answer, PageNo, Request};
-use page_decision::Verdict;
 use state::sandbox::Sandbox;
 use values::value_of;
 
@@ -21,11 +20,9 @@ pub(crate) fn look(b: Sandbox, pool: &[u8], table: &[u16], image: &[u8], q: Requ
     ensures { (w : World) → Around image.now q b pool.now table.now w
         → Stepped image.now w q (record { answer = answered result; world = w }) }
 {
-    let rec = b.rec;
     let images = (image.len() / PageNo::BYTES) as u8;
-    let verdict = decide(rec, images, q);
-    match verdict {
-        Verdict::Refused(why) => Answer::Refused(why),
-        Verdict::Accepted => Answer::Value(value_of(pool, table, image, b, q)),
+    match decide(b.rec, images, q) {
+        Err(why) => Err(why),
+        Ok(()) => Ok(value_of(pool, table, image, b, q)),
     }
 }

@@ -1,11 +1,9 @@
 -- The number and value of each answer, as document 01 gives them.
-use Rattle.std.specs.Prelude.{ℕ}
+use Rattle.std.specs.Prelude.{ℕ, Result, Ok, Err}
 use Rattle.interface.specs.declared.answer.Refusal.{Refusal}
 use Rattle.interface.specs.declared.answer.Refusal.TheVariants.{Malformed, NoSuchCall, Unsound, NotOpen, AlreadyOpen, OutsideLimits}
 use Rattle.interface.specs.declared.answer.Refusal.TheVariants.{SnapshotTaken, NoSnapshot, NotMapped, AlreadyMapped, NoGap, NotWritable}
 use Rattle.interface.specs.declared.answer.Refusal.TheVariants.{ShareExceeded, TooManyAreas, OutputTooShort}
-use Rattle.interface.specs.declared.answer.Answer.{Answer}
-use Rattle.interface.specs.declared.answer.Answer.TheVariants.{Value, Refused}
 
 -- the number of a refusal: its row of "Turned back"
 abbrev pub refusal_number : Refusal → ℕ
@@ -25,15 +23,19 @@ refusal_number ShareExceeded = 13
 refusal_number TooManyAreas = 14
 refusal_number OutputTooShort = 15
 
--- "refusal number or 0"
-abbrev pub number_of : Answer → ℕ
-number_of (Value v) = 0
-number_of (Refused r) = refusal_number r
+-- what a call answers: a value, or why it is refused
+abbrev pub Answer : Type 0
+Answer = Result ℕ Refusal
+
+-- "refusal number or 0", of whatever is refused or not
+abbrev pub number_of : {T : Type 0} → Result T Refusal → ℕ
+number_of (Ok v) = 0
+number_of (Err r) = refusal_number r
 
 -- "A refusal answers its number and value 0"
 abbrev pub value_of : Answer → ℕ
-value_of (Value v) = v
-value_of (Refused r) = 0
+value_of (Ok v) = v
+value_of (Err r) = 0
 
 -- a number and a value, as a call answers them
 pub record Answered : Type 0 where

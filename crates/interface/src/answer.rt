@@ -1,9 +1,9 @@
 // An answer: a value, or a refusal.
 
-// Why a request is refused: the rows of "Turned back", in its order. The last is the archive's alone (request A9); no call is refused so.
-#[derive(Clone, Copy)]
+// Why a request is refused: the rows of "Turned back", in its order, each with its number. The last is the archive's alone (request A9); no call is refused so.
+#[derive(Clone, Copy, Debug, PartialEq, Eq)]
 pub enum Refusal {
-    Malformed,
+    Malformed = 1,
     NoSuchCall,
     Unsound,
     NotOpen,
@@ -21,8 +21,4 @@ pub enum Refusal {
 }
 
 // What a call answers.
-#[derive(Clone, Copy)]
-pub enum Answer {
-    Value(u32),
-    Refused(Refusal),
-}
+pub type Answer = Result<u32, Refusal>;

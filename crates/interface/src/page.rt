@@ -1,7 +1,7 @@
 // What a page of a sandbox is: its number, its backing, its rights and its mark.
 
 // A page number: which of a sandbox's 64 pages.
-#[derive(Clone, Copy)]
+#[derive(Clone, Copy, Debug, PartialEq, Eq)]
 pub struct PageNo(pub u8);
 
 impl PageNo {
@@ -14,7 +14,7 @@ impl PageNo {
 }
 
 // An image page number: which of the image's pages.
-#[derive(Clone, Copy)]
+#[derive(Clone, Copy, Debug, PartialEq, Eq)]
 pub struct ImagePageNo(pub u8);
 
 impl ImagePageNo {
@@ -23,14 +23,14 @@ impl ImagePageNo {
 }
 
 // What a page holds before the first write to it: zero bytes, or a page of the image.
-#[derive(Clone, Copy)]
+#[derive(Clone, Copy, Debug, PartialEq, Eq)]
 pub enum Backing {
     Anonymous,
     Image(ImagePageNo),
 }
 
 // Rights are 1 for read, 3 for read and write. The mark says whether the page is committed.
-#[derive(Clone, Copy)]
+#[derive(Clone, Copy, Debug, PartialEq, Eq)]
 pub struct Attributes {
     pub rights: u8,
     pub committed: bool,
@@ -45,7 +45,7 @@ impl Attributes {
 }
 
 // What stands at a page.
-#[derive(Clone, Copy)]
+#[derive(Clone, Copy, Debug, PartialEq, Eq)]
 pub enum Slot {
     Unmapped,
     Mapped(Attributes),

@@ -1,7 +1,7 @@
 // A request: one call of the roll.
 
 // A line of the roll: the call's code, the sandbox that it names, and its parameters.
-#[derive(Clone, Copy)]
+#[derive(Clone, Copy, Debug, PartialEq, Eq)]
 pub struct Request {
     pub code: u16,
     pub sandbox: u16,

@@ -22,21 +22,20 @@ pub fn add_runs(found: Marks, runs: Runs) -> Marks
     if runs.is_none() {
         return found;
     }
-    let mut m = found;
-    for i in 0..Runs::END {
-        m = add_run(m, runs.at(i));
+    let mut all = found;
+    for run in runs.list {
+        all = add_run(all, run);
     }
-    m
+    all
 }
 
 // One run more: its frames come to those found, and none of them may be there already.
 fn add_run(found: Marks, run: Held) -> Marks
     ensures { result ≡ add_run found run }
 {
-    let held = found.held;
     Marks {
-        good: held.apart(run) & found.good,
-        held: held.both(run),
+        good: found.held.apart(run) & found.good,
+        held: found.held.both(run),
     }
 }
 
@@ -47,14 +46,12 @@ pub fn frames_ok(kept: Held, pool: &[u8], frames: u8) -> bool
     ensures { result ≡ every (frame_ok frames pool.now kept) 0 most_frames }
 {
     let mut rest = kept;
-    let mut left = kept.count();
-    while left > 0 {
-        let f = rest.least();
-        if !frame_ok(pool, frames, FrameNo(f)) {
+    for _ in 0..kept.count() {
+        let f = FrameNo(rest.least());
+        if !frame_ok(pool, frames, f) {
             return false;
         }
-        rest = rest.without(FrameNo(f));
-        left -= 1;
+        rest = rest.without(f);
     }
     true
 }
@@ -75,7 +72,7 @@ fn is_blank(pool: &[u8], f: FrameNo) -> bool
     requires { f.0 * page_bytes + page_bytes ≤ length pool.now }
     ensures { result ≡ blankb pool.now f.0 }
 {
-    let start = f.0 as usize * Page::SIZE;
+    let start = usize::from(f.0) * Page::SIZE;
     is_zero(&pool[start..start + Page::SIZE])
 }
 
@@ -85,8 +82,8 @@ fn is_zero(page: &[u8]) -> bool
     ensures { result ≡ every (λ o. eqb (get_or page.now o 0) 0) 0 page_bytes }
 {
     let mut zero = true;
-    for i in 0..Page::SIZE {
-        zero = zero & (page[i] == 0);
+    for byte in page {
+        zero &= *byte == 0;
     }
     zero
 }

@@ -11,11 +11,11 @@ ghost use Rattle.interface.specs.Limits.{uses_three, uses_two, uses_one, uses_no
 use interface::{Attributes, PageNo, Request};
 
 // Whether every parameter of the request is within its limits; `images` is the number of the image's pages.
+#[tactic(auto, unfolding(interface::specs::Limits::within))]
 pub fn within_limits(q: Request, images: u8) -> bool
     ensures { result ≡ within images q }
 {
-    let code = q.code;
-    match code {
+    match q.code {
         Request::OPEN => is_between(1, Request::MOST_SHARE, q.p1) & uses_one(q),
         Request::MAP => place_ok(q.p1, q.p2) & (backing_ok(q, images) & rights_ok(q.p5)),
         Request::UNMAP => pages_ok(q.p1, q.p2) & uses_two(q),
@@ -36,7 +36,7 @@ fn is_between(low: u16, high: u16, n: u16) -> bool
 fn is_address(n: u16) -> bool
     ensures { result ≡ ltb n address_count }
 {
-    (n as usize) < PageNo::ADDRESSES
+    usize::from(n) < PageNo::ADDRESSES
 }
 
 // A byte is 0 to 255.
@@ -50,20 +50,21 @@ fn is_byte(n: u16) -> bool
 fn is_count(n: u16) -> bool
     ensures { result ≡ between 1 page_count n }
 {
-    (1 <= n) & (n as usize <= PageNo::COUNT)
+    (1 <= n) & (usize::from(n) <= PageNo::COUNT)
 }
 
-fn rights_ok(rights: u16) -> bool
+// "rights, 1 for read", "or 3 for read and write"
+pub fn rights_ok(rights: u16) -> bool
     ensures { result ≡ rights_ok rights }
 {
-    (rights == Attributes::READ as u16) | (rights == Attributes::READ_WRITE as u16)
+    (rights == u16::from(Attributes::READ)) | (rights == u16::from(Attributes::READ_WRITE))
 }
 
 fn pages_ok(first: u16, n: u16) -> bool
     ensures { result ≡ pages_ok first n }
 {
-    let end = first as usize + n as usize;
-    ((first as usize) < PageNo::COUNT) & (is_count(n) & (end <= PageNo::COUNT))
+    let end = usize::from(first) + usize::from(n);
+    (usize::from(first) < PageNo::COUNT) & (is_count(n) & (end <= PageNo::COUNT))
 }
 
 fn place_ok(first: u16, n: u16) -> bool
@@ -78,8 +79,8 @@ fn backing_ok(q: Request, images: u8) -> bool
     if q.p3 == Request::ANONYMOUS {
         return q.p4 == 0;
     }
-    let end = q.p4 as u32 + q.p2 as u32;
-    (q.p3 == Request::IMAGE) & (end <= images as u32)
+    let end = u32::from(q.p4) + u32::from(q.p2);
+    (q.p3 == Request::IMAGE) & (end <= u32::from(images))
 }
 
 fn uses_three(q: Request) -> bool

@@ -9,13 +9,13 @@ use lib.Seq.{get_or-drop, get_or-take}
 use lib.Dec.{eqb}
 use borrow.Author.Tests.{eqb-true}
 use Rattle.basics.proofs.LoopLaws.{every-at}
-use Rattle.columns.specs.declared.Field.TheVariants.{Number}
+use Rattle.std.specs.Prelude.{Some}
 use Rattle.columns.specs.Fields.{with_digit}
 use Rattle.columns.specs.Reading.{blanks}
 use Rattle.columns.proofs.ReadLaws.{short-field}
 use Rattle.lines.specs.Lines.{field_at}
 
-pub short-at : (line : List ℕ) (k : ℕ) → blanks line (k * 6) 5 ≡ true → with_digit (Number 0) (get_or line (k * 6 + 5) 0) ≡ field_at line k
+pub short-at : (line : List ℕ) (k : ℕ) → blanks line (k * 6) 5 ≡ true → with_digit (Some 0) (get_or line (k * 6 + 5) 0) ≡ field_at line k
 unfolding field_at
 short-at line k h =
     let part : List ℕ = take 6 (drop (k * 6) line) in

@@ -4,7 +4,7 @@
 // It stands on `lines` for what a line says. `read_ahead` puts the lines of a roll so.
 #![tactic(auto)]
 
-ghost use Rattle.std.specs.Prelude.{◌≡◌, [], ◌∷◌, ◌++◌, ◌+◌, ◌*◌, ◌≤◌, length, take, drop};
+ghost use Rattle.std.specs.Prelude.{◌≡◌, ◌++◌, ◌+◌, ◌*◌, ◌≤◌, length, take, drop};
 ghost use Rattle.line_numbers.specs.Numbers.{line_number_count, numbers_of, line_in};
 
 use interface::Request;
@@ -31,37 +31,11 @@ fn put(part: &mut [u16], line: Line)
     ensures { part.new ≡ numbers_of line }
 {
     match line {
-        Line::Call(q) => put_numbers(part, 1, q),
-        Line::Malformed => put_numbers(
-            part,
-            0,
-            Request {
-                code: 0,
-                sandbox: 0,
-                p1: 0,
-                p2: 0,
-                p3: 0,
-                p4: 0,
-                p5: 0,
-            },
-        ),
+        Line::Call(q) => part.copy_from_slice(&[
+            1, q.code, q.sandbox, q.p1, q.p2, q.p3, q.p4, q.p5,
+        ]),
+        Line::Malformed => part.fill(0),
     }
-}
-
-// Eight numbers put into a part that has room for them alone.
-fn put_numbers(part: &mut [u16], call: u16, q: Request)
-    requires { length part.old ≡ line_number_count }
-    ensures { part.new
-        ≡ call ∷ q.code ∷ q.sandbox ∷ q.p1 ∷ q.p2 ∷ q.p3 ∷ q.p4 ∷ q.p5 ∷ [] }
-{
-    part[0] = call;
-    part[1] = q.code;
-    part[2] = q.sandbox;
-    part[3] = q.p1;
-    part[4] = q.p2;
-    part[5] = q.p3;
-    part[6] = q.p4;
-    part[7] = q.p5;
 }
 
 // The line whose numbers stand at a place.
@@ -73,6 +47,7 @@ pub fn line_in(numbers: &[u16], k: usize) -> Line
     if numbers[at] == 0 {
         return Line::Malformed;
     }
+    // Each number by its place: a pattern of eight over the part is no plainer, since it needs a way out for another length.
     Line::Call(Request {
         code: numbers[at + 1],
         sandbox: numbers[at + 2],

@@ -12,8 +12,7 @@ use Rattle.basics.specs.Ranges.{every}
 use Rattle.basics.proofs.TestLaws.{by_cases, never, and_both, and-of}
 use Rattle.basics.proofs.LoopLaws.{every-at, every_of}
 use Rattle.interface.specs.declared.request.Request.{Request}
-use Rattle.columns.specs.declared.Field.{Field}
-use Rattle.columns.specs.declared.Field.TheVariants.{Number, Bad}
+use Rattle.std.specs.Prelude.{Option, Some, None}
 use Rattle.lines.specs.declared.Line.TheVariants.{Call, Malformed}
 use Rattle.columns.specs.Prints.{printed_field, printed_line, UpTo, numbers_of, printed_request}
 use Rattle.columns.specs.Fields.{is_number, number_in}
@@ -34,7 +33,7 @@ feed-alone (byte ∷ []) h e = ap (λ x. x ∷ []) e
 feed-alone (byte ∷ other ∷ more) h e = absurd (omega arith)
 
 fields-printed : (n : ℕ) (line : List ℕ) (f : ℕ → ℕ) → length line ≡ n * 6 + 1 → get_or line (n * 6) 0 ≡ 10
-    → ((k : ℕ) → k < n → field_at line k ≡ Number (f k)) → line ≡ printed_line (listed f n)
+    → ((k : ℕ) → k < n → field_at line k ≡ Some (f k)) → line ≡ printed_line (listed f n)
 unfolding printed_line field_at
 fields-printed zero line f h e fields = feed-alone line h e
 fields-printed (suc n) line f h e fields =
@@ -46,9 +45,9 @@ fields-printed (suc n) line f h e fields =
     (λ k l. rw (drop-drop (k * 6) 6 line, place k) (fields (suc k) (omega arith))) in
     sym (take-append-drop 6 line) ∙ rw (first, rest)
 
-number-known : (f : Field) → is_number f ≡ true → f ≡ Number (number_in f)
-number-known (Number n) h = refl
-number-known Bad h = never false h refl
+number-known : (f : Option ℕ) → is_number f ≡ true → f ≡ Some (number_in f)
+number-known (Some n) h = refl
+number-known None h = never false h refl
 
 small-listed : (n : ℕ) (f : ℕ → ℕ) → ((k : ℕ) → k < n → f k ≤ 65535) → UpTo 65535 (listed f n)
 small-listed zero f h = tt
@@ -62,7 +61,7 @@ module _ (line : List ℕ) (formed : well_formed line ≡ true) where
   formed-end : (eqb (get_or line 42 0) 10 ≡ true) × (every (has_number line) 0 7 ≡ true)
   formed-end = and_both (eqb (get_or line 42 0) 10) (every (has_number line) 0 7) formed-parts.1
 
-  pub formed-field : (k : ℕ) → k < 7 → field_at line k ≡ Number (numeral_at line k)
+  pub formed-field : (k : ℕ) → k < 7 → field_at line k ≡ Some (numeral_at line k)
   formed-field k h = number-known (field_at line k) (every-at (has_number line) 0 7 formed-end.1 k (omega arith) (omega arith))
 
   formed-print : line ≡ printed_request (request_in line)
@@ -91,7 +90,7 @@ request-printed line q e =
 -- ---- what is printed is read
 
 -- the fields of a printed line
-pub printed-field : (numbers : List ℕ) (k : ℕ) → UpTo 65535 numbers → k < length numbers → field_at (printed_line numbers) k ≡ Number (get_or numbers k 0)
+pub printed-field : (numbers : List ℕ) (k : ℕ) → UpTo 65535 numbers → k < length numbers → field_at (printed_line numbers) k ≡ Some (get_or numbers k 0)
 unfolding printed_line field_at
 printed-field [] k small h = absurd (omega arith)
 printed-field (n ∷ more) zero small h = rw (take_at (printed_field n) (printed_line more) 6 (length-field n)) (field-says n small.0)
@@ -108,7 +107,7 @@ printed-feed (n ∷ more) =
     rw (place, get_or-append-add (printed_field n) (printed_line more) (length more * 6) 0) (printed-feed more)
 
 module _ (q : Request) (small : UpTo 65535 (numbers_of q)) where
-  request-field : (k : ℕ) → k < 7 → field_at (printed_request q) k ≡ Number (get_or (numbers_of q) k 0)
+  request-field : (k : ℕ) → k < 7 → field_at (printed_request q) k ≡ Some (get_or (numbers_of q) k 0)
   unfolding printed_request
   request-field k h = printed-field (numbers_of q) k small h
 

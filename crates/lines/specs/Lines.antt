@@ -1,15 +1,14 @@
 -- What a line of the roll says, and where the roll's lines stand.
-use Rattle.std.specs.Prelude.{ℕ, ◌+◌, ◌*◌, ◌/◌, min, Bool, ◌&&◌, List, length, get_or, take, drop, eqb}
+use Rattle.std.specs.Prelude.{ℕ, ◌+◌, ◌*◌, ◌/◌, min, Bool, ◌&&◌, List, length, get_or, take, drop, eqb, Option}
 use Rattle.basics.specs.Choice.{◌when◌else◌}
 use Rattle.basics.specs.Ranges.{every}
 use Rattle.interface.specs.declared.request.Request.{Request}
-use Rattle.columns.specs.declared.Field.{Field}
 use Rattle.lines.specs.declared.Line.{Line}
 use Rattle.lines.specs.declared.Line.TheVariants.{Call, Malformed}
 use Rattle.columns.specs.Fields.{is_number, number_in, field_of}
 
 -- field k of a line, from 0 on: "fields of 6 columns"
-unfoldable pub field_at : List ℕ → ℕ → Field
+unfoldable pub field_at : List ℕ → ℕ → Option ℕ
 field_at line k = field_of (take 6 (drop (k * 6) line))
 
 -- whether it says a number, and which

@@ -6,11 +6,11 @@
 ghost use Rattle.std.specs.Prelude.{◌≡◌};
 ghost use Rattle.lines.specs.Lines.{lines_of};
 
-use columns::Field;
+use columns::{COLUMNS, LAST_COLUMN, RADIX};
 use interface::Request;
 
 // What a line of the roll says: a call, or nothing.
-#[derive(Clone, Copy)]
+#[derive(Clone, Copy, Debug, PartialEq, Eq)]
 pub enum Line {
     Call(Request),
     Malformed,
@@ -28,11 +28,11 @@ impl Line {
 
     pub const REPLY_FEED: usize = 18;
     // "fields of 6 columns", of which the last always has a digit; numbers are decimal
-    pub const FIELD: usize = Field::COLUMNS;
+    pub const FIELD: usize = COLUMNS;
 
-    pub const LAST_COLUMN: usize = Field::LAST_COLUMN;
+    pub const LAST_COLUMN: usize = LAST_COLUMN;
 
-    pub const RADIX: u32 = Field::RADIX;
+    pub const RADIX: u32 = RADIX;
     // The fields of a line, from 0 on: "call, sandbox, p1 to p5"
     pub const CODE: usize = 0;
 
@@ -56,6 +56,7 @@ impl Line {
 }
 
 // How many lines a roll of so many bytes has: the whole ones, one for a short rest, and none after the 65,535th.
+#[tactic(auto, unfolding(crate::specs::Lines::lines_of))]
 pub fn lines_of(bytes: usize) -> usize
     ensures { result ≡ lines_of bytes }
 {

@@ -10,7 +10,7 @@ ghost use Rattle.state.specs.World.{world_of};
 ghost use Rattle.step.specs.Step.{Stepped};
 ghost use Rattle.step.specs.Reply.{outcome_of};
 
-use interface::{Answer, Refusal, Request};
+use interface::{Refusal, Request};
 use performing::act;
 use rewind_call::rewind_sandbox;
 use soundness::sound::sound;
@@ -24,13 +24,22 @@ pub fn call(machine: Machine, pool: &mut [u8], table: &mut [u16], image: &[u8], 
         Stepped image.now before q (outcome_of result pool.new table.new) }
 {
     if !codes::is_call(q) {
-        return refuse(machine, Refusal::NoSuchCall);
+        return Reply {
+            machine,
+            answer: Err(Refusal::NoSuchCall),
+        };
     }
     if !sound(machine, pool, table, image) {
-        return refuse(machine, Refusal::Unsound);
+        return Reply {
+            machine,
+            answer: Err(Refusal::Unsound),
+        };
     }
     if q.sandbox as usize >= Machine::SANDBOXES {
-        return refuse(machine, Refusal::NotOpen);
+        return Reply {
+            machine,
+            answer: Err(Refusal::NotOpen),
+        };
     }
     let k = q.sandbox as usize;
     let mut m = machine;
@@ -49,13 +58,8 @@ pub fn call(machine: Machine, pool: &mut [u8], table: &mut [u16], image: &[u8], 
             answer: value,
         };
     }
-    let tried = in_place::answer(b, pool, table, image, q);
-    if tried.done {
-        let answer = tried.answer;
-        return Reply {
-            machine: m,
-            answer: answer,
-        };
+    if let Some(answer) = in_place::answer(b, pool, table, image, q) {
+        return Reply { machine: m, answer };
     }
     let all = put_together(sandboxes, m.held, q);
     let acted = act(b, all, pool, table, image, q);
@@ -67,15 +71,5 @@ pub fn call(machine: Machine, pool: &mut [u8], table: &mut [u16], image: &[u8], 
     Reply {
         machine: m,
         answer: answer,
-    }
-}
-
-// A refusal leaves the state.
-fn refuse(machine: Machine, why: Refusal) -> Reply
-    ensures { result ≡ record { machine = machine; answer = Answer.Refused why } }
-{
-    Reply {
-        machine: machine,
-        answer: Answer::Refused(why),
     }
 }

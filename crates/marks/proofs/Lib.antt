@@ -1,4 +1,4 @@
 pub mod NamedLaws
 pub mod MarkLaws
-pub mod UsedLaws
+pub mod EntryLaws
 pub mod Examples

@@ -1,7 +1,8 @@
 // The marks of the frames that the entries of a lent page table name, as one pass over the entries finds them; no pool.
 // It promises: whatever numbers the table holds, the pass says whether "entries name frames of the pool, no frame twice", and has the
 // marks of these frames. specs/Named.antt says what that means, proofs/MarkLaws.antt that the pass says it, and that it counts the entries
-// that name a frame. The pass is made in `entry_pass`; here the entries of a sandbox that name a frame are counted, and eight in a row are looked at.
+// that name a frame. The pass is made in `entry_pass`; here the entries of a sandbox that name a frame are counted, and whether none of some names one
+// is told.
 // It stands on `frames`, for the marks and the number of a frame.
 #![tactic(auto)]
 
@@ -9,7 +10,7 @@ ghost use Rattle.std.specs.Prelude.{◌≡◌, ◌+◌, ◌*◌, ◌≤◌, ◌<
 ghost use Rattle.basics.specs.Ranges.{every};
 ghost use Rattle.interface.specs.Numbers.{sandbox_entries, table_entries};
 ghost use Rattle.marks.specs.Marks.{from};
-ghost use Rattle.marks.specs.Named.{used as usedOne, used_below};
+ghost use Rattle.marks.specs.Named.{used_below};
 
 use frames::Held;
 
@@ -30,16 +31,13 @@ impl Marks {
     pub const TOGETHER: usize = 8;
 }
 
-// Whether eight entries in a row name no frame. All are looked at, which takes no branch.
-pub fn names_none(table: &[u16], at: usize) -> bool
-    requires { at + 8 ≤ length table.now }
-    ensures { result ≡ every (λ j. eqb (get_or table.now (at + j) 0) 0) 0 8 }
+// Whether no entry of these names a frame. All are looked at, which takes no branch.
+pub fn names_none(entries: &[u16]) -> bool
+    ensures { result ≡ every (λ j. eqb (get_or entries.now j 0) 0) 0 (length entries.now) }
 {
-    let mut none = true;
-    for j in 0..Marks::TOGETHER {
-        none = none & (table[at + j] == 0);
-    }
-    none
+    entries
+        .iter()
+        .fold(true, |none, entry| none & (*entry == 0))
 }
 
 // How many entries of a sandbox name a frame.
@@ -50,19 +48,13 @@ pub fn used(table: &[u16], sandbox: u8) -> u16
     ensures small { result ≤ sandbox_entries }
 {
     let first = sandbox as usize * Marks::SANDBOX_ENTRIES;
-    let mut n: u16 = 0;
-    for i in 0..Marks::SANDBOX_ENTRIES {
-        n = n + is_used(table[first + i]);
-    }
-    n
+    naming(&table[first..first + Marks::SANDBOX_ENTRIES])
 }
 
-fn is_used(entry: u16) -> u16
-    ensures value { result ≡ usedOne entry }
-    ensures small { result ≤ 1 }
+// How many entries of these name a frame.
+fn naming(entries: &[u16]) -> u16
+    requires { length entries.now ≤ sandbox_entries }
+    ensures { result ≡ used_below (λ k. get_or entries.now k 0) (length entries.now) }
 {
-    if entry == 0 {
-        return 0;
-    }
-    1
+    entries.iter().map(|entry| u16::from(*entry != 0)).sum()
 }

@@ -9,7 +9,7 @@ use areas::area::{Area, Areas};
 use interface::Attributes;
 
 // A change of some pages: they become mapped from a first page with these attributes on, or unmapped, or get rights, or become committed.
-#[derive(Clone, Copy)]
+#[derive(Clone, Copy, Debug, PartialEq, Eq)]
 pub enum Change {
     Map(Attributes),
     Unmap,
@@ -17,8 +17,8 @@ pub enum Change {
     Commit,
 }
 
-// Areas, and whether they are all: a ninth is left out.
-#[derive(Clone, Copy)]
+// Areas, and whether they are all: a ninth is left out. Both stand side by side, since `push` (specs/Pack) goes on packing behind an area left out.
+#[derive(Clone, Copy, Debug, PartialEq, Eq)]
 pub struct Packed {
     pub areas: Areas,
     pub fits: bool,
@@ -34,22 +34,21 @@ impl Packed {
         if area.pages == 0 {
             return self;
         }
-        let areas = self.areas;
-        if continues(areas, area) {
+        if continues(self.areas, area) {
             return Packed {
-                areas: extended(areas, area.pages),
-                fits: self.fits,
+                areas: extended(self.areas, area.pages),
+                ..self
             };
         }
-        if (areas.count as usize) < Area::MOST {
+        if usize::from(self.areas.count) < Area::MOST {
             return Packed {
-                areas: placed(areas, area),
-                fits: self.fits,
+                areas: placed(self.areas, area),
+                ..self
             };
         }
         Packed {
-            areas: areas,
             fits: false,
+            ..self
         }
     }
 }
@@ -62,10 +61,7 @@ fn continues(areas: Areas, area: Area) -> bool
     if areas.count == 0 {
         return false;
     }
-    let k = areas.count as usize - 1;
-    let last = areas.list[k];
-    let first = area.first;
-    last.goes_on(first, area.attributes())
+    areas.list[usize::from(areas.count) - 1].goes_on(area.first, area.attributes())
 }
 
 // The last area made longer by so many pages.
@@ -75,9 +71,8 @@ fn extended(mut areas: Areas, pages: u8) -> Areas
     requires pages_bound { (last areas).pages + pages ≤ page_count }
     ensures { result ≡ extended_by areas pages }
 {
-    let k = areas.count as usize - 1;
-    let last = areas.list[k];
-    areas.list[k] = longer(last, pages);
+    let k = usize::from(areas.count) - 1;
+    areas.list[k] = longer(areas.list[k], pages);
     areas
 }
 
@@ -86,9 +81,8 @@ fn placed(mut areas: Areas, area: Area) -> Areas
     requires { areas.count < 8 }
     ensures { result ≡ placed areas area }
 {
-    let k = areas.count as usize;
-    areas.list[k] = area;
-    areas.count = areas.count + 1;
+    areas.list[usize::from(areas.count)] = area;
+    areas.count += 1;
     areas
 }
 
@@ -97,13 +91,8 @@ fn longer(area: Area, pages: u8) -> Area
     requires { area.pages + pages ≤ page_count }
     ensures { result ≡ longer_by area pages }
 {
-    let first = area.first;
-    let backing = area.backing;
     Area {
-        first: first,
         pages: area.pages + pages,
-        rights: area.rights,
-        committed: area.committed,
-        backing: backing,
+        ..area
     }
 }

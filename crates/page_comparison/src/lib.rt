@@ -6,7 +6,7 @@
 
 ghost use Rattle.std.specs.Prelude.{◌≡◌, ◌*◌, ◌≤◌, length};
 ghost use Rattle.interface.specs.Numbers.{page_bytes, most_frames};
-ghost use Rattle.pages.specs.Parts.{same_bytes};
+ghost use Rattle.pages.specs.Parts.{same_bytes, zeros};
 ghost use Rattle.table.specs.Store.{page_in, page_from};
 ghost use Rattle.table.specs.Backing.{backing_page, backing_end};
 
@@ -33,47 +33,33 @@ pub fn same_pages(
         (page_from (backing_page image.now backing) (page_in page_bytes pool.now entry))
         (page_from (backing_page image.now twin) (page_in page_bytes pool.now other)) }
 {
-    if entry != 0 {
-        let start = frame_of(entry).0 as usize * Page::SIZE;
-        let end = start + Page::SIZE;
-        return has_page(&pool[start..end], pool, image, other, twin);
-    }
-    match backing {
-        Backing::Anonymous => {
-            let zero = [0u8; Page::SIZE];
-            has_page(&zero, pool, image, other, twin)
-        }
-        Backing::Image(page) => {
-            let start = page.0 as usize * Page::SIZE;
-            let end = start + Page::SIZE;
-            has_page(&image[start..end], pool, image, other, twin)
-        }
-    }
+    let zero = [0u8; Page::SIZE];
+    pages::is_same(
+        bytes_of(pool, image, &zero, entry, backing),
+        bytes_of(pool, image, &zero, other, twin),
+    )
 }
 
-// Whether a part, one page long, has the bytes of a page: those of the frame that the entry names, or else its backing's.
-fn has_page(part: &[u8], pool: &[u8], image: &[u8], entry: u16, backing: Backing) -> bool
-    requires part_len { length part.now ≡ page_bytes }
+// The bytes of a page, where they stand: in the frame that its entry names, or else in the image, or in a page of zero bytes.
+fn bytes_of<'a>(
+    pool: &'a [u8],
+    image: &'a [u8],
+    zero: &'a [u8],
+    entry: u16,
+    backing: Backing,
+) -> &'a [u8]
+    requires zero_value { zero.now ≡ zeros page_bytes }
     requires bound { entry ≤ most_frames }
     requires in_bounds { entry * page_bytes ≤ length pool.now }
     requires backing_in_bounds { backing_end backing * page_bytes ≤ length image.now }
-    ensures { result ≡ same_bytes page_bytes part.now
-        (page_from (backing_page image.now backing) (page_in page_bytes pool.now entry)) }
+    ensures bytes { result.now ≡ page_from (backing_page image.now backing) (page_in page_bytes pool.now entry) }
+    ensures len { length result.now ≡ page_bytes }
 {
     if entry != 0 {
-        let start = frame_of(entry).0 as usize * Page::SIZE;
-        let end = start + Page::SIZE;
-        return pages::is_same(part, &pool[start..end]);
+        return pages::part_of(pool, frame_of(entry).0);
     }
     match backing {
-        Backing::Anonymous => {
-            let zero = [0u8; Page::SIZE];
-            pages::is_same(part, &zero)
-        }
-        Backing::Image(page) => {
-            let start = page.0 as usize * Page::SIZE;
-            let end = start + Page::SIZE;
-            pages::is_same(part, &image[start..end])
-        }
+        Backing::Anonymous => zero,
+        Backing::Image(page) => pages::part_of(image, page.0),
     }
 }

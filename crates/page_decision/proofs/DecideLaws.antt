@@ -5,6 +5,7 @@ use mathlib.Core.Bool.{true, false, not, ◌&&◌}
 use lib.Dec.{leb, ltb, eqb}
 use native.Mathlib.Omega.{arith}
 use borrow.Author.Tests.{eqb-false, leb-true, leb-false, le-leb, le-ltb, lt-ltb, eq-eqb, not-false}
+use Rattle.std.specs.Prelude.{Ok, Err}
 use Rattle.basics.proofs.TestLaws.{by_cases, and_right, and-not-right, or_left, or_right}
 use Rattle.interface.specs.declared.answer.Refusal.{Refusal}
 use Rattle.interface.specs.declared.answer.Refusal.TheVariants.{Malformed, NoSuchCall, Unsound, NotOpen, AlreadyOpen, OutsideLimits}
@@ -21,13 +22,11 @@ use Rattle.interface.proofs.KindLaws.{kind}
 use Rattle.interface.proofs.TableLaws.{Past, lowest-applies, from-here, some_number}
 use Rattle.interface.proofs.AcceptedLaws.{gap-some, gap-found, gap-fits}
 use Rattle.interface.proofs.RowLaws.{row-14}
-use Rattle.areas.specs.Areas.{slots, empty}
+use Rattle.areas.specs.Areas.{slots}
 use Rattle.packing.specs.declared.pack.Packed.{Packed}
 use Rattle.packing.proofs.PackLaws.{pack-fits}
 use Rattle.records.specs.declared.Record.{Record}
 use Rattle.records.specs.Record.{copy_of, view_from}
-use Rattle.page_decision.specs.declared.Verdict.TheVariants.{Accepted, Refused}
-use Rattle.page_decision.specs.declared.Decision.{Decision}
 use Rattle.rules.specs.After.{changes, packed_after}
 use Rattle.rules.specs.Ready.{Fit, Passed}
 use Rattle.page_decision.specs.Decision.{Decided}
@@ -119,19 +118,15 @@ module _ (v : View) (q : Request) where
   -- ---- decisions
 
   module _ (b : Record) where
-    -- the first row that applies is answered, and no areas
-    pub refused : (why : Refusal) (r : Decision) → r ≡ record { verdict = Refused why; areas = empty } → Behind why → applies v q why ≡ true → Decided v q b r
+    -- the first row that applies is answered
+    pub refused : (why : Refusal) → Behind why → applies v q why ≡ true → Decided v q b (Err why)
     unfolding refusal
-    refused why r told p e =
-        let number = lowest-applies (applies v q) why p e in
-        rw told (record { number = sym number; areas = rw (number, some_number why) })
+    refused why p e = record { number = sym (lowest-applies (applies v q) why p e); areas = tt }
 
     -- none applies
-    pub accepted : (p : Packed) → p ≡ packed_after q b → Behind OutputTooShort → Decided v q b (record { verdict = Accepted; areas = p.areas })
+    pub accepted : (p : Packed) → p ≡ packed_after q b → Behind OutputTooShort → Decided v q b (Ok p.areas)
     unfolding refusal applies
-    accepted p told none =
-        let number = from-here (applies v q) OutputTooShort none in
-        record { number = sym number; areas = rw number (ap (λ x. x.areas) told) }
+    accepted p told none = record { number = sym (from-here (applies v q) OutputTooShort none); areas = ap (λ x. x.areas) told }
 
 -- rows 1 to 3 of a call in a sound state
 pub sound-call : (v : View) (q : Request) → v.sound ≡ true → is_call q ≡ true → Behind v q NotOpen

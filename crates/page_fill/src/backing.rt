@@ -6,7 +6,6 @@ ghost use Rattle.table.specs.Backing.{backing_page, backing_end};
 
 use frames::FrameNo;
 use interface::Backing;
-use pages::Page;
 
 // A frame gets the backing's bytes.
 pub(crate) fn fill_frame(pool: &mut [u8], f: FrameNo, image: &[u8], backing: Backing)
@@ -17,11 +16,6 @@ pub(crate) fn fill_frame(pool: &mut [u8], f: FrameNo, image: &[u8], backing: Bac
 {
     match backing {
         Backing::Anonymous => pool::clear_frame(pool, f),
-        Backing::Image(page) => {
-            let start = page.0 as usize * Page::SIZE;
-            let end = start + Page::SIZE;
-            let bytes = pages::load(&image[start..end]);
-            pool::fill_frame(pool, f, &bytes)
-        }
+        Backing::Image(page) => pool::fill_frame(pool, f, pages::part_of(image, page.0)),
     }
 }

@@ -69,7 +69,5 @@ fn restore_image(pool: &mut [u8], f: FrameNo, image: &[u8], page: ImagePageNo) -
     ensures pool_after { pool.new ≡ set_frame page_bytes pool.old f.0 (frame page_bytes image.now page.0) }
     ensures differed { result ≡ differs page_bytes (frame page_bytes pool.old f.0) (frame page_bytes image.now page.0) }
 {
-    let start = page.0 as usize * Page::SIZE;
-    let end = start + Page::SIZE;
-    pool::restore_frame(pool, f, &image[start..end])
+    pool::restore_frame(pool, f, pages::part_of(image, page.0))
 }

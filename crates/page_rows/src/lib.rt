@@ -24,11 +24,10 @@ pub fn not_mapped(present: Areas, q: Request) -> bool
     requires fit { Fit q }
     ensures { (v : View) → v.slots ≡ slots present → result ≡ applies v q NotMapped }
 {
-    let code = q.code;
-    if code == Request::PROTECT {
+    if q.code == Request::PROTECT {
         return !all_are(present, true, PageNo(q.p1 as u8), q.p2 as u8);
     }
-    if (code == Request::READ) | (code == Request::WRITE) {
+    if (q.code == Request::READ) | (q.code == Request::WRITE) {
         return !is_mapped(present.slot(page_of(q)));
     }
     false

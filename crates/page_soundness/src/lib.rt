@@ -18,7 +18,7 @@ ghost use Rattle.page_soundness.specs.Entries.{entry_ok};
 use areas::area::Areas;
 use committed_pages::{all_backed, all_committed};
 use interface::PageNo;
-use marks::Marks;
+use marks::{Marks, names_none};
 
 // Whether each page is as a sound state asks: the marks of the snapshot's pages, the backing of committed pages, the fronts, the backs.
 pub fn pages_ok(present: Areas, snapshot: Areas, table: &[u16], s: u8) -> bool
@@ -61,15 +61,11 @@ fn only_mapped(areas: Areas, table: &[u16], first: usize) -> bool
     name_none(table, first, page, PageNo::COUNT)
 }
 
-// Whether the entries of the pages from one up to another name no frame. All are looked at, which takes no branch.
+// Whether the entries of the pages from one up to another name no frame.
 fn name_none(table: &[u16], first: usize, page: usize, end: usize) -> bool
     requires page_le_end { page ≤ end }
     requires end_in_bounds { first + end ≤ length table.now }
     ensures { result ≡ every (λ i. eqb (get_or table.now (first + i) 0) 0) page (end - page) }
 {
-    let mut none = true;
-    for i in page..end {
-        none = none & (table[first + i] == 0);
-    }
-    none
+    names_none(&table[first + page..first + end])
 }

@@ -41,13 +41,8 @@ pub fn put_page(
         (page_lines image.now pool.now table.now
         page.sandbox page.number.0 page.slot) }
 {
-    let number = page.number;
-    let back = table::entry::back(table, page.sandbox, number);
-    if back == 0 {
-        return to;
-    }
-    let slot = page.slot;
-    if !is_mapped(slot) {
+    let back = table::entry::back(table, page.sandbox, page.number);
+    if back == 0 || !is_mapped(page.slot) {
         return to;
     }
     put_bytes(pool, image, page, frame_of(back), out, to)
@@ -70,9 +65,9 @@ fn put_bytes(
         (bytes_of image.now page.sandbox page.number.0 page.slot
         (frame page_bytes pool.now f.0)) }
 {
-    let slot = page.slot;
-    let backing = backing_at(slot);
+    let backing = backing_at(page.slot);
     let mut next = to;
+    // The number of bytes, 256, is no byte itself.
     for j in 0..PageNo::BYTES {
         let offset = j as u8;
         let byte = frame_bytes::read_byte(pool, f, offset);
@@ -88,9 +83,9 @@ fn write_line(page: VirtualPage, offset: u8, byte: u8) -> Request
 {
     Request {
         code: Request::WRITE,
-        sandbox: page.sandbox as u16,
-        p1: page.number.0 as u16 * PageNo::BYTES as u16 + offset as u16,
-        p2: byte as u16,
+        sandbox: u16::from(page.sandbox),
+        p1: u16::from(page.number.0) * PageNo::BYTES as u16 + u16::from(offset),
+        p2: u16::from(byte),
         p3: 0,
         p4: 0,
         p5: 0,
@@ -104,9 +99,6 @@ fn backing_byte(image: &[u8], backing: Backing, offset: u8) -> u8
 {
     match backing {
         Backing::Anonymous => 0,
-        Backing::Image(page) => {
-            let place = page.0 as usize * PageNo::BYTES + offset as usize;
-            image[place]
-        }
+        Backing::Image(page) => image[usize::from(page.0) * PageNo::BYTES + usize::from(offset)],
     }
 }

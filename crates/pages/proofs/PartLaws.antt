@@ -1,16 +1,15 @@
 -- Laws of a part of a list, and of frames of any size.
 use mathlib.Core.Path.{◌≡◌, refl, sym, ap, ap₂, ◌∙◌, subst}
 use mathlib.Core.Bool.{Bool, true, false}
-use mathlib.Core.List.{List, [], ◌∷◌, ◌++◌, append_assoc, append-nil}
+use mathlib.Core.List.{List, [], ◌∷◌, ◌++◌, append_assoc}
 use Prim.Native.Nat.{ℕ, zero, suc, ◌+◌, ◌-◌, ◌*◌, ◌/◌, ◌%◌, ◌≤◌, ◌<◌}
-use native.Mathlib.Nat.{suc-mul, mul-le-mul_right, le_trans, le_of_eq, not-suc-le-zero, le_of_suc-le-suc, div-add-mod', mod-lt, div-lt_iff_lt-mul}
+use native.Mathlib.Nat.{suc-mul, mul-le-mul_right, le_trans, le_of_eq, div-add-mod', mod-lt, div-lt_iff_lt-mul}
 use native.Mathlib.Omega.{arith}
-use native.Mathlib.Numerals.{add-one}
 use lib.Dec.{eqb, ltb}
-use lib.ListN.{length, take, drop, get_or, set, replicate}
-use lib.ListN.{length-append, length-take, length-drop, length-replicate, length-set, take-append-drop, drop_of_length-le}
+use lib.ListN.{length, take, drop, get_or, set}
+use lib.ListN.{length-append, length-take, length-drop, length-replicate, length-set, take-append-drop}
 use lib.Seq.{length-take-le, take-append-le, drop-append-le, drop-append-add, set-append_left, take_at, drop_at}
-use lib.Seq.{drop-drop, take_all, get_or-take, get_or-drop, ext_get_or}
+use lib.Seq.{drop-drop, get_or-take, get_or-drop, ext_get_or}
 use borrow.Author.Tests.{ltb-true, ltb-false, eqb-true, eqb-false}
 use Rattle.basics.specs.Choice.{◌when◌else◌}
 use Rattle.basics.proofs.TestLaws.{by_cases}
@@ -229,28 +228,3 @@ pub frame-back-as : (size : ℕ) (xs ys zs : List ℕ) (f : ℕ) → ys ≡ zs �
 unfolding set_frame
 frame-back-as size xs ys zs f e h =
     came-back xs ys (f * size) (f * size + size) (omega (arith, ap length e)) ∙ ap (set_frame size xs f) e
-
--- ---- loops that go over a part
-
-copy-suc : (i : ℕ) (d s : List ℕ) → i < length d → i < length s
-    → set (take i s ++ drop i d) i (get_or s i 0) ≡ take (suc i) s ++ drop (suc i) d
-copy-suc i [] s h k = absurd (not-suc-le-zero h)
-copy-suc i (x ∷ d) [] h k = absurd (not-suc-le-zero k)
-copy-suc zero (x ∷ d) (y ∷ s) h k = refl
-copy-suc (suc i) (x ∷ d) (y ∷ s) h k = ap (λ (r : List ℕ). y ∷ r) (copy-suc i d s (le_of_suc-le-suc h) (le_of_suc-le-suc k))
-
--- a turn of the loop that copies s over d
-pub copy_more : (i : ℕ) (d s : List ℕ) → i < length d → i < length s
-    → set (take i s ++ drop i d) i (get_or s i 0) ≡ take (i + 1) s ++ drop (i + 1) d
-copy_more i d s h k = rw (add-one i) (copy-suc i d s h k)
-
--- what it leaves
-pub copy_done : (i : ℕ) (d s : List ℕ) → length d ≤ i → length s ≤ i → take i s ++ drop i d ≡ s
-copy_done i d s h k = ap₂ (λ (a b : List ℕ). a ++ b) (take_all i s k) (drop_of_length-le d h) ∙ append-nil s
-
--- what the loop leaves that clears d
-pub fill_done : (i : ℕ) (d : List ℕ) → i ≡ length d → replicate i 0 ++ drop i d ≡ zeros (length d)
-unfolding zeros
-fill_done i d e =
-    ap (λ (r : List ℕ). replicate i 0 ++ r) (drop_of_length-le d (le_of_eq (sym e)))
-    ∙ append-nil (replicate i 0) ∙ ap (λ (n : ℕ). replicate n 0) e

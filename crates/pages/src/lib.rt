@@ -1,28 +1,40 @@
 // The bytes of one page, which is a lent part of the pool, of the image or of a local array.
 // It promises what each function leaves in the part, byte for byte, and laws (proofs/) of parts and frames for any page length. A part is restored in
 // `part_restore`.
-// It stands on the shared words alone: no function here takes a page number or a frame number.
+// It stands on the shared words and on `interface` for the size of a page. Which page of several is meant is a plain number here: a frame's and an image page's
+// number are types of their own, and name the same part.
 #![tactic(auto)]
 
-ghost use Rattle.std.specs.Prelude.{◌≡◌, ◌<◌, length, get_or, set};
+ghost use Rattle.std.specs.Prelude.{◌≡◌, ◌+◌, ◌*◌, ◌≤◌, ◌<◌, length, get_or, set};
 ghost use Rattle.interface.specs.Numbers.{page_bytes};
-ghost use Rattle.pages.specs.Parts.{zeros, same_bytes};
+ghost use Rattle.pages.specs.Parts.{zeros, frame, same_bytes};
+
+use interface::PageNo;
 
 // "a page has 256 bytes"
-#[derive(Clone, Copy)]
+#[derive(Clone, Copy, Debug, PartialEq, Eq)]
 pub struct Page;
 
 impl Page {
-    pub const SIZE: usize = 256;
+    pub const SIZE: usize = PageNo::BYTES;
+}
+
+// The bytes of one of several pages in a row, where they stand.
+pub fn part_of(bytes: &[u8], number: u8) -> &[u8]
+    requires { number * page_bytes + page_bytes ≤ length bytes.now }
+    ensures part { result.now ≡ frame page_bytes bytes.now number }
+    ensures len { length result.now ≡ page_bytes }
+{
+    let start = number as usize * Page::SIZE;
+    &bytes[start..start + Page::SIZE]
 }
 
 // Every byte of the part becomes zero.
+#[tactic(auto, unfolding(crate::specs::Parts::zeros))]
 pub fn clear(part: &mut [u8])
     ensures { part.new ≡ zeros (length part.old) }
 {
-    for i in 0..part.len() {
-        part[i] = 0;
-    }
+    part.fill(0);
 }
 
 // The bytes of the part become those of `src`.
@@ -30,9 +42,7 @@ pub fn fill(part: &mut [u8], src: &[u8])
     requires { length part.old ≡ length src.now }
     ensures { part.new ≡ src.now }
 {
-    for i in 0..src.len() {
-        part[i] = src[i];
-    }
+    part.copy_from_slice(src);
 }
 
 // The bytes of a page, by value.
@@ -41,7 +51,7 @@ pub fn load(part: &[u8]) -> [u8; Page::SIZE]
     ensures { result ≡ part.now }
 {
     let mut page = [0u8; Page::SIZE];
-    fill(&mut page, part);
+    page.copy_from_slice(part);
     page
 }
 
@@ -66,9 +76,7 @@ pub fn is_same(part: &[u8], other: &[u8]) -> bool
     requires { length part.now ≡ length other.now }
     ensures { result ≡ same_bytes (length part.now) part.now other.now }
 {
-    let mut same = true;
-    for i in 0..other.len() {
-        same = same & (part[i] == other[i]);
-    }
-    same
+    part.iter()
+        .zip(other.iter())
+        .fold(true, |same, (byte, twin)| same & (*byte == *twin))
 }

@@ -22,7 +22,7 @@ pub fn restore(part: &mut [u8], src: &[u8]) -> bool
     restore_half(&mut part[half..], &src[half..])
 }
 
-// A half of it, by quarters.
+// A half of it, by quarters. (The same cut as in `restore`, written twice: one function for both, or a loop over the pieces, compiles into slower code.)
 fn restore_half(part: &mut [u8], src: &[u8]) -> bool
     requires { length part.old ≡ length src.now }
     ensures part_after { part.new ≡ src.now }

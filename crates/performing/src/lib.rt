@@ -18,7 +18,6 @@ ghost use Rattle.step.specs.Acted.{world_from, Stands, put_back};
 use decision::decide;
 use effects::store_after;
 use interface::{Answer, PageNo, Request};
-use page_decision::Verdict;
 use rules::record_after;
 use state::sandbox::Sandbox;
 use step::Acted;
@@ -45,32 +44,25 @@ pub fn act(
         → Stepped image.now (world_from row before) q
         (record { answer = answered result.answer; world = put_back q result.sandbox row after }) }
 {
-    let rec = b.rec;
     let frames = (pool.len() / PageNo::BYTES) as u8;
     let images = (image.len() / PageNo::BYTES) as u8;
-    let decision = decide(rec, frames, images, all.shares, q);
-    let verdict = decision.verdict;
-    let areas = decision.areas;
-    let held = all.held;
-    match verdict {
-        Verdict::Refused(why) => Acted {
+    match decide(b.rec, frames, images, all.shares, q) {
+        Err(why) => Acted {
             sandbox: b,
-            held: held,
-            answer: Answer::Refused(why),
+            held: all.held,
+            answer: Err(why),
         },
-        Verdict::Accepted => {
+        Ok(areas) => {
             let value = value_of(pool, table, image, b, q);
             let left = store_after(b, all, pool, table, image, q);
-            let marks = left.held;
-            let runs = left.runs;
-            let after = record_after(rec, q, areas);
+            let after = record_after(b.rec, q, areas);
             Acted {
                 sandbox: Sandbox {
                     rec: after,
-                    runs: runs,
+                    runs: left.runs,
                 },
-                held: marks,
-                answer: Answer::Value(value),
+                held: left.held,
+                answer: Ok(value),
             }
         }
     }

@@ -35,24 +35,21 @@ fn perform(rt: &HostRuntime, pool: &mut [u8], table: &mut [u16], image: &[u8]) -
         Talked image.now started pool.new table.new result }
 {
     let begun = starting::start(pool, table, image);
-    let answer = begun.answer;
-    let sound = starting::accepted(answer);
+    let sound = starting::accepted(begun.answer);
     let mut machine = begun.machine;
-    let mut number: u32 = 1;
-    while number <= Player::LAST {
-        let mut line = [0u8; Line::BYTES];
-        let mut reply = [0u8; Line::REPLY];
+    for line in 1..=Player::LAST {
         let player = Player {
-            machine: machine,
-            sound: sound,
-            line: number,
+            machine,
+            sound,
+            line,
         };
-        let progress = turn(rt, player, pool, table, image, &mut line, &mut reply);
+        let mut read = [0u8; Line::BYTES];
+        let mut reply = [0u8; Line::REPLY];
+        let progress = turn(rt, player, pool, table, image, &mut read, &mut reply);
         if !progress.more {
             return progress.written;
         }
         machine = progress.machine;
-        number += 1;
     }
     true
 }

@@ -35,8 +35,7 @@ pub fn load_frame(pool: &[u8], f: FrameNo) -> [u8; Page::SIZE]
     requires { f.0 * page_bytes + page_bytes ≤ length pool.now }
     ensures { result ≡ frame page_bytes pool.now f.0 }
 {
-    let start = f.0 as usize * Page::SIZE;
-    pages::load(&pool[start..start + Page::SIZE])
+    pages::load(pages::part_of(pool, f.0))
 }
 
 // Frame `to` gets the bytes of frame `from`, by way of a page by value: two frames of one pool are never lent at once.

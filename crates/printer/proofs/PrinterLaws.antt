@@ -42,6 +42,7 @@ line-printed out out' numbers h e =
     rw (e, z) (line-behind [] out numbers 0 refl h)
 
 -- one field, and then the others
-pub field-then : (out mid out' : List ℕ) (k n : ℕ) (more : List ℕ) → mid ≡ set_part out (k * 6) (printed_field n) → out' ≡ with_fields mid (suc k) more
-    → out' ≡ with_fields out k (n ∷ more)
-field-then out mid out' k n more e rest = rest ∙ ap (λ l. with_fields l (suc k) more) e
+pub field-then : (out mid out' : List ℕ) (k n m : ℕ) (more : List ℕ) → m ≡ n → mid ≡ set_part out (k * 6) (printed_field m)
+    → out' ≡ with_fields mid (suc k) more → out' ≡ with_fields out k (n ∷ more)
+field-then out mid out' k n m more same e rest =
+    rest ∙ ap (λ l. with_fields l (suc k) more) e ∙ ap (λ x. with_fields (set_part out (k * 6) (printed_field x)) (suc k) more) same

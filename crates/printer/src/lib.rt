@@ -28,12 +28,12 @@ pub fn print_request(out: &mut [u8], q: Request)
     requires { length out.old ≡ line_bytes }
     ensures { out.new ≡ printed_request q }
 {
-    print_at(out, Line::CODE, q.code as u32);
-    print_at(out, Line::SANDBOX, q.sandbox as u32);
-    print_at(out, Line::P1, q.p1 as u32);
-    print_at(out, Line::P2, q.p2 as u32);
-    print_at(out, Line::P3, q.p3 as u32);
-    print_at(out, Line::P4, q.p4 as u32);
-    print_at(out, Line::P5, q.p5 as u32);
+    print_at(out, Line::CODE, u32::from(q.code));
+    print_at(out, Line::SANDBOX, u32::from(q.sandbox));
+    print_at(out, Line::P1, u32::from(q.p1));
+    print_at(out, Line::P2, u32::from(q.p2));
+    print_at(out, Line::P3, u32::from(q.p3));
+    print_at(out, Line::P4, u32::from(q.p4));
+    print_at(out, Line::P5, u32::from(q.p5));
     out[Line::FEED] = b'\n';
 }

@@ -13,7 +13,7 @@ use lines::Line;
 use printer::print_request;
 
 // Where the next line goes, from 0 on, and whether lines are written or only counted.
-#[derive(Clone, Copy)]
+#[derive(Clone, Copy, Debug, PartialEq, Eq)]
 pub struct Cursor {
     pub line: u32,
     pub writes: bool,
@@ -27,7 +27,7 @@ impl Cursor {
     {
         Cursor {
             line: self.line + 1,
-            writes: self.writes,
+            ..self
         }
     }
 }

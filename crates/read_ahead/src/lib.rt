@@ -9,7 +9,7 @@ ghost use Rattle.line_numbers.specs.Numbers.{line_number_count};
 ghost use Rattle.read_ahead.specs.ReadAhead.{numbers_in};
 
 use line_numbers::{NUMBERS, put_line};
-use reader::{new, next, skip};
+use reader::Reader;
 
 // As many lines of the roll as `numbers` has room for, read from its first on by one reader that goes over the lent bytes line by line.
 pub fn read_lines(roll: &[u8], numbers: &mut [u16])
@@ -18,10 +18,9 @@ pub fn read_lines(roll: &[u8], numbers: &mut [u16])
         ≡ numbers_in roll.now lines ++ drop (lines * line_number_count) before }
 {
     let lines = numbers.len() / NUMBERS;
-    let mut reader = new(roll);
-    while reader.line < lines {
-        let line = next(reader);
-        put_line(numbers, reader.line, line);
-        reader = skip(reader);
+    let mut reader = Reader::new(roll);
+    for place in 0..lines {
+        put_line(numbers, place, reader.next());
+        reader = reader.skip();
     }
 }

@@ -16,27 +16,29 @@ pub struct Reader<'a> {
     pub line: usize,
 }
 
-// A reader before the first line.
-pub fn new<'a>(src: &'a [u8]) -> Reader<'a>
-    ensures { (result.src ≡ src.entry) × (result.line ≡ 0) }
-{
-    Reader { src, line: 0 }
-}
+impl<'a> Reader<'a> {
+    // A reader before the first line.
+    pub fn new(src: &'a [u8]) -> Reader<'a>
+        ensures { (result.src ≡ src.entry) × (result.line ≡ 0) }
+    {
+        Reader { src, line: 0 }
+    }
 
-// What the line says before which the reader stands.
-pub fn next<'a>(reader: Reader<'a>) -> Line
-    ensures { result ≡ line_at reader.entry.src.now reader.entry.line }
-{
-    line_at(reader.src, reader.line)
-}
+    // What the line says before which the reader stands.
+    pub fn next(self) -> Line
+        ensures { result ≡ line_at self.entry.src.now self.entry.line }
+    {
+        line_at(self.src, self.line)
+    }
 
-// The reader, moved on by a line: "the next 43 bytes follow".
-pub fn skip<'a>(reader: Reader<'a>) -> Reader<'a>
-    requires { reader.line + 1 < 2 ^ 64 }
-    ensures { (result.src ≡ reader.entry.src) × (result.line ≡ reader.entry.line + 1) }
-{
-    Reader {
-        src: reader.src,
-        line: reader.line + 1,
+    // The reader, moved on by a line: "the next 43 bytes follow".
+    pub fn skip(self) -> Reader<'a>
+        requires { self.line + 1 < 2 ^ 64 }
+        ensures { (result.src ≡ self.entry.src) × (result.line ≡ self.entry.line + 1) }
+    {
+        Reader {
+            line: self.line + 1,
+            ..self
+        }
     }
 }

@@ -4,7 +4,6 @@ ghost use Rattle.interface.specs.Numbers.{page_bytes};
 ghost use Rattle.table.specs.Backing.{backing_page, backing_end};
 
 use interface::Backing;
-use pages::Page;
 
 // One of the backing's bytes.
 pub(crate) fn read_byte(image: &[u8], backing: Backing, offset: u8) -> u8
@@ -13,10 +12,6 @@ pub(crate) fn read_byte(image: &[u8], backing: Backing, offset: u8) -> u8
 {
     match backing {
         Backing::Anonymous => 0,
-        Backing::Image(page) => {
-            let start = page.0 as usize * Page::SIZE;
-            let end = start + Page::SIZE;
-            pages::read(&image[start..end], offset as usize)
-        }
+        Backing::Image(page) => pages::read(pages::part_of(image, page.0), offset as usize),
     }
 }

@@ -16,15 +16,13 @@ pub fn read_byte(pool: &[u8], table: &[u16], image: &[u8], page: VirtualPage, of
     ensures { (h : Words) → let before = kept h pool.now table.now in
         result ≡ get_or (bytes_read image.now before page) offset 0 }
 {
-    let number = page.number;
-    let slot = page.slot;
-    let front = front(table, page.sandbox, number);
+    let front = front(table, page.sandbox, page.number);
     if front != 0 {
         return frame_bytes::read_byte(pool, frame_of(front), offset);
     }
-    let under = back_if(table, page.sandbox, number, is_committed(slot));
+    let under = back_if(table, page.sandbox, page.number, is_committed(page.slot));
     if under != 0 {
         return frame_bytes::read_byte(pool, frame_of(under), offset);
     }
-    crate::backing::read_byte(image, backing_at(slot), offset)
+    crate::backing::read_byte(image, backing_at(page.slot), offset)
 }

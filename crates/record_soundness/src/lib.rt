@@ -16,12 +16,10 @@ pub fn record_ok(rec: Record, images: u8) -> bool
     requires { images ≤ most_image_pages }
     ensures { result ≡ record_ok images rec }
 {
-    let present = rec.present;
-    if !well_formed(present, images) {
+    if !well_formed(rec.present, images) {
         return false;
     }
-    let snapshot = rec.snapshot;
-    if !well_formed(snapshot, images) {
+    if !well_formed(rec.snapshot, images) {
         return false;
     }
     if rec.share < rec.charge() {
@@ -31,11 +29,13 @@ pub fn record_ok(rec: Record, images: u8) -> bool
         rec.opened,
         rec.share,
         rec.taken,
-        present.count,
-        snapshot.count,
+        rec.present.count,
+        rec.snapshot.count,
     )
 }
 
+// An open sandbox has a share; one without a snapshot has no area of it; a closed one has nothing. `!!` is to the letter what the definition has.
+#[tactic(auto, unfolding(crate::specs::Test::fields_ok))]
 fn fields_ok(opened: bool, share: u8, taken: bool, present: u8, snapshot: u8) -> bool
     ensures { result ≡ fields_ok opened share taken present snapshot }
 {

@@ -16,7 +16,7 @@ use areas::area::Areas;
 use interface::Request;
 
 // What is kept for a sandbox: whether it is open, its share, its areas, whether a snapshot was taken, and the snapshot's areas.
-#[derive(Clone, Copy)]
+#[derive(Clone, Copy, Debug, PartialEq, Eq)]
 pub struct Record {
     pub opened: bool,
     pub share: u8,
@@ -36,14 +36,12 @@ impl Record {
     pub fn closed() -> Record
         ensures { result ≡ closed_record }
     {
-        let present = Areas::empty();
-        let snapshot = Areas::empty();
         Record {
             opened: false,
             share: 0,
-            present: present,
+            present: Areas::empty(),
             taken: false,
-            snapshot: snapshot,
+            snapshot: Areas::empty(),
         }
     }
 
@@ -51,41 +49,31 @@ impl Record {
     pub fn with_opened(self, opened: bool) -> Record
         ensures { result ≡ with_opened opened self }
     {
-        let mut b = self;
-        b.opened = opened;
-        b
+        Record { opened, ..self }
     }
 
     pub fn with_share(self, share: u8) -> Record
         ensures { result ≡ with_share share self }
     {
-        let mut b = self;
-        b.share = share;
-        b
+        Record { share, ..self }
     }
 
     pub fn with_present(self, present: Areas) -> Record
         ensures { result ≡ with_present present self }
     {
-        let mut b = self;
-        b.present = present;
-        b
+        Record { present, ..self }
     }
 
     pub fn with_taken(self, taken: bool) -> Record
         ensures { result ≡ with_taken taken self }
     {
-        let mut b = self;
-        b.taken = taken;
-        b
+        Record { taken, ..self }
     }
 
     pub fn with_snapshot(self, snapshot: Areas) -> Record
         ensures { result ≡ with_snapshot snapshot self }
     {
-        let mut b = self;
-        b.snapshot = snapshot;
-        b
+        Record { snapshot, ..self }
     }
 
     // The charge: "its mapped pages before a snapshot. Afterwards it is 2 × the snapshot's pages, mapped or not, plus the uncommitted mapped pages."
@@ -94,11 +82,9 @@ impl Record {
         requires formed_2 { Formed self.snapshot }
         ensures { result ≡ charge_of (slots self.present) (copy_of self) }
     {
-        let present = self.present;
-        let snapshot = self.snapshot;
         if !self.taken {
-            return mapped_pages(present);
+            return mapped_pages(self.present);
         }
-        Record::FRAMES_A_COPY * mapped_pages(snapshot) + uncommitted_pages(present)
+        Record::FRAMES_A_COPY * mapped_pages(self.snapshot) + uncommitted_pages(self.present)
     }
 }

@@ -24,8 +24,8 @@ pub fn repack(areas: Areas, first: PageNo, n: u8, change: Change) -> Packed
     requires change_bound { change_start change ≤ page_count }
     ensures { result ≡ pack (changed (slots areas) first.0 n change) }
 {
-    let from = within(first.0 as usize);
-    let to = within(first.0 as usize + n as usize);
+    let from = within(usize::from(first.0));
+    let to = within(usize::from(first.0) + usize::from(n));
     let before = up_to(areas, from);
     let changed = with_change(before, areas, from, to, change);
     with_parts(changed, areas, to, Areas::PAGES, Update::Keep)
@@ -38,16 +38,15 @@ fn up_to(areas: Areas, to: u8) -> Packed
     ensures { result ≡ pack_on start (λ i. updated Keep (slots areas i)) 0 to }
 {
     let mut kept = Areas::empty();
-    for k in 0..areas.count {
-        let area = areas.list[k as usize];
+    for area in areas.as_slice() {
         if to <= area.first.0 {
             return Packed {
                 areas: kept,
                 fits: true,
             };
         }
-        kept.list[k as usize] = part(area, 0, to);
-        kept.count = k + 1;
+        kept.list[usize::from(kept.count)] = part(*area, 0, to);
+        kept.count += 1;
     }
     Packed {
         areas: kept,
@@ -80,11 +79,10 @@ fn with_parts(before: Packed, areas: Areas, from: u8, to: u8, update: Update) ->
     ensures { result ≡ pack_on before (λ i. updated update (slots areas i)) from (to - from) }
 {
     let mut packed = before;
-    for k in 0..areas.count {
-        let area = areas.list[k as usize];
+    for area in areas.as_slice() {
         // What is packed is copied only where there is something to add.
-        if reaches(area, from, to) {
-            packed = packed.with_area(update.area(part(area, from, to)));
+        if reaches(*area, from, to) {
+            packed = packed.with_area(update.area(part(*area, from, to)));
         }
     }
     packed

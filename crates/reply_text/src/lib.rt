@@ -34,7 +34,7 @@ fn print(out: &mut [u8], line: u32, answer: Answer)
     print_reply(
         out,
         line,
-        codes::number(answer) as u32,
+        u32::from(codes::number(answer)),
         codes::value(answer),
     )
 }

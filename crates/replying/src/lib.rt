@@ -12,9 +12,9 @@ ghost use Rattle.line_numbers.specs.Numbers.{line_number_count};
 ghost use Rattle.roll.specs.Known.{Known};
 ghost use Rattle.replying.specs.Playing.{played_by, RepliedTo};
 
-use asking::{Asked, ask};
+use asking::ask;
 use frames::Held;
-use interface::{Answer, Request};
+use interface::Request;
 use line_numbers::{NUMBERS, line_in};
 use performing::act;
 use reply_text::print_answer;
@@ -65,11 +65,11 @@ pub fn reply_lines<'a, 'b>(
         playing.answered = at + 1;
         let asked = ask(playing.sound, line);
         match asked {
-            Asked::Refused(why) => {
-                print_answer(out, at, number, Answer::Refused(why));
+            Err(why) => {
+                print_answer(out, at, number, Err(why));
                 continue;
             }
-            Asked::Call(q) => {
+            Ok(q) => {
                 let k = q.sandbox as usize;
                 let b = playing.sandboxes[k];
                 let held = playing.held;
@@ -85,9 +85,7 @@ pub fn reply_lines<'a, 'b>(
                     continue;
                 }
                 // what leaves every sandbox
-                let tried = in_place::answer(b, pool, table, image, q);
-                if tried.done {
-                    let answer = tried.answer;
+                if let Some(answer) = in_place::answer(b, pool, table, image, q) {
                     print_answer(out, at, number, answer);
                     continue;
                 }
@@ -99,12 +97,9 @@ pub fn reply_lines<'a, 'b>(
                     let rec = b.rec;
                     let runs = left.runs;
                     let marks = left.held;
-                    playing.sandboxes[k] = Sandbox {
-                        rec: rec,
-                        runs: runs,
-                    };
+                    playing.sandboxes[k] = Sandbox { rec, runs };
                     playing.held = marks;
-                    print_answer(out, at, number, Answer::Value(0));
+                    print_answer(out, at, number, Ok(0));
                     continue;
                 }
                 let acted = act(b, all, pool, table, image, q);

@@ -8,6 +8,7 @@ use native.Mathlib.Nat.{add-zero, add-suc}
 use native.Mathlib.Numerals.{add-one}
 use native.Mathlib.Omega.{arith}
 use lib.ListN.{length}
+use Rattle.std.specs.Int.{from_bool}
 use Rattle.basics.specs.Ranges.{one, count}
 use Rattle.basics.proofs.TestLaws.{by_cases}
 use Rattle.interface.specs.declared.page.Backing.{Backing}
@@ -19,6 +20,11 @@ use Rattle.rewound_store.proofs.RunLaws.{rewind_to-join, rewind_to-same, rewind_
 use Rattle.page_restore.specs.Differs.{page_differs}
 use Rattle.page_restore.proofs.CaseLaws.{none-differs}
 use Rattle.restoring.specs.Changed.{changed_to}
+
+-- 1 for true, as the code has it
+pub byte-one : (b : Bool) → from_bool b ≡ one b
+byte-one true = refl
+byte-one false = refl
 
 pub one-small : (b : Bool) → one b ≤ 1
 one-small true = omega arith

@@ -7,7 +7,6 @@
 
 ghost use Rattle.std.specs.Prelude.{◌≡◌, ℕ, ◌+◌, ◌≤◌, ◌<◌, ltb, length, get_or};
 ghost use Rattle.basics.specs.Choice.{◌when◌else◌};
-ghost use Rattle.basics.specs.Ranges.{one};
 ghost use Rattle.interface.specs.Numbers.{page_bytes, page_count, table_entries};
 ghost use Rattle.frames.specs.declared.Held.{Held as Words};
 ghost use Rattle.table.specs.Store.{kept, Ranged};
@@ -35,6 +34,7 @@ pub fn restore_pages(
     ensures { (h : Words) → let before = kept h pool.old table.now in
         RestoredTo image.now backing at before (kept h pool.new table.now) result pages }
 {
+    // No `for`: how far a turn goes on is found in the table.
     let mut changed: u8 = 0;
     let mut i = next_front(table, at, 0, pages);
     while i < pages {
@@ -50,10 +50,7 @@ pub fn restore_pages(
 fn group_of(left: u8) -> u8
     ensures { result ≡ (left when ltb left 8 else 8) }
 {
-    if left < GROUP {
-        return left;
-    }
-    GROUP
+    left.min(GROUP)
 }
 
 // From one page on, the page at which eight entries are not all empty; the end where there is none. So a rewind works in proportion to the fronts there are: of
@@ -66,12 +63,13 @@ fn next_front(table: &[u16], at: usize, from: u8, pages: u8) -> u8
     ensures lower_bound { (from ≤ result) × (result ≤ pages) }
     ensures empty { (i : ℕ) → from ≤ i → i < result → get_or table.now (at + i) 0 ≡ 0 }
 {
+    // No `for`: one over `step_by` is not proved to end.
     let mut i = from;
     while i < pages {
         if !are_empty(table, at + i as usize) {
             return i;
         }
-        i = i + GROUP;
+        i += GROUP;
     }
     pages
 }
@@ -95,17 +93,7 @@ fn restore_each(
     let mut changed: u8 = 0;
     for i in 0..pages {
         let differed = restore_page(pool, table, image, at + i as usize, advanced(backing, i));
-        changed = changed + counted(differed);
+        changed = changed + u8::from(differed);
     }
     changed
-}
-
-// One page more, where it differed.
-fn counted(differed: bool) -> u8
-    ensures { result ≡ one differed }
-{
-    if differed {
-        return 1;
-    }
-    0
 }

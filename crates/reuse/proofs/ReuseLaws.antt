@@ -14,6 +14,10 @@ use Rattle.frames.proofs.PairLaws.{held_both, least-found}
 use Rattle.runs.specs.declared.Runs.{Runs}
 use Rattle.runs.specs.Row.{row, lengths_of, with_run_at}
 use Rattle.kept.specs.Spare.{kept_by}
+use Rattle.std.specs.Prelude.{Option, Some, None, unwrap_or}
+use Rattle.frames.specs.declared.FrameNo.{FrameNo}
+use Rattle.free_frames.specs.Greatest.{greatest}
+use Rattle.free_frames.proofs.GreatestLaws.{greatest-found, greatest-all}
 use Rattle.reuse.specs.Reuse.{GaveUp}
 
 -- ---- a frame is given up
@@ -56,8 +60,25 @@ module _ (share used most : ℕ) (runs : Runs) (all : most ≡ sum (lengths_of r
 
 -- ---- a frame that is not held
 
-pub both-free : (named kept : Held) (f : ℕ) → f < 128 → held (both_held named kept) f ≡ 0 → (held named f ≡ 0) × (held kept f ≡ 0)
+both-free : (named kept : Held) (f : ℕ) → f < 128 → held (both_held named kept) f ≡ 0 → (held named f ≡ 0) × (held kept f ≡ 0)
 both-free named kept f l e = let m = held_both named kept f l in (omega (arith, m, e), omega (arith, m, e))
 
-pub free-both : (named kept : Held) (f : ℕ) → f < 128 → held named f ≡ 0 → held kept f ≡ 0 → held (both_held named kept) f ≡ 0
+free-both : (named kept : Held) (f : ℕ) → f < 128 → held named f ≡ 0 → held kept f ≡ 0 → held (both_held named kept) f ≡ 0
 free-both named kept f l a b = held_both named kept f l ∙ rw (a, b)
+
+-- one of the pool that neither marks
+pub record Unheld (named kept : Held) (n : ℕ) (f : FrameNo) : Type 0 where
+  pub within : f.0 < n
+  pub unnamed : held named f.0 ≡ 0
+  pub unkept : held kept f.0 ≡ 0
+
+-- the greatest is one; that none is found is impossible, since there is one
+pub unheld-found : (named kept both : Held) (n : ℕ) (found : Option FrameNo) (other : FrameNo) → n ≤ 128 → both ≡ both_held named kept
+    → found ≡ greatest (held both) n → (f : ℕ) × ((f < n) × ((held named f ≡ 0) × (held kept f ≡ 0))) → Unheld named kept n (unwrap_or found other)
+unheld-found named kept both n (Some f) other few b e there =
+    let g = greatest-found (held both) n f (sym e) in
+    let two = both-free named kept f.0 (omega (arith, g.within)) (ap (λ (h : Held). held h f.0) (sym b) ∙ g.free) in
+    record { within = g.within; unnamed = two.0; unkept = two.1 }
+unheld-found named kept both n None other few b e there =
+    absurd (greatest-all (held both) n (sym e) there.0 there.1.0
+    (ap (λ (h : Held). held h there.0) b ∙ free-both named kept there.0 (omega (arith, there.1.0)) there.1.1.0 there.1.1.1))

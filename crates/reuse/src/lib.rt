@@ -14,12 +14,12 @@ ghost use Rattle.kept.specs.Spare.{kept_by};
 ghost use Rattle.reuse.specs.Reuse.{GaveUp};
 
 use frames::{FrameNo, Held};
-use free_frames::{Free, greatest_free};
+use free_frames::greatest_free;
 use run_search::longest;
 use runs::Runs;
 
 // The runs, and the marks of all kept frames, once a frame was given up where it must be.
-#[derive(Clone, Copy)]
+#[derive(Clone, Copy, Debug, PartialEq, Eq)]
 pub struct Given {
     pub runs: Runs,
     pub kept: Held,
@@ -35,17 +35,8 @@ pub fn give_up(table: &[u16], runs: Runs, kept: Held, share: u8, sandbox: u8) ->
         GaveUp (ltb share (named + kept_by (row runs) + 1)) runs kept result }
 {
     let most = runs.kept();
-    if most == 0 {
-        return Given {
-            runs: runs,
-            kept: kept,
-        };
-    }
-    if marks::used(table, sandbox) + most < share as u16 {
-        return Given {
-            runs: runs,
-            kept: kept,
-        };
+    if most == 0 || marks::used(table, sandbox) + most < u16::from(share) {
+        return Given { runs, kept };
     }
     let place = longest(runs);
     let run = runs.at(place);
@@ -64,10 +55,5 @@ pub fn unheld_frame(named: Held, kept: Held, frames: u8) -> FrameNo
     ensures unnamed { held named result.0 ≡ 0 }
     ensures unkept { held kept result.0 ≡ 0 }
 {
-    let both = named.both(kept);
-    let found = greatest_free(both, frames);
-    match found {
-        Free::Frame(f) => f,
-        Free::None => FrameNo(0),
-    }
+    greatest_free(named.both(kept), frames).unwrap_or(FrameNo(0))
 }

@@ -19,7 +19,6 @@ use few_rows::unpaged::decide;
 use frames::Held;
 use gathering::gathered;
 use interface::{Answer, PageNo, Request};
-use page_decision::Verdict;
 use rewinding::rewind;
 use state::sandbox::Sandbox;
 use step::Acted;
@@ -46,29 +45,24 @@ pub fn rewind_sandbox(
 {
     let rec = b.rec;
     let images = (image.len() / PageNo::BYTES) as u8;
-    let verdict = decide(rec, images, q);
-    match verdict {
-        Verdict::Refused(why) => Acted {
+    match decide(rec, images, q) {
+        Err(why) => Acted {
             sandbox: b,
-            held: held,
-            answer: Answer::Refused(why),
+            held,
+            answer: Err(why),
         },
-        Verdict::Accepted => {
+        Ok(()) => {
             let s = q.sandbox as u8;
-            let snapshot = rec.snapshot;
-            let runs = b.runs;
-            let left = gathered(table, rec.present, runs, s);
+            let left = gathered(table, rec.present, b.runs, s);
             let restored = rewind(held, pool, table, image, rec, s);
-            let marks = restored.held;
-            let changed = restored.changed;
-            let after = rec.with_present(snapshot);
+            let after = rec.with_present(rec.snapshot);
             Acted {
                 sandbox: Sandbox {
                     rec: after,
                     runs: left,
                 },
-                held: marks,
-                answer: Answer::Value(changed as u32),
+                held: restored.held,
+                answer: Ok(u32::from(restored.changed)),
             }
         }
     }

@@ -9,7 +9,7 @@
 use interface::ImagePageNo;
 
 // The cases in the paper's order. Its "original PTE" is the front entry of the page, its "buddy PTE" the back entry.
-#[derive(Clone, Copy)]
+#[derive(Clone, Copy, Debug, PartialEq, Eq)]
 pub enum RewindCase {
     // "a page shared with the original PTE": not written since the snapshot, so it has no front.
     Shared,

@@ -41,7 +41,7 @@ pub fn rewind(
     let present = b.present;
     let count = present.count as usize;
     let mut done = Rewound {
-        held: held,
+        held,
         page: PageNo(0),
         changed: 0,
     };
@@ -53,6 +53,6 @@ pub fn rewind(
     let marks = free_before(done, pool, table, s, Areas::PAGES);
     Restored {
         held: marks,
-        changed: changed,
+        changed,
     }
 }

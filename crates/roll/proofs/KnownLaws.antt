@@ -8,7 +8,7 @@ use lib.ListN.{length}
 use borrow.Author.Tests.{eqb-true}
 use Rattle.basics.proofs.TestLaws.{by_cases, never}
 use Rattle.interface.specs.declared.request.Request.{Request}
-use Rattle.interface.specs.declared.answer.Answer.{Answer}
+use Rattle.interface.specs.Answers.{Answer}
 use Rattle.interface.specs.Answers.{Answered, number_of}
 use Rattle.interface.specs.Numbers.{pages_in}
 use Rattle.lines.specs.declared.Line.{Line}

@@ -15,8 +15,8 @@ use Rattle.interface.specs.declared.answer.Refusal.{Refusal}
 use Rattle.interface.specs.declared.answer.Refusal.TheVariants.{Malformed, NoSuchCall, Unsound, NotOpen, AlreadyOpen, OutsideLimits, SnapshotTaken}
 use Rattle.interface.specs.declared.answer.Refusal.TheVariants.{NoSnapshot, NotMapped, AlreadyMapped, NoGap, NotWritable, ShareExceeded, TooManyAreas}
 use Rattle.interface.specs.declared.answer.Refusal.TheVariants.{OutputTooShort}
-use Rattle.interface.specs.declared.answer.Answer.{Answer}
-use Rattle.interface.specs.declared.answer.Answer.TheVariants.{Value, Refused}
+use Rattle.interface.specs.Answers.{Answer}
+use Rattle.std.specs.Prelude.{Ok, Err}
 use Rattle.interface.specs.declared.page.Backing.{Backing}
 use Rattle.interface.specs.declared.page.Backing.TheVariants.{Anonymous, Image}
 use Rattle.interface.specs.Requests.{◌is◌, is_call, map_code, read_code, snapshot_code, rewind_code, report_code, compare_code, page_of, offset_of}
@@ -160,8 +160,8 @@ refusal-small TooManyAreas = omega arith
 refusal-small OutputTooShort = omega arith
 
 number_small : (a : Answer) → number_of a ≤ 15
-number_small (Value v) = omega arith
-number_small (Refused r) = refusal-small r
+number_small (Ok v) = omega arith
+number_small (Err r) = refusal-small r
 
 -- so a reply line has room for its numbers
 pub fits_line : (line : ℕ) (a : Answer) → line ≤ 999999 → value_of a ≤ 65535 → FitsLine line (answered a)

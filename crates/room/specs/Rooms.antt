@@ -1,9 +1,8 @@
--- Whether so many bytes of output are enough for the replies to a roll of so many bytes, and how many of its lines are answered.
-use Rattle.std.specs.Prelude.{not, ℕ, ◌*◌, ltb}
+-- Whether so many bytes of output are enough for the replies to a roll of so many bytes, and how many of its lines are then answered.
+use Rattle.std.specs.Prelude.{ℕ, ◌*◌, ltb, Option, Some, None}
 use Rattle.basics.specs.Choice.{◌when◌else◌}
 use Rattle.lines.specs.Lines.{lines_of}
-use Rattle.room.specs.declared.Room.{Room}
 
 -- each reply has 19 bytes; all lines are answered, or none
-abbrev pub room_for : ℕ → ℕ → Room
-room_for roll out = record { fits = not (ltb out (lines_of roll * 19)); lines = 0 when ltb out (lines_of roll * 19) else lines_of roll }
+abbrev pub room_for : ℕ → ℕ → Option ℕ
+room_for roll out = None when ltb out (lines_of roll * 19) else Some (lines_of roll)

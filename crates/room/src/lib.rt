@@ -7,26 +7,14 @@ ghost use Rattle.room.specs.Rooms.{room_for};
 
 use lines::{Line, lines_of};
 
-// Whether every reply fits, and how many lines are answered.
-#[derive(Clone, Copy)]
-pub struct Room {
-    pub fits: bool,
-    pub lines: usize,
-}
-
-// The room that so many bytes of output are for a roll of so many bytes.
-pub fn room_for(roll: usize, out: usize) -> Room
+// The lines of a roll of so many bytes, where so many bytes of output have room for the reply to each of them.
+#[tactic(auto, unfolding(lines::specs::Lines::lines_of))]
+pub fn room_for(roll: usize, out: usize) -> Option<usize>
     ensures { result ≡ room_for roll out }
 {
     let lines = lines_of(roll);
     if out < lines * Line::REPLY {
-        return Room {
-            fits: false,
-            lines: 0,
-        };
+        return None;
     }
-    Room {
-        fits: true,
-        lines: lines,
-    }
+    Some(lines)
 }

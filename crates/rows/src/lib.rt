@@ -47,5 +47,5 @@ pub fn page_of(q: Request) -> PageNo
     requires { q.p1 < address_count }
     ensures { result.0 ≡ page_of q }
 {
-    PageNo((q.p1 as usize / PageNo::BYTES) as u8)
+    PageNo((usize::from(q.p1) / PageNo::BYTES) as u8)
 }

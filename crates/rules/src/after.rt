@@ -20,24 +20,24 @@ pub fn packed_after(b: Record, q: Request) -> Packed
     requires fit { Fit q }
     ensures { result ≡ packed_after q b }
 {
-    let code = q.code;
-    let present = b.present;
-    match code {
+    match q.code {
         Request::MAP => {
-            let first = first_of(present, q);
-            repack(present, PageNo(first), q.p2 as u8, Change::Map(new_page(q)))
+            let first = first_of(b.present, q);
+            repack(
+                b.present,
+                PageNo(first),
+                q.p2 as u8,
+                Change::Map(new_page(q)),
+            )
         }
-        Request::UNMAP => repack(present, PageNo(q.p1 as u8), q.p2 as u8, Change::Unmap),
+        Request::UNMAP => repack(b.present, PageNo(q.p1 as u8), q.p2 as u8, Change::Unmap),
         Request::PROTECT => {
             let change = Change::Protect(q.p3 as u8);
-            repack(present, PageNo(q.p1 as u8), q.p2 as u8, change)
+            repack(b.present, PageNo(q.p1 as u8), q.p2 as u8, change)
         }
-        Request::SNAPSHOT => repack(present, PageNo(0), Areas::PAGES, Change::Commit),
-        Request::REWIND => {
-            let snapshot = b.snapshot;
-            whole(snapshot)
-        }
-        _ => whole(present),
+        Request::SNAPSHOT => repack(b.present, PageNo(0), Areas::PAGES, Change::Commit),
+        Request::REWIND => whole(b.snapshot),
+        _ => whole(b.present),
     }
 }
 
@@ -45,13 +45,11 @@ pub fn packed_after(b: Record, q: Request) -> Packed
 fn whole(areas: Areas) -> Packed
     ensures { result ≡ record { areas = areas; fits = true } }
 {
-    Packed {
-        areas: areas,
-        fits: true,
-    }
+    Packed { areas, fits: true }
 }
 
 // The first page of a map.
+#[tactic(auto, unfolding(interface::specs::Outcome::first_of))]
 pub fn first_of(present: Areas, q: Request) -> u8
     requires formed { Formed present }
     requires code_value { q.code ≡ map_code }
@@ -70,11 +68,10 @@ fn new_page(q: Request) -> Attributes
     requires fit { Fit q }
     ensures { result ≡ new_page q }
 {
-    let backing = backing_of(q);
     Attributes {
         rights: q.p5 as u8,
         committed: false,
-        backing: backing,
+        backing: backing_of(q),
     }
 }
 
@@ -94,16 +91,14 @@ pub fn record_after(b: Record, q: Request, present: Areas) -> Record
     requires { Fit q }
     ensures { result ≡ record_with q present b }
 {
-    let snapshot = snapshot_after(q, present, b.snapshot);
-    let taken = taken_after(q, b.taken);
-    let share = share_after(q, b.share);
-    let copied = b.with_snapshot(snapshot);
-    let marked = copied.with_taken(taken);
-    let mapped = marked.with_present(present);
-    let shared = mapped.with_share(share);
-    shared.with_opened(true)
+    b.with_snapshot(snapshot_after(q, present, b.snapshot))
+        .with_taken(taken_after(q, b.taken))
+        .with_present(present)
+        .with_share(share_after(q, b.share))
+        .with_opened(true)
 }
 
+#[tactic(auto, unfolding(crate::specs::After::snapshot_after))]
 fn snapshot_after(q: Request, present: Areas, snapshot: Areas) -> Areas
     ensures { result ≡ snapshot_after q present snapshot }
 {
@@ -113,6 +108,7 @@ fn snapshot_after(q: Request, present: Areas, snapshot: Areas) -> Areas
     snapshot
 }
 
+#[tactic(auto, unfolding(crate::specs::After::taken_after))]
 fn taken_after(q: Request, taken: bool) -> bool
     ensures { result ≡ taken_after q taken }
 {

@@ -23,21 +23,20 @@ pub fn push(runs: Runs, run: Held) -> Runs
     if runs.is_empty(Runs::LAST) {
         return runs.with(Runs::LAST, run);
     }
-    let c = shortest(runs);
-    if frames <= runs.length(c) {
+    let place = shortest(runs);
+    if frames <= runs.length(place) {
         return runs;
     }
-    moved_up(runs, c, run)
+    moved_up(runs, place, run)
 }
 
 // The runs after a place move up by one, and this one comes last.
-fn moved_up(runs: Runs, place: u8, run: Held) -> Runs
+fn moved_up(mut runs: Runs, place: u8, run: Held) -> Runs
     requires { place < 8 }
     ensures { result ≡ moved_runs place run runs }
 {
-    let mut r = runs;
     for i in place..Runs::LAST {
-        r = r.with(i, r.at(i + 1));
+        runs = runs.with(i, runs.at(i + 1));
     }
-    r.with(Runs::LAST, run)
+    runs.with(Runs::LAST, run)
 }

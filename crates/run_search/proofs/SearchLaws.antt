@@ -2,29 +2,28 @@
 use Prim.Native.Nat.{ℕ, ◌+◌, ◌<◌}
 use native.Mathlib.Numerals.{add-one}
 use mathlib.Core.Path.{◌≡◌, refl}
-use mathlib.Core.Bool.{Bool}
+use mathlib.Core.Bool.{Bool, true, false}
 use native.Mathlib.Omega.{arith}
 use Rattle.basics.specs.Rows.{best}
-use Rattle.basics.proofs.TestLaws.{by_cases}
-use Rattle.run_search.specs.declared.Choice.{Choice}
-use Rattle.run_search.specs.Search.{or_better}
 
 -- of the first i places, the best with its length is found
-pub record BestOf (better : ℕ → ℕ → Bool) (l : ℕ → ℕ) (i : ℕ) (found : Choice) : Type 0 where
-  pub low : found.place < 8
-  pub place : found.place ≡ best better l i
-  pub length : found.length ≡ l found.place
+pub record BestOf (better : ℕ → ℕ → Bool) (l : ℕ → ℕ) (i place length : ℕ) : Type 0 where
+  pub best : place ≡ best better l i
+  pub its : length ≡ l place
 
 module _ (better : ℕ → ℕ → Bool) (l : ℕ → ℕ) where
-  pub best-first : (n : ℕ) → n ≡ l 0 → BestOf better l 0 (record { place = 0; length = n })
+  pub best-first : (n : ℕ) → n ≡ l 0 → BestOf better l 0 0 n
   unfolding best
-  best-first n e = record { low = omega arith; place = refl; length = e }
+  best-first n e = record { best = refl; its = e }
 
-  pub best-more : (i n : ℕ) (found next : Choice) → i < 8 → n ≡ l i → BestOf better l i found → next ≡ or_better better i n found
-      → BestOf better l (i + 1) next
+  pub best-taken : (i n place length : ℕ) → n ≡ l i → BestOf better l i place length → better n length ≡ true → BestOf better l (i + 1) i n
   unfolding best
-  best-more i n found next low e b d =
-      let same : better (l i) (l (best better l i)) ≡ better n found.length = rw (e, b.length, b.place) in
-      by_cases (better n found.length)
-      (λ t. rw (d, t) (record { low = low; place = rw (add-one i, same, t); length = e }))
-      (λ t. rw (d, t) (record { low = b.low; place = rw (add-one i, same, t) b.place; length = b.length }))
+  best-taken i n place length e b t =
+      let same : better (l i) (l (best better l i)) ≡ better n length = rw (e, b.its, b.best) in
+      record { best = rw (add-one i, same, t); its = e }
+
+  pub best-stays : (i n place length : ℕ) → n ≡ l i → BestOf better l i place length → better n length ≡ false → BestOf better l (i + 1) place length
+  unfolding best
+  best-stays i n place length e b t =
+      let same : better (l i) (l (best better l i)) ≡ better n length = rw (e, b.its, b.best) in
+      record { best = rw (add-one i, same, t) b.best; its = b.its }

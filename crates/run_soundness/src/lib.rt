@@ -34,14 +34,13 @@ pub fn spare_ok(
         result ≡ spareb frames (store_of held pool.now table) rows) }
 {
     let found = kept_marks(sandboxes);
-    let kept = found.held;
     if !found.good {
         return false;
     }
-    if !held.apart(kept) {
+    if !held.apart(found.held) {
         return false;
     }
-    kept_soundness::frames_ok(kept, pool, frames)
+    kept_soundness::frames_ok(found.held, pool, frames)
 }
 
 // Whether the runs of a sandbox are within its share with its fronts and backs, which alone are; and a closed one keeps none.
@@ -59,5 +58,5 @@ pub fn runs_ok(runs: Runs, table: &[u16], s: u8, opened: bool, share: u8) -> boo
     if !opened {
         return false;
     }
-    marks::used(table, s) + runs.kept() <= share as u16
+    marks::used(table, s) + runs.kept() <= u16::from(share)
 }

@@ -13,7 +13,7 @@ ghost use Rattle.runs.specs.Row.{row, lengths_of, no_runs, with_run_at};
 use frames::Held;
 
 // "At most 8 runs are kept": the oldest first. A place without a frame is no run, and may stand anywhere.
-#[derive(Clone, Copy)]
+#[derive(Clone, Copy, Debug, PartialEq, Eq)]
 pub struct Runs {
     pub list: [Held; Runs::PLACES],
 }
@@ -30,9 +30,8 @@ impl Runs {
     pub fn none() -> Runs
         ensures { result ≡ no_runs }
     {
-        let held = Held::none();
         Runs {
-            list: [held; Runs::PLACES],
+            list: [Held::none(); Runs::PLACES],
         }
     }
 
@@ -41,19 +40,16 @@ impl Runs {
         requires { place < 8 }
         ensures { result ≡ row self place }
     {
-        let k = place as usize;
-        self.list[k]
+        self.list[usize::from(place)]
     }
 
     // The same runs, but for one place.
-    pub fn with(self, place: u8, run: Held) -> Runs
+    pub fn with(mut self, place: u8, run: Held) -> Runs
         requires { place < 8 }
         ensures { result ≡ with_run_at place run self }
     {
-        let mut r = self;
-        let k = place as usize;
-        r.list[k] = run;
-        r
+        self.list[usize::from(place)] = run;
+        self
     }
 
     // How many frames are kept; most places have none.
@@ -61,10 +57,9 @@ impl Runs {
         ensures value { result ≡ sum (lengths_of self) 8 }
         ensures small { result ≤ 1024 }
     {
-        let mut n: u16 = 0;
-        for k in 0..Runs::PLACES {
-            let run = self.list[k];
-            n = n + frames_in(run) as u16;
+        let mut n = 0;
+        for run in self.list {
+            n += u16::from(frames_in(run));
         }
         n
     }
@@ -83,8 +78,8 @@ impl Runs {
         ensures { result ≡ every (λ i. same_held (row self i) none_held) 0 8 }
     {
         let mut none = true;
-        for i in 0..Runs::END {
-            none = none & self.is_empty(i);
+        for run in self.list {
+            none &= run == Held::none();
         }
         none
     }
@@ -94,9 +89,7 @@ impl Runs {
         requires { place < 8 }
         ensures { result ≡ same_held (row self place) none_held }
     {
-        let run = self.at(place);
-        let none = Held::none();
-        run.same(none)
+        self.at(place) == Held::none()
     }
 }
 
@@ -105,8 +98,7 @@ fn frames_in(run: Held) -> u8
     ensures value { result ≡ count_held run }
     ensures small { result ≤ most_frames }
 {
-    let none = Held::none();
-    if run.same(none) {
+    if run == Held::none() {
         return 0;
     }
     run.count()

@@ -10,8 +10,8 @@ use interface::{Attributes, Request};
 use printing::{Cursor, put_if};
 use slots::{kind_of, start_of};
 
-// Which of the two segments that go by areas.
-#[derive(Clone, Copy)]
+// Which of the two segments that go by areas. The definitions of specs/ByAreas go by it (`lines_at`), so it is a value and no closure.
+#[derive(Clone, Copy, Debug, PartialEq, Eq)]
 pub enum Segment {
     Maps,
     Protects,
@@ -23,10 +23,8 @@ pub fn put_areas(segment: Segment, snapshot: Snapshot, out: &mut [u8], to: Curso
     ensures { let lines = joined (lines_at segment snapshot.sandbox snapshot.areas) 8 in
         placed result out.new ≡ put to out.old lines }
 {
-    let areas = snapshot.areas;
     let mut next = to;
-    for k in 0..Area::MOST {
-        let area = areas.list[k];
+    for &area in snapshot.areas.list.iter() {
         let line = line_of(segment, snapshot.sandbox, area);
         next = put_if(out, next, line, is_told(segment, area));
     }
@@ -57,15 +55,14 @@ fn line_of(segment: Segment, sandbox: u8, area: Area) -> Request
 fn map_line(sandbox: u8, area: Area) -> Request
     ensures { result ≡ map_of sandbox area }
 {
-    let backing = area.backing;
     Request {
         code: Request::MAP,
-        sandbox: sandbox as u16,
-        p1: area.first.0 as u16,
-        p2: area.pages as u16,
-        p3: kind_of(backing) as u16,
-        p4: start_of(backing) as u16,
-        p5: Attributes::READ_WRITE as u16,
+        sandbox: u16::from(sandbox),
+        p1: u16::from(area.first.0),
+        p2: u16::from(area.pages),
+        p3: u16::from(kind_of(area.backing)),
+        p4: u16::from(start_of(area.backing)),
+        p5: u16::from(Attributes::READ_WRITE),
     }
 }
 
@@ -75,10 +72,10 @@ fn protect_line(sandbox: u8, area: Area) -> Request
 {
     Request {
         code: Request::PROTECT,
-        sandbox: sandbox as u16,
-        p1: area.first.0 as u16,
-        p2: area.pages as u16,
-        p3: Attributes::READ as u16,
+        sandbox: u16::from(sandbox),
+        p1: u16::from(area.first.0),
+        p2: u16::from(area.pages),
+        p3: u16::from(Attributes::READ),
         p4: 0,
         p5: 0,
     }

@@ -24,15 +24,13 @@ pub fn put_writes(
     ensures { placed result out.new ≡ put to out.old
         (writes_of image.now pool.now table.now snapshot) }
 {
-    let areas = snapshot.areas;
     let mut next = to;
     for i in 0..Areas::PAGES {
         let number = PageNo(i);
-        let slot = areas.slot(number);
         let page = VirtualPage {
             sandbox: snapshot.sandbox,
-            number: number,
-            slot: slot,
+            number,
+            slot: snapshot.areas.slot(number),
         };
         next = put_page(pool, table, image, page, out, next);
     }

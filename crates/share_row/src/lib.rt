@@ -20,14 +20,10 @@ pub fn share_exceeded(b: Record, frames: u8, shares: u16, q: Request) -> bool
     ensures { (images : ℕ) → let v = view_from true frames images shares b in
         Passed v q → result ≡ applies v q ShareExceeded }
 {
-    let code = q.code;
-    match code {
-        Request::OPEN => (frames as u32) < shares as u32 + q.p1 as u32,
-        Request::MAP => (b.share as u32) < b.charge() as u32 + q.p2 as u32,
-        Request::SNAPSHOT => {
-            let present = b.present;
-            (b.share as u32) < 2 * mapped_pages(present) as u32
-        }
+    match q.code {
+        Request::OPEN => u32::from(frames) < u32::from(shares) + u32::from(q.p1),
+        Request::MAP => u32::from(b.share) < u32::from(b.charge()) + u32::from(q.p2),
+        Request::SNAPSHOT => u32::from(b.share) < 2 * u32::from(mapped_pages(b.present)),
         _ => false,
     }
 }

@@ -13,8 +13,8 @@ use Rattle.interface.specs.Outcome.{first_of, slots_after, copy_after}
 use Rattle.interface.specs.Refusals.{all_mapped, applies, refusal}
 use Rattle.words.specs.Word.{bit, put_bit}
 use Rattle.frames.specs.Frames.{held, mark, count_held, least_held, both_held, apart_held}
-use Rattle.free_frames.specs.declared.Free.{Free}
-use Rattle.free_frames.specs.declared.Free.TheVariants.{Frame, None}
+use Rattle.std.specs.Prelude.{Option, Some, None}
+use Rattle.frames.specs.declared.FrameNo.{FrameNo}
 use Rattle.free_frames.specs.Greatest.{greatest}
 use Rattle.basics.specs.Rows.{best, moved_up, walk_to, walked}
 use Rattle.basics.specs.Rows as rows
@@ -43,9 +43,9 @@ use Rattle.interface.specs.Examples.{Line, requests_of, gets_of}
 use Rattle.plain.specs.Cases.{cases}
 
 -- the greatest frame that is not held
-chosen : Free → ℕ
+chosen : Option FrameNo → ℕ
 chosen None = 0
-chosen (Frame f) = f.0
+chosen (Some f) = f.0
 
 -- the answers, where a write takes that frame; without an image
 played : World → List Request → List Answered

@@ -15,30 +15,21 @@ use interface::{Attributes, Backing, ImagePageNo, Request, Slot};
 pub fn is_mapped(slot: Slot) -> bool
     ensures { result ≡ is_mapped slot }
 {
-    match slot {
-        Slot::Unmapped => false,
-        Slot::Mapped(_) => true,
-    }
+    matches!(slot, Slot::Mapped(_))
 }
 
 // Whether the page is mapped and committed.
 pub fn is_committed(slot: Slot) -> bool
     ensures { result ≡ is_committed slot }
 {
-    match slot {
-        Slot::Unmapped => false,
-        Slot::Mapped(t) => t.committed,
-    }
+    matches!(slot, Slot::Mapped(t) if t.committed)
 }
 
 // Whether the page is mapped and not committed.
 pub fn is_uncommitted(slot: Slot) -> bool
     ensures { result ≡ is_uncommitted slot }
 {
-    match slot {
-        Slot::Unmapped => false,
-        Slot::Mapped(t) => !t.committed,
-    }
+    matches!(slot, Slot::Mapped(t) if !t.committed)
 }
 
 // The page's rights: 1 for read, 3 for read and write; 0 where it is not mapped.
@@ -57,10 +48,7 @@ pub fn backing_at(slot: Slot) -> Backing
 {
     match slot {
         Slot::Unmapped => Backing::Anonymous,
-        Slot::Mapped(t) => {
-            let backing = t.backing;
-            backing
-        }
+        Slot::Mapped(t) => t.backing,
     }
 }
 
@@ -68,10 +56,7 @@ pub fn backing_at(slot: Slot) -> Backing
 pub fn is_anonymous(backing: Backing) -> bool
     ensures { result ≡ is_anonymous backing }
 {
-    match backing {
-        Backing::Anonymous => true,
-        Backing::Image(_) => false,
-    }
+    backing == Backing::Anonymous
 }
 
 // "p3 backing, 0 anonymous, 1 image"
@@ -100,14 +85,7 @@ pub fn with_rights(slot: Slot, rights: u8) -> Slot
 {
     match slot {
         Slot::Unmapped => Slot::Unmapped,
-        Slot::Mapped(t) => {
-            let backing = t.backing;
-            Slot::Mapped(Attributes {
-                rights: rights,
-                committed: t.committed,
-                backing: backing,
-            })
-        }
+        Slot::Mapped(t) => Slot::Mapped(Attributes { rights, ..t }),
     }
 }
 
@@ -117,14 +95,10 @@ pub fn with_committed(slot: Slot) -> Slot
 {
     match slot {
         Slot::Unmapped => Slot::Unmapped,
-        Slot::Mapped(t) => {
-            let backing = t.backing;
-            Slot::Mapped(Attributes {
-                rights: t.rights,
-                committed: true,
-                backing: backing,
-            })
-        }
+        Slot::Mapped(t) => Slot::Mapped(Attributes {
+            committed: true,
+            ..t
+        }),
     }
 }
 
@@ -133,28 +107,22 @@ pub fn page_on(first: Attributes, pages: u8) -> Slot
     requires { start_of first.backing + pages < byte_values }
     ensures { result ≡ page_on first pages }
 {
-    let start = first.backing;
-    let backing = advanced(start, pages);
     Slot::Mapped(Attributes {
-        rights: first.rights,
-        committed: first.committed,
-        backing: backing,
+        backing: advanced(first.backing, pages),
+        ..first
     })
 }
 
 // Whether the second backing is the first one, so many pages on.
+#[tactic(auto, unfolding(interface::specs::Slots::follows))]
 pub fn follows(first: Backing, pages: u8, second: Backing) -> bool
     ensures { result ≡ follows first pages second }
 {
-    match first {
-        Backing::Anonymous => match second {
-            Backing::Anonymous => true,
-            Backing::Image(_) => false,
-        },
-        Backing::Image(p) => match second {
-            Backing::Anonymous => false,
-            Backing::Image(q) => p.0 as usize + pages as usize == q.0 as usize,
-        },
+    match (first, second) {
+        (Backing::Anonymous, Backing::Anonymous) => true,
+        (Backing::Image(p), Backing::Image(q)) => u32::from(p.0) + u32::from(pages)
+            == u32::from(q.0),
+        _ => false,
     }
 }
 

@@ -26,18 +26,19 @@ pub fn start(pool: &mut [u8], table: &mut [u16], image: &[u8]) -> Started
     ensures world { world_of result.machine pool.new table.new
         ≡ started_by pool.old table.old image.now }
 {
-    let mut machine = Machine::fresh();
+    let fresh = Machine::fresh();
     if !lengths_ok(pool.len(), table.len(), image.len()) {
         return Started {
-            machine: machine,
-            answer: Answer::Refused(Refusal::Unsound),
+            machine: fresh,
+            answer: Err(Refusal::Unsound),
         };
     }
-    let held = freeing::store::start(pool, table);
-    machine.held = held;
     Started {
-        machine: machine,
-        answer: Answer::Value(0),
+        machine: Machine {
+            held: freeing::store::start(pool, table),
+            ..fresh
+        },
+        answer: Ok(0),
     }
 }
 
@@ -45,8 +46,5 @@ pub fn start(pool: &mut [u8], table: &mut [u16], image: &[u8]) -> Started
 pub fn accepted(answer: Answer) -> bool
     ensures { result ≡ eqb (number_of answer) 0 }
 {
-    match answer {
-        Answer::Value(_) => true,
-        Answer::Refused(_) => false,
-    }
+    answer.is_ok()
 }

@@ -4,8 +4,8 @@ use mathlib.Core.Path.{◌≡◌, refl, sym, ap, ◌∙◌}
 use mathlib.Core.Bool.{Bool, true, false}
 use mathlib.Core.List.{List}
 use lib.ListN.{length, replicate}
-use Rattle.interface.specs.declared.answer.Answer.{Answer}
-use Rattle.interface.specs.declared.answer.Answer.TheVariants.{Value, Refused}
+use Rattle.interface.specs.Answers.{Answer}
+use Rattle.std.specs.Prelude.{Ok, Err}
 use Rattle.interface.specs.declared.answer.Refusal.TheVariants.{Unsound}
 use Rattle.interface.specs.Numbers.{pages_in}
 use Rattle.table.specs.Store.{Store, cleared, fresh}
@@ -16,13 +16,13 @@ use Rattle.state.proofs.LentLaws.{lengths-true}
 
 module _ (pool table image : List ℕ) where
   pub start-refused : lengths_ok (length pool) (length table) (length image) ≡ false → (m : Machine) → m ≡ fresh_machine
-      → (Refused Unsound ≡ start_answer pool table image) × (world_of m pool table ≡ started_by pool table image)
+      → (Err Unsound ≡ start_answer pool table image) × (world_of m pool table ≡ started_by pool table image)
   unfolding start_answer started_by
   start-refused e m f = (rw e, rw (e, f))
 
   module _ (ok : lengths_ok (length pool) (length table) (length image) ≡ true) where
     pub start-made : (m : Machine) (st : Store) → m ≡ fresh_machine → st ≡ cleared (length pool)
-        → (Value 0 ≡ start_answer pool table image) × (record { sandboxes = m.sandboxes; store = st } ≡ started_by pool table image)
+        → (Ok 0 ≡ start_answer pool table image) × (record { sandboxes = m.sandboxes; store = st } ≡ started_by pool table image)
     unfolding start_answer started_by
     start-made m st f g = (rw ok, rw (ok, f, g))
 

@@ -8,14 +8,14 @@ use records::Record;
 use runs::Runs;
 
 // What is kept for a sandbox: its record, and the runs of kept frames.
-#[derive(Clone, Copy)]
+#[derive(Clone, Copy, Debug, PartialEq, Eq)]
 pub struct Sandbox {
     pub rec: Record,
     pub runs: Runs,
 }
 
 // "Four sandboxes stand in a row, numbered 0 to 3"; "Held frames are marked one bit a frame".
-#[derive(Clone, Copy)]
+#[derive(Clone, Copy, Debug, PartialEq, Eq)]
 pub struct Machine {
     pub sandboxes: [Sandbox; Machine::SANDBOXES],
     pub held: Held,
@@ -31,11 +31,9 @@ impl Machine {
     pub fn fresh() -> Machine
         ensures { result ≡ fresh_machine }
     {
-        let closed = Sandbox::closed();
-        let held = Held::none();
         Machine {
-            sandboxes: [closed; Machine::SANDBOXES],
-            held: held,
+            sandboxes: [Sandbox::closed(); Machine::SANDBOXES],
+            held: Held::none(),
         }
     }
 }
@@ -45,11 +43,9 @@ impl Sandbox {
     pub fn closed() -> Sandbox
         ensures { result ≡ closed_sandbox }
     {
-        let rec = Record::closed();
-        let runs = Runs::none();
         Sandbox {
-            rec: rec,
-            runs: runs,
+            rec: Record::closed(),
+            runs: Runs::none(),
         }
     }
 }

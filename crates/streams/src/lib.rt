@@ -8,7 +8,8 @@ ghost use Rattle.std.specs.Io.KnownBytes.{Appends};
 
 use std::io::{Error, Read, Result, Write};
 
-// Reads until the buffer is full, the stream ends or a read fails, and says how many bytes it put at the buffer's start.
+// Reads until the buffer is full, the stream ends or a read fails, and says how many bytes it put at the buffer's start, as
+// `read_exact` does not.
 pub fn read_full<R: Read>(stream: &mut R, buf: &mut [u8]) -> usize
     ensures { result ≤ length buf.new }
 {
@@ -27,10 +28,7 @@ pub fn read_full<R: Read>(stream: &mut R, buf: &mut [u8]) -> usize
 fn read_some<R: Read>(stream: &mut R, buf: &mut [u8]) -> usize
     ensures { result ≤ length buf.new }
 {
-    match stream.read(buf) {
-        Ok(got) => got,
-        Err(_) => 0,
-    }
+    stream.read(buf).unwrap_or(0)
 }
 
 // Writes all of the bytes and says so; or stops where the stream takes no more, says why on standard error, and says that it did not. Of a stream that tells

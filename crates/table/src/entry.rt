@@ -1,4 +1,5 @@
 // The lent page table, read and stored by sandbox and page: "for each sandbox 64 front entries, then 64 back entries".
+// An entry stays the number that it is in the lent memory, "0 for none, else a frame number plus one": the table's form is part of the C interface.
 ghost use Rattle.std.specs.Prelude.{◌≡◌, List, ℕ, ◌+◌, ◌-◌, ◌*◌, ◌≤◌, ◌<◌, eqb, length, get_or};
 ghost use Rattle.interface.specs.Numbers.{page_count, sandbox_count, table_entries, most_frames};
 ghost use Rattle.basics.specs.Choice.{◌when◌else◌};
@@ -8,7 +9,7 @@ ghost use Rattle.table.specs.Store.{kept, front_of, back_of, move, move_to};
 
 use frames::FrameNo;
 use interface::PageNo;
-use marks::Marks;
+use marks::{Marks, names_none};
 
 // The front entry of a page: "0 for none, else a frame number plus one".
 pub fn front(table: &[u16], sandbox: u8, page: PageNo) -> u16
@@ -17,8 +18,7 @@ pub fn front(table: &[u16], sandbox: u8, page: PageNo) -> u16
     requires table_len { length table.now ≡ table_entries }
     ensures { result ≡ get_or table.now (front_of sandbox page.0) 0 }
 {
-    let at = front_index(sandbox, page);
-    table[at]
+    table[front_index(sandbox, page)]
 }
 
 // The back entry of a page.
@@ -28,8 +28,7 @@ pub fn back(table: &[u16], sandbox: u8, page: PageNo) -> u16
     requires table_len { length table.now ≡ table_entries }
     ensures { result ≡ get_or table.now (back_of sandbox page.0) 0 }
 {
-    let at = front_index(sandbox, page) + PageNo::COUNT;
-    table[at]
+    table[front_index(sandbox, page) + PageNo::COUNT]
 }
 
 // The back entry of a committed page; none of one that is not.
@@ -40,24 +39,21 @@ pub fn back_if(table: &[u16], sandbox: u8, page: PageNo, committed: bool) -> u16
     ensures { result ≡ (get_or table.now (back_of sandbox page.0) 0 when committed else 0) }
 {
     if committed {
-        return back(table, sandbox, page);
+        back(table, sandbox, page)
+    } else {
+        0
     }
-    0
 }
 
 // How many entries are looked at together.
-pub const GROUP: u8 = 8;
+pub const GROUP: u8 = Marks::TOGETHER as u8;
 
-// Whether none of the eight entries from a place on names a frame. All are looked at, which takes no branch.
+// Whether none of the eight entries from a place on names a frame.
 pub fn are_empty(table: &[u16], at: usize) -> bool
     requires { at + 8 ≤ length table.now }
     ensures { result ≡ every (λ i. eqb (get_or table.now (at + i) 0) 0) 0 8 }
 {
-    let mut none = true;
-    for i in 0..GROUP {
-        none = none & (table[at + i as usize] == 0);
-    }
-    none
+    names_none(&table[at..at + GROUP as usize])
 }
 
 // The fronts of all pages of a sandbox become its backs.
@@ -81,10 +77,9 @@ fn move_front(table: &mut [u16], sandbox: u8, page: PageNo)
         kept h pool table.new ≡ move (front_of sandbox page.0) (back_of sandbox page.0) before }
 {
     let from = front_index(sandbox, page);
-    let to = from + PageNo::COUNT;
     let entry = table[from];
     table[from] = 0;
-    table[to] = entry;
+    table[from + PageNo::COUNT] = entry;
 }
 
 // Where a page's front entry stands; its back entry stands 64 further on.

@@ -2,7 +2,7 @@
 use interface::{PageNo, Slot};
 
 // Whose page it is, its number, and what stands there.
-#[derive(Clone, Copy)]
+#[derive(Clone, Copy, Debug, PartialEq, Eq)]
 pub struct VirtualPage {
     pub sandbox: u8,
     pub number: PageNo,

@@ -20,8 +20,7 @@ pub fn marks_match(held: Held, table: &[u16], frames: u8) -> bool
     ensures { result ≡ marksb frames held table.now }
 {
     let found = marks_of(table, 0, Marks::ENTRIES, frames);
-    let marks = found.held;
-    found.good & marks.same(held)
+    found.good & found.held.same(held)
 }
 
 // How many frames the entries of one sandbox name, by the count of their marks.
@@ -34,6 +33,5 @@ pub fn frames_held(table: &[u16], sandbox: u8, frames: u8) -> u8
 {
     let first = sandbox as usize * Marks::SANDBOX_ENTRIES;
     let found = marks_of(table, first, Marks::SANDBOX_ENTRIES, frames);
-    let marks = found.held;
-    marks.count()
+    found.held.count()
 }

@@ -22,9 +22,9 @@ pub fn shares(sandboxes: [Sandbox; Machine::SANDBOXES]) -> u16
     ensures value { result ≡ sum (λ s. (get_or sandboxes s closed_sandbox).rec.share) 4 }
     ensures small { result ≤ 1020 }
 {
-    let mut n: u16 = 0;
-    for k in 0..Machine::SANDBOXES {
-        let b = sandboxes[k];
+    let mut n = 0;
+    for b in sandboxes {
+        // `u16::from` was tried: behind it the proof no longer knows that a share is a byte.
         n += b.rec.share as u16;
     }
     n
@@ -38,11 +38,8 @@ pub fn kept_marks(sandboxes: [Sandbox; Machine::SANDBOXES]) -> Marks
         good: true,
         held: Held::none(),
     };
-    for s in 0..Machine::COUNT {
-        let k = s as usize;
-        let b = sandboxes[k];
-        let runs = b.runs;
-        found = kept_soundness::add_runs(found, runs);
+    for sandbox in sandboxes {
+        found = kept_soundness::add_runs(found, sandbox.runs);
     }
     found
 }

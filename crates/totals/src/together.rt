@@ -12,7 +12,7 @@ use state::sandbox::{Machine, Sandbox};
 
 // The marks of the frames that entries name, those of all kept frames, and the shares together. The kept frames are put together only for a write, the one call
 // that may take a frame, since all runs are looked at for them.
-#[derive(Clone, Copy)]
+#[derive(Clone, Copy, Debug, PartialEq, Eq)]
 pub struct Together {
     pub held: Held,
     pub kept: Held,
@@ -27,18 +27,15 @@ pub fn put_together(sandboxes: [Sandbox; Machine::SANDBOXES], held: Held, q: Req
 {
     let shares = shares(sandboxes);
     if q.code != Request::WRITE {
-        let none = Held::none();
         return Together {
-            held: held,
-            kept: none,
-            shares: shares,
+            held,
+            kept: Held::none(),
+            shares,
         };
     }
-    let found = kept_marks(sandboxes);
-    let kept = found.held;
     Together {
-        held: held,
-        kept: kept,
-        shares: shares,
+        held,
+        kept: kept_marks(sandboxes).held,
+        shares,
     }
 }

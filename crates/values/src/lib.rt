@@ -32,19 +32,23 @@ pub fn value_of(pool: &[u8], table: &[u16], image: &[u8], b: Sandbox, q: Request
     ensures { (h : Words) → let before = kept h pool.now table.now in
         result ≡ value_at image.now q b before }
 {
-    let code = q.code;
-    let rec = b.rec;
-    let present = rec.present;
-    match code {
-        Request::MAP => first_of(present, q) as u32,
-        Request::READ => read(pool, table, image, rec, q) as u32,
-        Request::SNAPSHOT => mapped_pages(present) as u32,
+    let present = b.rec.present;
+    match q.code {
+        Request::MAP => u32::from(first_of(present, q)),
+        Request::READ => u32::from(read(pool, table, image, b.rec, q)),
+        Request::SNAPSHOT => u32::from(mapped_pages(present)),
         Request::REPORT => {
-            let runs = b.runs;
             let frames = (pool.len() / Page::SIZE) as u8;
-            table_marks::frames_held(table, q.sandbox as u8, frames) as u32 + runs.kept() as u32
+            u32::from(table_marks::frames_held(table, q.sandbox as u8, frames))
+                + u32::from(b.runs.kept())
         }
-        Request::COMPARE => lowest_difference(pool, table, image, rec, q.sandbox as u8) as u32,
+        Request::COMPARE => u32::from(lowest_difference(
+            pool,
+            table,
+            image,
+            b.rec,
+            q.sandbox as u8,
+        )),
         _ => 0,
     }
 }

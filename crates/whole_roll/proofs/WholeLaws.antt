@@ -6,7 +6,7 @@ use mathlib.Core.List.{List, ◌++◌}
 use native.Mathlib.Omega.{arith}
 use lib.ListN.{length, drop, length-append}
 use borrow.Author.Tests.{lt-ltb, le-ltb}
-use Rattle.interface.specs.declared.answer.Answer.TheVariants.{Value, Refused}
+use Rattle.std.specs.Prelude.{Ok, Err}
 use Rattle.interface.specs.declared.answer.Refusal.TheVariants.{OutputTooShort}
 use Rattle.interface.specs.declared.request.Request.{Request}
 use Rattle.pages.specs.Parts.{set_part}
@@ -90,7 +90,7 @@ module _ (out out₁ : List ℕ) (counted : Cursor) (l : List Request) (is : pla
   lines_are : counted.line ≡ length l
   lines_are = ap (λ (p : Placed). p.cursor.line) is ∙ omega arith
 
-  pub too_long : length out₁ < counted.line * 43 → left (Refused OutputTooShort) out₁ ≡ fitted l out
+  pub too_long : length out₁ < counted.line * 43 → left (Err OutputTooShort) out₁ ≡ fitted l out
   unfolding fitted written_as
   too_long h =
       let z : length out < length l * 43 = omega (arith, ap length untouched, lines_are) in
@@ -105,7 +105,7 @@ module _ (out out₁ : List ℕ) (counted : Cursor) (l : List Request) (is : pla
     unfolding lined set_part
     at-start = let at : 0 + length (printed_roll l) ≡ length l * 43 = omega (arith, length-roll l) in rw (untouched, at)
 
-    pub fits_in : (to₂ : Cursor) (out₂ : List ℕ) → placed to₂ out₂ ≡ put writing out₁ l → left (Value counted.line) out₂ ≡ fitted l out
+    pub fits_in : (to₂ : Cursor) (out₂ : List ℕ) → placed to₂ out₂ ≡ put writing out₁ l → left (Ok counted.line) out₂ ≡ fitted l out
     unfolding fitted written_as
     fits_in to₂ out₂ now =
         let z : length l * 43 ≤ length out = omega (arith, ap length untouched, lines_are) in

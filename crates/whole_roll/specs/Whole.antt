@@ -1,7 +1,7 @@
 -- The whole roll, segment by segment as the code puts it; and the roll in output memory, where it fits.
 use Rattle.std.specs.Prelude.{ℕ, ◌*◌, List, ◌++◌, ltb, length}
 use Rattle.basics.specs.Choice.{◌when◌else◌}
-use Rattle.interface.specs.declared.answer.Answer.{Answer}
+use Rattle.interface.specs.Answers.{Answer}
 use Rattle.interface.specs.declared.request.Request.{Request}
 use Rattle.interface.specs.Answers.{answered}
 use Rattle.archive.specs.Archive.{opening, closing}

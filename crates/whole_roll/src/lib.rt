@@ -35,14 +35,14 @@ pub fn put_fitting(
     };
     let lines = put_roll(out, counting, snapshot, image, pool, table).line;
     if out.len() < lines as usize * Line::BYTES {
-        return Answer::Refused(Refusal::OutputTooShort);
+        return Err(Refusal::OutputTooShort);
     }
     let writing = Cursor {
         line: 0,
         writes: true,
     };
     put_roll(out, writing, snapshot, image, pool, table);
-    Answer::Value(lines)
+    Ok(lines)
 }
 
 // The roll of a snapshot, segment by segment.

@@ -32,5 +32,5 @@ pub fn put(word: u64, place: u8, on: bool) -> u64
 pub fn lowest_set(word: u64) -> u8
     ensures { result ≡ lowest (λ k. eqb (bit word k) 1) 0 word_bits }
 {
-    u64::trailing_zeros(word) as u8
+    word.trailing_zeros() as u8
 }

@@ -83,67 +83,47 @@ past8 c = (sym (row8 c.before) ∙ c.if-no_snapshot.false, past7 c.before.before
 not-open-requires : tie.Need-not_open-requires
 not-open-requires c κs = search rules
 
-refuse-requires : tie.Need-refuse-requires
-refuse-requires c κs = search rules
-
 returns : tie.Need-returns-then-not_open
 returns c =
-    let test = c.before.before in
+    let test = c.before in
     let s = at4 test in
-    refused (view s) (request s) s.args.b NotOpen c.refuse.result c.refuse.ensures
-    (past3 s) (sym (row4 test) ∙ c.if-not_open.true)
+    refused (view s) (request s) s.args.b NotOpen (past3 s) (sym (row4 test) ∙ c.if-not_open.true)
 
 already-open-requires : tie.Need-already_open-requires
 already-open-requires c κs = search rules
 
-refuse-requires-2 : tie.Need-refuse-requires-then-already_open
-refuse-requires-2 c κs = search rules
-
 returns-2 : tie.Need-returns-then-already_open
 returns-2 c =
-    let test = c.before.before in
+    let test = c.before in
     let s = at5 test in
-    refused (view s) (request s) s.args.b AlreadyOpen c.refuse-then-already_open.result c.refuse-then-already_open.ensures
-    (past4 test.before) (sym (row5 test) ∙ c.if-already_open.true)
+    refused (view s) (request s) s.args.b AlreadyOpen (past4 test.before) (sym (row5 test) ∙ c.if-already_open.true)
 
 within-limits-requires : tie.Need-within_limits-requires
 within-limits-requires c κs = search rules
 
-refuse-requires-3 : tie.Need-refuse-requires-then-not-within_limits
-refuse-requires-3 c κs = search rules
-
 returns-3 : tie.Need-returns-then-not-within_limits
 returns-3 c =
-    let test = c.before.before in
+    let test = c.before in
     let s = at6 test in
-    refused (view s) (request s) s.args.b OutsideLimits c.refuse-then-not-within_limits.result c.refuse-then-not-within_limits.ensures
-    (past5 test.before) (sym (row6 test) ∙ c.if-not-within_limits.true-raw)
+    refused (view s) (request s) s.args.b OutsideLimits (past5 test.before) (sym (row6 test) ∙ c.if-not-within_limits.true-raw)
 
 snapshot-taken-requires : tie.Need-snapshot_taken-taken-requires
 snapshot-taken-requires c κs = search rules
 
-refuse-requires-4 : tie.Need-refuse-requires-then-taken
-refuse-requires-4 c κs = search rules
-
 returns-4 : tie.Need-returns-then-taken
 returns-4 c =
-    let test = c.before.before in
+    let test = c.before in
     let s = at7 test in
-    refused (view s) (request s) s.args.b SnapshotTaken c.refuse-then-taken.result c.refuse-then-taken.ensures
-    (past6 test.before) (sym (row7 test) ∙ c.if-taken.true)
+    refused (view s) (request s) s.args.b SnapshotTaken (past6 test.before) (sym (row7 test) ∙ c.if-taken.true)
 
 no-snapshot-requires : tie.Need-no_snapshot-requires
 no-snapshot-requires c κs = search rules
 
-refuse-requires-5 : tie.Need-refuse-requires-then-no_snapshot
-refuse-requires-5 c κs = search rules
-
 returns-5 : tie.Need-returns-then-no_snapshot
 returns-5 c =
-    let test = c.before.before in
+    let test = c.before in
     let s = at8 test in
-    refused (view s) (request s) s.args.b NoSnapshot c.refuse-then-no_snapshot.result c.refuse-then-no_snapshot.ensures
-    (past7 test.before) (sym (row8 test) ∙ c.if-no_snapshot.true)
+    refused (view s) (request s) s.args.b NoSnapshot (past7 test.before) (sym (row8 test) ∙ c.if-no_snapshot.true)
 
 decide-pages-requires : tie.Need-decide_pages-requires
 decide-pages-requires c κs =
@@ -158,19 +138,14 @@ decide_spec =
     tie.close
     (tie.spec
     not-open-requires
-    refuse-requires
     returns
     already-open-requires
-    refuse-requires-2
     returns-2
     within-limits-requires
-    refuse-requires-3
     returns-3
     snapshot-taken-requires
-    refuse-requires-4
     returns-4
     no-snapshot-requires
-    refuse-requires-5
     returns-5
     decide-pages-requires
     returns-6)

@@ -1,5 +1,4 @@
 -- A call by its code: a read or a write, a report or a comparison, or one that is left.
-use Rattle.interface.specs.declared.answer.Answer.TheVariants.{Value}
 use lib.Dec.{eqb}
 use borrow.Author.Tests.{eqb-false}
 use Rattle.basics.proofs.TestLaws.{or_right}
@@ -18,19 +17,19 @@ same_length c = search rules
 returns : tie.Need-returns-then-code
 returns c = search rules
 
-look-requires : tie.Need-look-answer-requires
+look-requires : tie.Need-look-requires
 look-requires c κs = search rules
 
 same-length-2 : tie.Need-shape_of-pool-then-code-2
 same-length-2 c = search rules
 
 returns-2 : tie.Need-returns-then-code-2
-returns-2 c w A = tried_same A c.look-answer.result (c.look-answer.ensures w A)
+returns-2 c w A = tried_same A c.look.result (c.look.ensures w A)
 
 returns-3 : tie.Need-returns
 returns-3 c w A =
     let code = c.args.q.code in
-    tried-none A (Value 0) (eqb-false code write_code (or_right (eqb code read_code) (eqb code write_code) c.if-code.false))
+    tried-none A (eqb-false code write_code (or_right (eqb code read_code) (eqb code write_code) c.if-code.false))
 
 pub answer_spec : {M : Type 1} → statement M
 answer_spec =

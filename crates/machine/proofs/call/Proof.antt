@@ -1,5 +1,5 @@
 -- A call: what each test shows of the number, and from it the step that each answer is.
-use mathlib.Core.Path.{◌≡◌, refl, sym, ◌∙◌}
+use mathlib.Core.Path.{◌≡◌, refl, sym, subst, ◌∙◌}
 use mathlib.Core.Bool.{true, false}
 use mathlib.Core.List.{List}
 use Prim.Native.Nat.{ℕ, ◌<◌}
@@ -7,6 +7,8 @@ use native.Mathlib.Omega.{arith}
 use lib.ListN.{length, get_or}
 use borrow.Author.Tests.{not-true, not-false}
 use Rattle.basics.proofs.TestLaws.{length-mapped}
+use Rattle.std.specs.Prelude.{Option, IfSome, IfNone}
+use Rattle.interface.specs.Answers.{Answer, answered}
 use Rattle.interface.specs.declared.answer.Refusal.TheVariants.{NoSuchCall, Unsound, NotOpen}
 use Rattle.interface.specs.Requests.{is_call}
 use Rattle.frames.specs.Frames.{none_held}
@@ -17,7 +19,8 @@ use Rattle.totals.specs.declared.together.Together.{Together}
 use Rattle.state.proofs.SharesLaws.{zero_sandbox}
 use Rattle.soundness.specs.Test.{soundb}
 use Rattle.memory.proofs.MemoryLaws.{read-own}
-use Rattle.in_place.specs.InPlace.{Around}
+use Rattle.in_place.specs.InPlace.{Around, with_pool}
+use Rattle.step.specs.Step.{Stepped}
 use Rattle.step.specs.Acted.{Stands}
 use Rattle.step.proofs.CallLaws.{stepped-refused, number-two, number-three, number-four}
 use Rattle.step.proofs.ActedLaws.{standing, stepped-back}
@@ -69,7 +72,7 @@ row_of c = c.before.before.before.before.before
 abbrev rewound-row : tie.Then-q-eq-REWIND → tie.Else-q-ge-SANDBOXES
 rewound-row c = c.before.before.before.before.before
 
-abbrev tried : tie.After-answer-tried → tie.Else-q-ge-SANDBOXES
+abbrev tried : tie.After-answer → tie.Else-q-ge-SANDBOXES
 tried c = row_of c.before.before
 
 abbrev own : tie.Start → Sandbox
@@ -86,16 +89,18 @@ around row =
     }
 
 -- where it is not answered there the pool is as it was, and what the sandboxes have together is found
-abbrev left-of : tie.After-put_together-all → tie.After-answer-tried
+abbrev left-of : tie.After-put_together-all → tie.After-answer
 left-of c = c.before.before.before.before.before
 
-pool-stays : (c : tie.After-put_together-all) → let s = behind_row (tried (left-of c)) in (left-of c).answer-tried.new.pool ≡ s.args.pool.now
+pool-stays : (c : tie.After-put_together-all) → let s = behind_row (tried (left-of c)) in (left-of c).answer.new.pool ≡ s.args.pool.now
 pool-stays c =
     let behind = left-of c in
-    (behind.answer-tried.ensures (world_in (behind_row (tried behind))) (around (tried behind))).left c.if-tried.false
+    let s = behind_row (tried behind) in
+    subst (λ (r : Option Answer). IfNone r (behind.answer.new.pool ≡ s.args.pool.now)) c.in_default.is
+    (behind.answer.ensures (world_in s) (around (tried behind))).left
 
 stands : (c : tie.After-put_together-all) → let s = behind_row (tried (left-of c)) in let all = c.put_together-all.result in
-    Stands (image_in s) s.args.q (own s) all (kept all.held (left-of c).answer-tried.new.pool s.args.table.now) s.args.machine.sandboxes
+    Stands (image_in s) s.args.q (own s) all (kept all.held (left-of c).answer.new.pool s.args.table.now) s.args.machine.sandboxes
 stands c =
     let row = tried (left-of c) in
     let s = behind_row row in
@@ -126,21 +131,14 @@ rewinding c = c.before.before.before.before
 is-call-requires : tie.Need-is_call-requires
 is-call-requires c κs = search rules
 
-refuse-requires : tie.Need-refuse-requires
-refuse-requires c κs = search rules
-
 returns : tie.Need-returns-then-not-is_call
 returns c =
-    let start = c.before.before.before.before.before.before in
-    rw c.refuse.ensures
-    (stepped-refused (image_in start) (world_in start) start.args.q NoSuchCall
-    (number-two (image_in start) (world_in start) start.args.q (no_call c.before)))
+    let start = c.before.before.before.before.before in
+    stepped-refused (image_in start) (world_in start) start.args.q NoSuchCall
+    (number-two (image_in start) (world_in start) start.args.q (no_call c))
 
 sound-requires : tie.Need-sound-requires
 sound-requires c κs = search rules
-
-refuse-requires-2 : tie.Need-refuse-requires-then-not-sound
-refuse-requires-2 c κs = search rules
 
 same_length : tie.Need-shape_of-pool-then-not-sound
 same_length c = search rules
@@ -150,17 +148,13 @@ same-length-2 c = search rules
 
 returns-2 : tie.Need-returns-then-not-sound
 returns-2 c =
-    let coded = c.before.before.before in
+    let coded = c.before.before in
     let start = behind_code coded in
-    rw c.refuse-then-not-sound.ensures
-    (stepped-refused (image_in start) (world_in start) start.args.q Unsound
-    (number-three (image_in start) (world_in start) start.args.q (a_call coded) (fails c.before)))
+    stepped-refused (image_in start) (world_in start) start.args.q Unsound
+    (number-three (image_in start) (world_in start) start.args.q (a_call coded) (fails c))
 
 cast-if3 : tie.Need-overflow_cast-q
 cast-if3 c = search rules
-
-refuse-requires-3 : tie.Need-refuse-requires-then-q-ge-SANDBOXES
-refuse-requires-3 c κs = search rules
 
 same-length-3 : tie.Need-shape_of-pool-then-q-ge-SANDBOXES
 same-length-3 c = search rules
@@ -170,12 +164,11 @@ same-length-4 c = search rules
 
 returns-3 : tie.Need-returns-then-q-ge-SANDBOXES
 returns-3 c =
-    let sounded = c.before.before.before in
+    let sounded = c.before.before in
     let start = behind_state sounded in
-    rw c.refuse-then-q-ge-SANDBOXES.ensures
-    (stepped-refused (image_in start) (world_in start) start.args.q NotOpen
+    stepped-refused (image_in start) (world_in start) start.args.q NotOpen
     (number-four (image_in start) (world_in start) start.args.q (a_call sounded.before.before) (passes sounded)
-    (omega (arith, c.if-q-ge-SANDBOXES.true))))
+    (omega (arith, c.if-q-ge-SANDBOXES.true)))
 
 cast-k : tie.Need-overflow_cast-k
 cast-k c = search rules
@@ -216,22 +209,31 @@ returns-4 c =
     let s = behind_row (rewound-row rewinds) in
     did.rewind_sandbox-rewound.ensures s.args.machine.sandboxes (unasked s) (stands-alone rewinds)
 
-answer-requires : tie.Need-answer-tried-requires
+answer-requires : tie.Need-answer-requires
 answer-requires c κs =
     let row = row_of c.before in
     (in-row row, (world_in (behind_row row), around row))
 
-same-length-7 : tie.Need-shape_of-pool-then-tried
+enum-known-answer : tie.Need-enum_known-answer
+enum-known-answer c = search rules
+
+same-length-7 : tie.Need-shape_of-pool-in-Some
 same-length-7 c = search rules
 
-same-length-8 : tie.Need-shape_of-table-then-tried
+same-length-8 : tie.Need-shape_of-table-in-Some
 same-length-8 c = search rules
 
-returns-5 : tie.Need-returns-then-tried
+returns-5 : tie.Need-returns-in-Some
 returns-5 c =
     let behind = c.before.before.before in
     let row = tried behind in
-    (behind.answer-tried.ensures (world_in (behind_row row)) (around row)).done c.if-tried.true
+    let s = behind_row row in
+    let left = with_pool behind.answer.new.pool (world_in s) in
+    subst (λ (r : Option Answer). IfSome r (λ a. Stepped (image_in s) (world_in s) s.args.q (record { answer = answered a; world = left }))) c.in-Some.is
+    (behind.answer.ensures (world_in s) (around row)).done
+
+enum-told : tie.Need-enum_told-1
+enum-told c = search rules
 
 put-together-requires : tie.Need-put_together-all-requires
 put-together-requires c κs = search rules
@@ -274,15 +276,12 @@ call_spec =
     tie.close
     (tie.spec
     is-call-requires
-    refuse-requires
     returns
     sound-requires
-    refuse-requires-2
     same_length
     same-length-2
     returns-2
     cast-if3
-    refuse-requires-3
     same-length-3
     same-length-4
     returns-3
@@ -296,9 +295,11 @@ call_spec =
     same-length-6
     returns-4
     answer-requires
+    enum-known-answer
     same-length-7
     same-length-8
     returns-5
+    enum-told
     put-together-requires
     act-requires
     mul-after

@@ -109,41 +109,29 @@ row14 c =
 not-mapped-requires : tie.Need-not_mapped-requires
 not-mapped-requires c κs = to-look-at c.before (past8 c.before).1.1
 
-refuse-requires : tie.Need-refuse-requires
-refuse-requires c κs = search rules
-
 returns : tie.Need-returns-then-not_mapped
 returns c =
-    let test = c.before.before in
+    let test = c.before in
     let s = at9 test in
-    refused (view s) (request s) s.args.b NotMapped c.refuse.result c.refuse.ensures
-    (past8 s) (sym (row9 test) ∙ c.if-not_mapped.true)
+    refused (view s) (request s) s.args.b NotMapped (past8 s) (sym (row9 test) ∙ c.if-not_mapped.true)
 
 already-mapped-requires : tie.Need-already_mapped-requires
 already-mapped-requires c κs = to-look-at (at9 c.before) (past9 c).1.1.1
 
-refuse-requires-2 : tie.Need-refuse-requires-then-already_mapped
-refuse-requires-2 c κs = search rules
-
 returns-2 : tie.Need-returns-then-already_mapped
 returns-2 c =
-    let test = c.before.before in
+    let test = c.before in
     let s = at10 test in
-    refused (view s) (request s) s.args.b AlreadyMapped c.refuse-then-already_mapped.result c.refuse-then-already_mapped.ensures
-    (past9 test.before) (sym (row10 test) ∙ c.if-already_mapped.true)
+    refused (view s) (request s) s.args.b AlreadyMapped (past9 test.before) (sym (row10 test) ∙ c.if-already_mapped.true)
 
 no-gap-requires : tie.Need-no_gap-requires
 no-gap-requires c κs = to-look-at (at10 c.before) (past10 c).1.1.1.1
 
-refuse-requires-3 : tie.Need-refuse-requires-then-no_gap
-refuse-requires-3 c κs = search rules
-
 returns-3 : tie.Need-returns-then-no_gap
 returns-3 c =
-    let test = c.before.before in
+    let test = c.before in
     let s = at11 test in
-    refused (view s) (request s) s.args.b NoGap c.refuse-then-no_gap.result c.refuse-then-no_gap.ensures
-    (past10 test.before) (sym (row11 test) ∙ c.if-no_gap.true)
+    refused (view s) (request s) s.args.b NoGap (past10 test.before) (sym (row11 test) ∙ c.if-no_gap.true)
 
 not-writable-requires : tie.Need-not_writable-requires
 not-writable-requires c κs =
@@ -151,41 +139,29 @@ not-writable-requires c κs =
     let ready-to = to-look-at s (past11 c).1.1.1.1.1 in
     (near-formed s.args.b.present ready-to.0, ready-to.1)
 
-refuse-requires-4 : tie.Need-refuse-requires-then-not_writable
-refuse-requires-4 c κs = search rules
-
 returns-4 : tie.Need-returns-then-not_writable
 returns-4 c =
-    let test = c.before.before in
+    let test = c.before in
     let s = at12 test in
-    refused (view s) (request s) s.args.b NotWritable c.refuse-then-not_writable.result c.refuse-then-not_writable.ensures
-    (past11 test.before) (sym (row12 test) ∙ c.if-not_writable.true)
+    refused (view s) (request s) s.args.b NotWritable (past11 test.before) (sym (row12 test) ∙ c.if-not_writable.true)
 
 share-exceeded-requires : tie.Need-share_exceeded-requires
 share-exceeded-requires c κs = let s = at12 c.before in (s.args.images, ready s)
 
-refuse-requires-5 : tie.Need-refuse-requires-then-share_exceeded
-refuse-requires-5 c κs = search rules
-
 returns-5 : tie.Need-returns-then-share_exceeded
 returns-5 c =
-    let test = c.before.before in
+    let test = c.before in
     let s = at13 test in
-    refused (view s) (request s) s.args.b ShareExceeded c.refuse-then-share_exceeded.result c.refuse-then-share_exceeded.ensures
-    (past12 test.before) (sym (row13 test) ∙ c.if-share_exceeded.true)
+    refused (view s) (request s) s.args.b ShareExceeded (past12 test.before) (sym (row13 test) ∙ c.if-share_exceeded.true)
 
 packed-after-requires : tie.Need-packed_after-packed-requires
 packed-after-requires c κs = let s = at13 c.before in ((s.args.images, ready s), (passed s (past13 c).1.1).fit)
 
-refuse-requires-6 : tie.Need-refuse-requires-then-not-packed
-refuse-requires-6 c κs = search rules
-
 returns-6 : tie.Need-returns-then-not-packed
 returns-6 c =
-    let test = c.before.before.before in
+    let test = c.before.before in
     let s = at14 test in
-    refused (view s) (request s) s.args.b TooManyAreas c.refuse-then-not-packed.result c.refuse-then-not-packed.ensures
-    (past13 test.before) (row14 test ∙ c.if-not-packed.true)
+    refused (view s) (request s) s.args.b TooManyAreas (past13 test.before) (row14 test ∙ c.if-not-packed.true)
 
 returns-7 : tie.Need-returns
 returns-7 c =
@@ -199,21 +175,15 @@ decide_pages_spec =
     tie.close
     (tie.spec
     not-mapped-requires
-    refuse-requires
     returns
     already-mapped-requires
-    refuse-requires-2
     returns-2
     no-gap-requires
-    refuse-requires-3
     returns-3
     not-writable-requires
-    refuse-requires-4
     returns-4
     share-exceeded-requires
-    refuse-requires-5
     returns-5
     packed-after-requires
-    refuse-requires-6
     returns-6
     returns-7)

@@ -76,16 +76,16 @@ print-answer-requires c κs =
     let print = to-print way.before in
     (print.0, (print.1, (refused way).small))
 
-loop-less : tie.Need-loop-i-smaller-in-Refused Inv-loop μ-loop
+loop-less : tie.Need-loop-i-smaller-in-Err Inv-loop μ-loop
 loop-less c = nearer c.before.before.before.before.before
 
-loop-again : tie.Need-loop-i-preserved-in-Refused Inv-loop μ-loop
+loop-again : tie.Need-loop-i-preserved-in-Err Inv-loop μ-loop
 loop-again c =
     let printed = c.before.before in
     let way = printed.before.before in
     go_on way.before _ _ _ _ _ (refused way) printed.print_answer.auto.out printed.print_answer.ensures
 
-enum-known-asked-2 : tie.Need-enum_known-asked-in-Call-1 Inv-loop μ-loop
+enum-known-asked-2 : tie.Need-enum_known-asked-in-Ok-1 Inv-loop μ-loop
 enum-known-asked-2 c = search rules
 
 cast-k : tie.Need-overflow_cast-k Inv-loop μ-loop
@@ -131,25 +131,31 @@ loop-again-2 c =
     let way = printed.before.before in
     go_on (asking (rewinding (rewound-at way).before)) _ _ _ _ _ (rewound way) printed.print_answer-then-q-eq-REWIND.auto.out printed.print_answer-then-q-eq-REWIND.ensures
 
-answer-requires : tie.Need-answer-tried-requires Inv-loop μ-loop
+answer-requires : tie.Need-answer-requires Inv-loop μ-loop
 answer-requires c κs =
     let told = c.before.before.before.before.before.before in
     ((calls told).low, (world_in (asking told), around told))
 
-print-answer-requires-3 : tie.Need-print_answer-requires-then-tried Inv-loop μ-loop
+enum-known-answer : tie.Need-enum_known-answer Inv-loop μ-loop
+enum-known-answer c = search rules
+
+print-answer-requires-3 : tie.Need-print_answer-requires-in-Some Inv-loop μ-loop
 print-answer-requires-3 c κs =
     let way = c.before in
     let print = to-print (asking (told_at way.before.before.before)) in
     (print.0, (print.1, (in_place way).small))
 
-loop-less-3 : tie.Need-loop-i-smaller-then-tried Inv-loop μ-loop
+loop-less-3 : tie.Need-loop-i-smaller-in-Some Inv-loop μ-loop
 loop-less-3 c = nearer (asking (told_at c.before.before.before.before.before.before.before))
 
-loop-again-3 : tie.Need-loop-i-preserved-then-tried Inv-loop μ-loop
+loop-again-3 : tie.Need-loop-i-preserved-in-Some Inv-loop μ-loop
 loop-again-3 c =
     let printed = c.before.before in
     let way = printed.before.before in
-    go_on (asking (told_at way.before.before.before)) _ _ _ _ _ (in_place way) printed.print_answer-then-tried.auto.out printed.print_answer-then-tried.ensures
+    go_on (asking (told_at way.before.before.before)) _ _ _ _ _ (in_place way) printed.print_answer-in-Some.auto.out printed.print_answer-in-Some.ensures
+
+enum-told : tie.Need-enum_told-1 Inv-loop μ-loop
+enum-told c = search rules
 
 put-together-requires : tie.Need-put_together-all-requires Inv-loop μ-loop
 put-together-requires c κs = search rules
@@ -195,17 +201,17 @@ act-requires c κs =
     let told = told_at (left_at found) in
     ((calls told).coded, ((left_at found).if-q-eq-REWIND.false, ((calls told).low, ((state_in (asking told)).sandboxes, stands found))))
 
-mul-after-2 : tie.Need-offset_bounds-playing-k-in-Call Inv-loop μ-loop
+mul-after-2 : tie.Need-offset_bounds-playing-k-in-Ok Inv-loop μ-loop
 mul-after-2 c = let low = (calls (told_at (left_at (acting (acted-at c).before)))).low in search rules
 
-element-set-from-after-2 : tie.Need-bounds-playing-k-in-Call Inv-loop μ-loop
+element-set-from-after-2 : tie.Need-bounds-playing-k-in-Ok Inv-loop μ-loop
 element-set-from-after-2 c =
     let told = told_at (left_at (acting (acted-at c).before)) in
     let low = (calls told).low in
     let all = four (asking told) in
     search rules
 
-print-answer-requires-5 : tie.Need-print_answer-requires-in-Call Inv-loop μ-loop
+print-answer-requires-5 : tie.Need-print_answer-requires-in-Ok Inv-loop μ-loop
 print-answer-requires-5 c κs =
     let way = c.before in
     let print = to-print (asking (told_at (left_at (acting (acted-at way).before)))) in
@@ -218,8 +224,8 @@ loop-again-5 : tie.Need-loop-i-preserved Inv-loop μ-loop
 loop-again-5 c =
     let printed = c.before.before in
     let way = printed.before.before in
-    go_on (asking (told_at (left_at (acting (acted-at way).before)))) _ _ _ _ _ (acted way) printed.print_answer-in-Call.auto.out
-    printed.print_answer-in-Call.ensures
+    go_on (asking (told_at (left_at (acting (acted-at way).before)))) _ _ _ _ _ (acted way) printed.print_answer-in-Ok.auto.out
+    printed.print_answer-in-Ok.ensures
 
 same_length : tie.Need-shape_of-pool Inv-loop μ-loop
 same_length c = search rules
@@ -270,9 +276,11 @@ reply_lines_spec =
     loop-less-2
     loop-again-2
     answer-requires
+    enum-known-answer
     print-answer-requires-3
     loop-less-3
     loop-again-3
+    enum-told
     put-together-requires
     write-requires
     mul-t71

@@ -16,7 +16,7 @@ use Rattle.rewound_store.proofs.RunLaws.{rewind-kept-as, rewind-more}
 use Rattle.page_restore.specs.Differs.{page_differs}
 use Rattle.restoring.specs.Restored.{RestoredTo}
 use Rattle.restoring.proofs.BackedLaws.{none-restored}
-use Rattle.restoring.proofs.ChangedLaws.{one-small, changed-few, changed-more}
+use Rattle.restoring.proofs.ChangedLaws.{byte-one, one-small, changed-few, changed-more}
 use Rattle.restoring.proofs.restore_each.Statement.{statement}
 use Rattle.restoring.proofs.restore_each.Tie as tie
 
@@ -53,8 +53,8 @@ restore-page-requires c κs =
     let s = behind turn.before in
     (omega (arith, s.requires.0, turn.loop-i-test.true), (l.invariant.2, rw c.advanced.ensures (s.requires.1.1.0.there l.i turn.loop-i-test.true)))
 
-counted-requires : tie.Need-counted-changed-requires invariant-loop decreases-loop
-counted-requires c κs = search rules
+from-requires : tie.Need-from-changed-requires invariant-loop decreases-loop
+from-requires c κs = search rules
 
 add-changed : tie.Need-overflow_add-changed invariant-loop decreases-loop
 add-changed c =
@@ -68,7 +68,7 @@ add-changed c =
       (l.invariant.3 none_held).told,
       few,
       one-small c.restore_page-differed.result,
-      c.counted-changed.ensures,
+      c.from-changed.ensures ∙ byte-one c.restore_page-differed.result,
       turn.loop-i-test.true,
       s.requires.1.1.1,
     )
@@ -102,7 +102,7 @@ loop-again c =
       k.ranged,
       λ h. let U = l.invariant.3 h in record {
         left = rewind-more image a.at (λ k. true) (advance a.backing) _ l.i (r h) (q h) U.left (e h);
-        told = rw c.counted-changed.ensures
+        told = rw (c.from-changed.ensures, byte-one page.restore_page-differed.result)
             (changed-more image a.at (λ k. true) (advance a.backing) _ l.i (r h) l.changed page.restore_page-differed.result
             refl U.left U.told (d h));
       },
@@ -128,7 +128,7 @@ restore_each_spec =
     add-restore-page
     advanced-requires
     restore-page-requires
-    counted-requires
+    from-requires
     add-changed
     add-i
     loop-less

@@ -18,8 +18,8 @@ use Rattle.state.specs.World.{World, frames_of}
 use Rattle.totals.specs.declared.together.Together.{Together}
 use Rattle.rules.specs.After.{packed_after, taken_after, snapshot_after, record_after}
 use Rattle.rules.specs.Ready.{Ready}
-use Rattle.page_decision.specs.declared.Verdict.TheVariants.{Accepted}
-use Rattle.page_decision.specs.Decision.{verdict_number}
+use Rattle.std.specs.Prelude.{Ok}
+use Rattle.interface.specs.Answers.{number_of}
 use Rattle.few_rows.specs.Decided.{names_no_page}
 use Rattle.memory.specs.Parts.{LeftBy}
 use Rattle.memory.proofs.MemoryLaws.{stepped-none, rewound}
@@ -65,19 +65,19 @@ record-rewound q r e o =
 abbrev start : tie.After-rec-1 → tie.Start
 start c = c.before.before.before.before
 
-abbrev decided : tie.After-decide-verdict → tie.Start
+abbrev decided : tie.After-decide → tie.Start
 decided c = start c.before
 
-number-here : (c : tie.After-decide-verdict) (all : Together) (row : List Sandbox) → Row (decided c) all row
-    → let s = decided c in verdict_number c.decide-verdict.result ≡ number_at s.args.image.now (world_from row (store_in s)) s.args.q
+number-here : (c : tie.After-decide) (all : Together) (row : List Sandbox) → Row (decided c) all row
+    → let s = decided c in number_of c.decide.result ≡ number_at s.args.image.now (world_from row (store_in s)) s.args.q
 number-here c all row a =
     let s = decided c in
-    c.decide-verdict.ensures (frames_of (world_from row (store_in s))) all.shares
+    c.decide.ensures (frames_of (world_from row (store_in s))) all.shares
     ∙ own-number s.args.image.now s.args.q s.args.b all (store_in s) row a
 
-accepted-here : (c : tie.After-decide-verdict) → c.decide-verdict.result ≡ Accepted → (all : Together) (row : List Sandbox) → Row (decided c) all row
+accepted-here : (c : tie.After-decide) → c.decide.result ≡ Ok tt → (all : Together) (row : List Sandbox) → Row (decided c) all row
     → let s = decided c in number_at s.args.image.now (world_from row (store_in s)) s.args.q ≡ 0
-accepted-here c e all row a = sym (number-here c all row a) ∙ ap verdict_number e
+accepted-here c e all row a = sym (number-here c all row a) ∙ ap number_of e
 
 -- an accepted rewind is of an open sandbox
 opened-here : (s : tie.Start) (all : Together) (row : List Sandbox) → Row s all row
@@ -97,10 +97,10 @@ ranged s = filed-ranged 256 (pages_in (length s.args.pool.now)) (store_in s) (fi
 
 -- ---- where the runs are gathered
 
-abbrev told_at : tie.After-gathered-arg-1 → tie.In-Accepted
-told_at c = c.before.before.before.before
+abbrev told_at : tie.After-gathered-arg-in-Ok-1 → tie.In-Ok
+told_at c = c.before.before.before
 
-abbrev gathering : tie.After-gathered-arg-1 → tie.Start
+abbrev gathering : tie.After-gathered-arg-in-Ok-1 → tie.Start
 gathering c = decided (told_at c).before
 
 -- ---- the needs
@@ -110,11 +110,11 @@ cast-images c =
     let s = start c in
     omega (arith, (sound-here s.args.image.now s.args.q s.args.b (all s) (store_in s) (there s) (its s)).images)
 
-decide-requires : tie.Need-decide-verdict-requires
+decide-requires : tie.Need-decide-requires
 decide-requires c κs = let s = start c in (unpaged s.args.q s.requires.0, (s.requires.1.0, own s))
 
-enum-known-verdict : tie.Need-enum_known-verdict
-enum-known-verdict c = search rules
+enum-known-why : tie.Need-enum_known-why
+enum-known-why c = search rules
 
 enum_told : tie.Need-enum_told-1
 enum_told c = search rules
@@ -136,15 +136,15 @@ rewind-requires c κs =
 with-present-requires : tie.Need-with_present-after-requires
 with-present-requires c κs = search rules
 
-cast-t30 : tie.Need-overflow_cast-result
-cast-t30 c = search rules
+from-requires : tie.Need-from-requires
+from-requires c κs = search rules
 
-returns : tie.Need-returns-in-Refused
+returns : tie.Need-returns-in-Err
 returns c row all a =
     let deciding = c.before in
     let s = decided deciding in
-    acted-refused s.args.image.now s.args.q s.args.b all (store_in s) row a c.in-Refused.why
-    (ap verdict_number (sym c.in-Refused.is) ∙ number-here deciding all row a)
+    acted-refused s.args.image.now s.args.q s.args.b all (store_in s) row a c.in-Err.why
+    (ap number_of (sym c.in-Err.is) ∙ number-here deciding all row a)
 
 same_length : tie.Need-shape_of-pool
 same_length c = search rules
@@ -152,28 +152,25 @@ same_length c = search rules
 same-length-2 : tie.Need-shape_of-table
 same-length-2 c = search rules
 
-returns-2 : tie.Need-returns-in-Accepted
+returns-2 : tie.Need-returns-in-Ok
 returns-2 c row all a =
     let restored = c.before.before.before.before.before.before in
-    let found = restored.before.before.before in
+    let found = restored.before.before.before.before.before in
     let told = told_at found.before in
     let s = gathering found.before in
     let image = s.args.image.now in
     let q = s.args.q in
     let e = s.requires.0 in
     let w : World = world_from row (store_in s) in
-    let n = accepted-here told.before told.in-Accepted.is all row a in
+    let n = accepted-here told.before told.in-Ok.is all row a in
     let after : Store = kept restored.rewind-restored.result.held restored.rewind-restored.new.pool restored.rewind-restored.new.table in
-    acted-accepted image q s.args.b all (store_in s) row a restored.rewind-restored.result.changed _ after found.gathered-left.result n
-    (rewind-value image q s.args.b (store_in s) _ e restored.rewind-restored.ensures.1)
+    acted-accepted image q s.args.b all (store_in s) row a c.from.result _ after found.gathered-left.result n
+    (c.from.ensures ∙ rewind-value image q s.args.b (store_in s) _ e restored.rewind-restored.ensures.1)
     (c.with_present-after.ensures ∙ record-rewound q s.args.b.rec e (opened-here s all row a n))
     (stepped-none image q w after found.gathered-left.result (rw e)
     (subst (λ (x : Sandbox). LeftBy image q x (store_in s) after found.gathered-left.result) a.handed.own
     (rewound image q s.args.b (store_in s) after found.gathered-left.result e restored.rewind-restored.ensures.0
     (found.gathered-left.ensures s.args.held s.args.pool.now))))
-
-by-rules-overflow_cast-result : tie.Need-overflow_cast-result
-by-rules-overflow_cast-result c = search rules
 
 pub rewind_sandbox_spec : {M : Type 1} → statement M
 rewind_sandbox_spec =
@@ -181,13 +178,13 @@ rewind_sandbox_spec =
     (tie.spec
     cast-images
     decide-requires
-    enum-known-verdict
+    enum-known-why
     enum_told
     cast-s
     gathered-requires
     rewind-requires
     with-present-requires
-    by-rules-overflow_cast-result
+    from-requires
     returns
     same_length
     same-length-2

@@ -38,7 +38,7 @@ room-front : (c : tie.After-front-front) → c.front-front.result * 256 ≤ leng
 room-front c = let s = fronted c in omega (arith, c.front-front.ensures, s.requires.1.room (front_at s.args.page))
 
 abbrev bare : tie.After-back_if-under → tie.After-front-front
-bare c = c.before.before.before
+bare c = c.before.before.before.before
 
 abbrev behind : tie.After-back_if-under → tie.Start
 behind c = fronted (bare c)

@@ -1,9 +1,10 @@
 -- Ways of a line that is not answered in place: it is a write, which is known not to be refused and takes a frame, or its sandbox is acted on. Either way a
 -- sandbox is put back.
-use mathlib.Core.Path.{◌≡◌, ap, ◌∙◌}
+use mathlib.Core.Path.{◌≡◌, ap, subst, ◌∙◌}
 use native.Mathlib.Omega.{arith}
 use lib.ListN.{length}
-use Rattle.interface.specs.declared.answer.Answer.TheVariants.{Value}
+use Rattle.std.specs.Prelude.{Ok, Option, IfNone}
+use Rattle.interface.specs.Answers.{Answer}
 use Rattle.interface.specs.Requests.{write_code}
 use Rattle.table.specs.Store.{kept}
 use Rattle.step.specs.Step.{number_at}
@@ -16,17 +17,18 @@ use Rattle.replying.proofs.reply_lines.Proof.Ways.{image_in, state_in, pool_in, 
 use Rattle.replying.proofs.reply_lines.Proof.Ways.{passes, own, around, with_one, put-back, told_at}
 
 -- what the four sandboxes have together was put together behind a call that was left, and the pool is as it was
-abbrev pub left_at : tie.After-put_together-all Inv-loop μ-loop → tie.After-answer-tried Inv-loop μ-loop
+abbrev pub left_at : tie.After-put_together-all Inv-loop μ-loop → tie.After-answer Inv-loop μ-loop
 left_at c = c.before.before.before.before.before
 
-pool-stays : (c : tie.After-put_together-all Inv-loop μ-loop) → (left_at c).answer-tried.new.pool ≡ pool_in (asking (told_at (left_at c)))
+pool-stays : (c : tie.After-put_together-all Inv-loop μ-loop) → (left_at c).answer.new.pool ≡ pool_in (asking (told_at (left_at c)))
 pool-stays c =
     let behind = left_at c in
     let told = told_at behind in
-    (behind.answer-tried.ensures (world_in (asking told)) (around told)).left c.if-tried.false
+    let s = asking told in
+    subst (λ (r : Option Answer). IfNone r (behind.answer.new.pool ≡ pool_in s)) c.in_default.is (behind.answer.ensures (world_in s) (around told)).left
 
 pub stands : (c : tie.After-put_together-all Inv-loop μ-loop) → let told = told_at (left_at c) in let s = asking told in let all = c.put_together-all.result in
-    Stands (image_in s) (asked told) (own told) all (kept all.held (left_at c).answer-tried.new.pool (table_in s)) (state_in s).sandboxes
+    Stands (image_in s) (asked told) (own told) all (kept all.held (left_at c).answer.new.pool (table_in s)) (state_in s).sandboxes
 stands c =
     let told = told_at (left_at c) in
     let s = asking told in
@@ -45,7 +47,7 @@ pub unrefused : (c : tie.After-write-arg-then-q-eq-WRITE-1 Inv-loop μ-loop) →
     let found = writing c in
     let s = asking (told_at (left_at found)) in
     let all = found.put_together-all.result in
-    number_at (image_in s) (world_from (state_in s).sandboxes (kept all.held (left_at found).answer-tried.new.pool (table_in s))) (asked (told_at (left_at found)))
+    number_at (image_in s) (world_from (state_in s).sandboxes (kept all.held (left_at found).answer.new.pool (table_in s))) (asked (told_at (left_at found)))
     ≡ 0
 unrefused c =
     let found = writing c in
@@ -54,7 +56,8 @@ unrefused c =
     let s = asking told in
     not-refused (image_in s) (asked told) (machine_in s) (pool_in s) _ (table_in s) found.put_together-all.result found.put_together-all.ensures.0
     (pool-stays found)
-    ((behind.answer-tried.ensures (world_in (asking told)) (around told)).accepted found.if-tried.false (writes c))
+    (subst (λ (r : Option Answer). IfNone r ((asked told).code ≡ write_code → number_at (image_in s) (world_in s) (asked told) ≡ 0)) found.in_default.is
+    (behind.answer.ensures (world_in s) (around told)).accepted (writes c))
 
 abbrev pub written_at : tie.After-marks-then-q-eq-WRITE-1 Inv-loop μ-loop → tie.After-write-left Inv-loop μ-loop
 written_at c = c.before.before.before.before.before.before.before
@@ -64,17 +67,17 @@ pub written : (c : tie.After-marks-then-q-eq-WRITE-1 Inv-loop μ-loop) →
     let told = told_at (left_at (writing did.before)) in
     let s = asking told in
     Answers s did.write-left.new.pool did.write-left.new.table
-    (with_one (state_in s) (asked told).sandbox (record { rec = (own told).rec; runs = did.write-left.result.runs }) did.write-left.result.held) (Value 0)
+    (with_one (state_in s) (asked told).sandbox (record { rec = (own told).rec; runs = did.write-left.result.runs }) did.write-left.result.held) (Ok 0)
 written c =
     let did = written_at c in
     let found = writing did.before in
     let told = told_at (left_at found) in
     let s = asking told in
     let all = found.put_together-all.result in
-    let st = kept all.held (left_at found).answer-tried.new.pool (table_in s) in
+    let st = kept all.held (left_at found).answer.new.pool (table_in s) in
     let row = (state_in s).sandboxes in
     let n = unrefused did.before in
-    put-back told _ _ (record { rec = (own told).rec; runs = did.write-left.result.runs }) did.write-left.result.held (Value 0)
+    put-back told _ _ (record { rec = (own told).rec; runs = did.write-left.result.runs }) did.write-left.result.held (Ok 0)
     (stepped-back (image_in s) (asked told) (machine_in s) (pool_in s) _ (table_in s) all found.put_together-all.ensures.0 (pool-stays found) _
     (acted-write (image_in s) (asked told) (own told) all st row (stands found) (writes did.before) n _ did.write-left.result.runs
     (did.write-left.ensures row (own-asked (image_in s) (asked told) (own told) all st row (stands found) n))))
@@ -82,13 +85,13 @@ written c =
     (λ j. omega (arith, c.slice_known-then-q-eq-WRITE-1.given j))
 
 -- acted on, and put back
-abbrev pub acting : tie.After-act-arg-in-Call-1 Inv-loop μ-loop → tie.After-put_together-all Inv-loop μ-loop
+abbrev pub acting : tie.After-act-arg-in-Ok-1 Inv-loop μ-loop → tie.After-put_together-all Inv-loop μ-loop
 acting c = c.before.before.before.before
 
-abbrev pub acted-at : tie.After-marks-in-Call-1 Inv-loop μ-loop → tie.After-act-acted Inv-loop μ-loop
+abbrev pub acted-at : tie.After-marks-in-Ok-1 Inv-loop μ-loop → tie.After-act-acted Inv-loop μ-loop
 acted-at c = c.before.before.before.before.before.before
 
-pub acted : (c : tie.After-marks-in-Call-1 Inv-loop μ-loop) →
+pub acted : (c : tie.After-marks-in-Ok-1 Inv-loop μ-loop) →
     let did = acted-at c in
     let told = told_at (left_at (acting did.before)) in
     let s = asking told in
@@ -103,4 +106,4 @@ acted c =
     (stepped-back (image_in s) (asked told) (machine_in s) (pool_in s) _ (table_in s) found.put_together-all.result
     found.put_together-all.ensures.0 (pool-stays found) _ (did.act-acted.ensures (state_in s).sandboxes (stands found)))
     (did.act-acted.auto.pool ∙ ap length (pool-stays found)) did.act-acted.auto.table
-    (λ j. omega (arith, c.slice_known-in-Call-2-1.given j))
+    (λ j. omega (arith, c.slice_known-in-Ok-2-1.given j))

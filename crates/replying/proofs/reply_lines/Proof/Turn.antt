@@ -5,7 +5,7 @@ use Prim.Native.Nat.{ℕ, ◌+◌, ◌-◌, ◌*◌, ◌/◌, ◌≤◌, ◌<◌
 use native.Mathlib.Omega.{arith}
 use lib.ListN.{length, take, drop}
 use Rattle.basics.proofs.TestLaws.{length-mapped}
-use Rattle.interface.specs.declared.answer.Answer.{Answer}
+use Rattle.interface.specs.Answers.{Answer}
 use Rattle.interface.specs.Answers.{answered, number_of, value_of}
 use Rattle.columns.specs.Prints.{printed_reply}
 use Rattle.roll.specs.Known.{Known}

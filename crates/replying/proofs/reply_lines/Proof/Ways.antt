@@ -6,8 +6,8 @@ use mathlib.Core.Bool.{true}
 use Prim.Native.Nat.{ℕ, ◌≤◌, ◌<◌}
 use native.Mathlib.Omega.{arith}
 use lib.ListN.{length, get_or, set, length-set}
-use Rattle.interface.specs.declared.answer.Answer.{Answer}
-use Rattle.interface.specs.declared.answer.Answer.TheVariants.{Refused}
+use Rattle.interface.specs.Answers.{Answer}
+use Rattle.std.specs.Prelude.{Err, Option, IfSome}
 use Rattle.interface.specs.declared.request.Request.{Request}
 use Rattle.interface.specs.Answers.{answered, value_of}
 use Rattle.lines.specs.declared.Line.{Line}
@@ -24,7 +24,7 @@ use Rattle.memory.proofs.MemoryLaws.{read-own}
 use Rattle.step.specs.Step.{Stepped}
 use Rattle.step.specs.Acted.{Stands}
 use Rattle.step.proofs.ActedLaws.{standing}
-use Rattle.in_place.specs.InPlace.{Around}
+use Rattle.in_place.specs.InPlace.{Around, with_pool}
 use Rattle.roll.specs.Known.{Known}
 use Rattle.roll.specs.Play.{Turned}
 use Rattle.roll.proofs.KnownLaws.{known_is}
@@ -90,26 +90,26 @@ pub record Answers (s : AfterAsk) (pool table : List ℕ) (p : Playing) (a : Ans
   pub bytes : (j : ℕ) → get_or pool j 0 < 256
 
 -- a call on one of the four sandboxes
-abbrev pub asking : tie.In-Call Inv-loop μ-loop → AfterAsk
+abbrev pub asking : tie.In-Ok Inv-loop μ-loop → AfterAsk
 asking c = c.before
 
-abbrev pub asked : tie.In-Call Inv-loop μ-loop → Request
-asked c = c.in-Call.q
+abbrev pub asked : tie.In-Ok Inv-loop μ-loop → Request
+asked c = c.in-Ok.q
 
-pub calls : (c : tie.In-Call Inv-loop μ-loop) → Calls (state_in (asking c)).sound (line_of (asking c)) (asked c)
+pub calls : (c : tie.In-Ok Inv-loop μ-loop) → Calls (state_in (asking c)).sound (line_of (asking c)) (asked c)
 calls c =
     let s = asking c in
-    call_line (state_in s).sound (line_of s) (asked c) (sym c.in-Call.is ∙ c.ask-asked.ensures)
+    call_line (state_in s).sound (line_of s) (asked c) (sym c.in-Ok.is ∙ c.ask-asked.ensures)
 
-pub passes : (c : tie.In-Call Inv-loop μ-loop) → soundb (image_in (asking c)) (world_in (asking c)) ≡ true
+pub passes : (c : tie.In-Ok Inv-loop μ-loop) → soundb (image_in (asking c)) (world_in (asking c)) ≡ true
 passes c =
     let s = asking c in
     sym (known_is (state_in s).sound (image_in s) (world_in s) (known s)) ∙ (calls c).known
 
-abbrev pub own : tie.In-Call Inv-loop μ-loop → Sandbox
+abbrev pub own : tie.In-Ok Inv-loop μ-loop → Sandbox
 own c = get_or (state_in (asking c)).sandboxes (asked c).sandbox zero_sandbox
 
-pub around : (c : tie.In-Call Inv-loop μ-loop) → let s = asking c in
+pub around : (c : tie.In-Ok Inv-loop μ-loop) → let s = asking c in
     Around (image_in s) (asked c) (own c) (pool_in s) (table_in s) (world_in s)
 around c =
     let s = asking c in record {
@@ -120,7 +120,7 @@ around c =
     }
 
 -- a step of the request is a turn of the line, and its value is small
-of-step : (c : tie.In-Call Inv-loop μ-loop) (pool table : List ℕ) (p : Playing) (a : Answer) → let s = asking c in
+of-step : (c : tie.In-Ok Inv-loop μ-loop) (pool table : List ℕ) (p : Playing) (a : Answer) → let s = asking c in
     Stepped (image_in s) (world_in s) (asked c) (record { answer = answered a; world = played_by p pool table })
     → length pool ≡ length (pool_in s) → length table ≡ length (table_in s)
     → p.first ≡ (state_in s).first → p.sound ≡ (state_in s).sound → length p.sandboxes ≡ 4
@@ -146,7 +146,7 @@ abbrev pub with_one : Playing → ℕ → Sandbox → Held → Playing
 with_one p k b marks =
     record { sandboxes = set p.sandboxes k b; held = marks; sound = p.sound; first = p.first; answered = p.answered }
 
-pub put-back : (c : tie.In-Call Inv-loop μ-loop) (pool table : List ℕ) (b : Sandbox) (marks : Held) (a : Answer) → let s = asking c in
+pub put-back : (c : tie.In-Ok Inv-loop μ-loop) (pool table : List ℕ) (b : Sandbox) (marks : Held) (a : Answer) → let s = asking c in
     Stepped (image_in s) (world_in s) (asked c)
     (record { answer = answered a; world = played_by (with_one (state_in s) (asked c).sandbox b marks) pool table })
     → length pool ≡ length (pool_in s) → length table ≡ length (table_in s)
@@ -160,7 +160,7 @@ put-back c pool table b marks a t lp lt bytes =
 abbrev pub rewound-at : tie.After-marks-1 Inv-loop μ-loop → tie.After-rewind_sandbox-rewound Inv-loop μ-loop
 rewound-at c = c.before.before.before.before.before.before
 
-abbrev pub rewinding : tie.After-rewind_sandbox-arg-then-q-eq-REWIND-1 Inv-loop μ-loop → tie.In-Call Inv-loop μ-loop
+abbrev pub rewinding : tie.After-rewind_sandbox-arg-then-q-eq-REWIND-1 Inv-loop μ-loop → tie.In-Ok Inv-loop μ-loop
 rewinding c = c.before.before.before.before.before.before.before
 
 -- what is told of the other sandboxes does not matter
@@ -192,27 +192,29 @@ rewound c =
     (λ j. omega (arith, c.slice_known-then-q-eq-REWIND-1.given j))
 
 -- answered in place
-abbrev pub told_at : tie.After-answer-tried Inv-loop μ-loop → tie.In-Call Inv-loop μ-loop
+abbrev pub told_at : tie.After-answer Inv-loop μ-loop → tie.In-Ok Inv-loop μ-loop
 told_at c = c.before.before.before.before.before.before.before
 
-pub in_place : (c : tie.Then-tried Inv-loop μ-loop) → let behind = c.before.before.before in let s = asking (told_at behind) in
-    Answers s behind.answer-tried.new.pool (table_in s) (state_in s) behind.answer-tried.result.answer
+pub in_place : (c : tie.In-Some Inv-loop μ-loop) → let behind = c.before.before.before in let s = asking (told_at behind) in
+    Answers s behind.answer.new.pool (table_in s) (state_in s) c.in-Some.answer
 in_place c =
     let behind = c.before.before.before in
     let told = told_at behind in
     let s = asking told in
-    of-step told _ _ (state_in s) behind.answer-tried.result.answer
-    ((behind.answer-tried.ensures (world_in s) (around told)).done c.if-tried.true) behind.answer-tried.auto.pool refl refl refl (four s)
-    (λ j. omega (arith, c.slice_known-in-Call-1.given j))
+    let left = with_pool behind.answer.new.pool (world_in s) in
+    of-step told _ _ (state_in s) c.in-Some.answer
+    (subst (λ (r : Option Answer). IfSome r (λ a. Stepped (image_in s) (world_in s) (asked told) (record { answer = answered a; world = left })))
+    c.in-Some.is (behind.answer.ensures (world_in s) (around told)).done) behind.answer.auto.pool refl refl refl (four s)
+    (λ j. omega (arith, c.slice_known-in-Ok-1.given j))
 
 -- refused without a look at a sandbox
-pub refused : (c : tie.In-Refused Inv-loop μ-loop) → let s = c.before in
-    Answers s (pool_in s) (table_in s) (state_in s) (Refused c.in-Refused.why)
+pub refused : (c : tie.In-Err Inv-loop μ-loop) → let s = c.before in
+    Answers s (pool_in s) (table_in s) (state_in s) (Err c.in-Err.why)
 refused c =
     let s = c.before in
     record {
-      turned = refused-line (image_in s) (world_in s) (state_in s).sound (known s) (line_of s) c.in-Refused.why
-          (sym c.in-Refused.is ∙ c.ask-asked.ensures);
+      turned = refused-line (image_in s) (world_in s) (state_in s).sound (known s) (line_of s) c.in-Err.why
+          (sym c.in-Err.is ∙ c.ask-asked.ensures);
       pool_kept = refl;
       table_kept = refl;
       small = omega arith;

@@ -1,2 +1,0 @@
--- The one file.
-pub mod RoomLaws

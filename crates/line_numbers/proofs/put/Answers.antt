@@ -1,0 +1,12 @@
+-- What is put is the numbers of the line, by which of the two forms it has.
+use Rattle.std.proofs.Common.{replicate, ap, ◌∙◌}
+use Rattle.line_numbers.specs.Numbers.{numbers_of}
+use Rattle.line_numbers.proofs.put.Goals as goal
+
+pub returns-in-Call : goal.returns-in-Call
+unfolding numbers_of
+returns-in-Call c = rw c.in-Call.is c.copy_from_slice.ensures.after
+
+pub returns-in-Malformed : goal.returns-in-Malformed
+unfolding numbers_of
+returns-in-Malformed c = rw c.in-Malformed.is (c.fill.ensures.after (λ y e. e) ∙ ap (λ n. replicate n 0) c.requires)
