@@ -8,7 +8,8 @@ ghost use Rattle.columns.specs.Fields.{with_digit, columns_read, field_of};
 
 use columns::{RADIX, as_field};
 
-// The digits from the first column that is no blank. It is not the last, and so has no 0.
+// The digits from the first column that is no blank. It is not the last, and so has no 0. Compiled into `read_field` (numerals), its one caller.
+#[inline(always)]
 pub fn digits_from(part: &[u8], first: usize) -> Option<u16>
     requires part_len { (length part.now ≡ 6) × (0 < first) × (first < 5) }
     requires first_value { (columns_read part.now first ≡ Some 0) × (slice_index part.now first ≢ 32) }
@@ -24,7 +25,8 @@ pub fn digits_from(part: &[u8], first: usize) -> Option<u16>
     Some(n)
 }
 
-// A number with one more column, which has a digit.
+// A number with one more column, which has a digit. Compiled into its callers: before the first digit there is no limit to look at.
+#[inline(always)]
 pub fn with_digit(n: u16, byte: u8) -> Option<u16>
     ensures { result ≡ with_digit (Some n) byte }
 {

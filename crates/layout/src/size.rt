@@ -1,9 +1,10 @@
 // How many bytes each part of the layout has, and where it stands: the numbers of specs/Layout, under the same names.
-// The three types have no value: each gives its constants one name, `Size::AREA`.
+// Each of the three types only gives its constants one name, `Size::AREA`.
 use areas::area::Area;
 use runs::Runs;
 use state::sandbox::Machine;
 
+#[derive(Clone, Copy)]
 pub struct Size;
 
 impl Size {
@@ -27,6 +28,7 @@ impl Size {
 }
 
 // Where the held marks stand in the bytes of a state, and the parts of a sandbox in its own.
+#[derive(Clone, Copy)]
 pub struct At;
 
 impl At {
@@ -46,6 +48,7 @@ impl At {
 }
 
 // Where each byte of an area stands.
+#[derive(Clone, Copy)]
 pub struct AreaAt;
 
 impl AreaAt {

@@ -3,7 +3,7 @@ use Prim.Native.Nat.{ℕ, ◌+◌, ◌-◌, ◌*◌}
 use mathlib.Core.Path.{◌≡◌, refl, sym, ap, ◌∙◌}
 use mathlib.Core.List.{List, [], ◌∷◌, ◌++◌}
 use native.Mathlib.Omega.{arith}
-use lib.ListN.{length, get_or, take, drop}
+use lib.ListN.{length, get_or, set, take, drop}
 use lib.Seq.{get_or-append-add, drop-drop}
 use Rattle.lines.specs.declared.Line.{Line}
 use Rattle.lines.specs.declared.Line.TheVariants.{Call, Malformed}
@@ -41,6 +41,23 @@ numbers-back front rest k (Call q) h =
 numbers-back front rest k Malformed h =
     let more : List ℕ = numbers_of Malformed ++ rest in
     rw (at_first front more k h) refl
+
+-- eight numbers stored one after the other are the list, where it has room for them alone
+module _ (a b c d e f g h : ℕ) where
+  abbrev stored : List ℕ → List ℕ
+  stored l = set (set (set (set (set (set (set (set l 0 a) 1 b) 2 c) 3 d) 4 e) 5 f) 6 g) 7 h
+
+  pub eight-stored : (l : List ℕ) → length l ≡ 8 → stored l ≡ a ∷ b ∷ c ∷ d ∷ e ∷ f ∷ g ∷ h ∷ []
+  eight-stored [] n = absurd (omega arith)
+  eight-stored (x₀ ∷ []) n = absurd (omega arith)
+  eight-stored (x₀ ∷ x₁ ∷ []) n = absurd (omega arith)
+  eight-stored (x₀ ∷ x₁ ∷ x₂ ∷ []) n = absurd (omega arith)
+  eight-stored (x₀ ∷ x₁ ∷ x₂ ∷ x₃ ∷ []) n = absurd (omega arith)
+  eight-stored (x₀ ∷ x₁ ∷ x₂ ∷ x₃ ∷ x₄ ∷ []) n = absurd (omega arith)
+  eight-stored (x₀ ∷ x₁ ∷ x₂ ∷ x₃ ∷ x₄ ∷ x₅ ∷ []) n = absurd (omega arith)
+  eight-stored (x₀ ∷ x₁ ∷ x₂ ∷ x₃ ∷ x₄ ∷ x₅ ∷ x₆ ∷ []) n = absurd (omega arith)
+  eight-stored (x₀ ∷ x₁ ∷ x₂ ∷ x₃ ∷ x₄ ∷ x₅ ∷ x₆ ∷ x₇ ∷ []) n = refl
+  eight-stored (x₀ ∷ x₁ ∷ x₂ ∷ x₃ ∷ x₄ ∷ x₅ ∷ x₆ ∷ x₇ ∷ x₈ ∷ more) n = absurd (omega arith)
 
 -- a part of eight numbers that comes back is where it was
 pub part-is : (xs ys : List ℕ) (at : ℕ) → take at xs ++ (ys ++ drop (at + 8 - at) (drop at xs)) ≡ take at xs ++ (ys ++ drop (at + 8) xs)

@@ -31,9 +31,17 @@ fn put(part: &mut [u16], line: Line)
     ensures { part.new ≡ numbers_of line }
 {
     match line {
-        Line::Call(q) => part.copy_from_slice(&[
-            1, q.code, q.sandbox, q.p1, q.p2, q.p3, q.p4, q.p5,
-        ]),
+        // By place: `copy_from_slice` puts the eight on the stack first, and with it a line misses a bar of speed (docs/DESIGN-PASS.md, 'Speed').
+        Line::Call(q) => {
+            part[0] = 1;
+            part[1] = q.code;
+            part[2] = q.sandbox;
+            part[3] = q.p1;
+            part[4] = q.p2;
+            part[5] = q.p3;
+            part[6] = q.p4;
+            part[7] = q.p5;
+        }
         Line::Malformed => part.fill(0),
     }
 }

@@ -9,7 +9,9 @@ ghost use Rattle.columns.specs.Fields.{field_of};
 use columns::LAST_COLUMN;
 use digits::{digits_from, with_digit};
 
-// Reads 6 columns: they are passed over to the first that is no blank, and from there on digits are read.
+// Reads 6 columns: they are passed over to the first that is no blank, and from there on digits are read. It is compiled apart
+// from `field_at` (line_fields), which is compiled into its callers.
+#[inline(never)]
 pub fn read_field(part: &[u8]) -> Option<u16>
     requires { length part.now ≡ 6 }
     ensures { result ≡ field_of part.now }

@@ -118,15 +118,19 @@ module _ (v : View) (q : Request) where
   -- ---- decisions
 
   module _ (b : Record) where
-    -- the first row that applies is answered
+    -- the first row that applies is answered, and no areas
     pub refused : (why : Refusal) → Behind why → applies v q why ≡ true → Decided v q b (Err why)
     unfolding refusal
-    refused why p e = record { number = sym (lowest-applies (applies v q) why p e); areas = tt }
+    refused why p e =
+        let number = lowest-applies (applies v q) why p e in
+        record { number = sym number; areas = tt; left = rw (number, some_number why) }
 
     -- none applies
     pub accepted : (p : Packed) → p ≡ packed_after q b → Behind OutputTooShort → Decided v q b (Ok p.areas)
     unfolding refusal applies
-    accepted p told none = record { number = sym (from-here (applies v q) OutputTooShort none); areas = ap (λ x. x.areas) told }
+    accepted p told none =
+        let number = from-here (applies v q) OutputTooShort none in
+        record { number = sym number; areas = ap (λ x. x.areas) told; left = rw number (ap (λ x. x.areas) told) }
 
 -- rows 1 to 3 of a call in a sound state
 pub sound-call : (v : View) (q : Request) → v.sound ≡ true → is_call q ≡ true → Behind v q NotOpen

@@ -1,22 +1,20 @@
 // The bytes of one page, which is a lent part of the pool, of the image or of a local array.
 // It promises what each function leaves in the part, byte for byte, and laws (proofs/) of parts and frames for any page length. A part is restored in
 // `part_restore`.
-// It stands on the shared words and on `interface` for the size of a page. Which page of several is meant is a plain number here: a frame's and an image page's
-// number are types of their own, and name the same part.
+// It stands on the shared words alone, and has a size of its own. Which page of several is meant is a plain number here: a frame's and an image page's number
+// are types of their own, and name the same part.
 #![tactic(auto)]
 
 ghost use Rattle.std.specs.Prelude.{◌≡◌, ◌+◌, ◌*◌, ◌≤◌, ◌<◌, length, get_or, set};
 ghost use Rattle.interface.specs.Numbers.{page_bytes};
 ghost use Rattle.pages.specs.Parts.{zeros, frame, same_bytes};
 
-use interface::PageNo;
-
 // "a page has 256 bytes"
 #[derive(Clone, Copy, Debug, PartialEq, Eq)]
 pub struct Page;
 
 impl Page {
-    pub const SIZE: usize = PageNo::BYTES;
+    pub const SIZE: usize = 256;
 }
 
 // The bytes of one of several pages in a row, where they stand.

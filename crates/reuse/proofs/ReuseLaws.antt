@@ -60,10 +60,10 @@ module _ (share used most : ℕ) (runs : Runs) (all : most ≡ sum (lengths_of r
 
 -- ---- a frame that is not held
 
-both-free : (named kept : Held) (f : ℕ) → f < 128 → held (both_held named kept) f ≡ 0 → (held named f ≡ 0) × (held kept f ≡ 0)
+pub both-free : (named kept : Held) (f : ℕ) → f < 128 → held (both_held named kept) f ≡ 0 → (held named f ≡ 0) × (held kept f ≡ 0)
 both-free named kept f l e = let m = held_both named kept f l in (omega (arith, m, e), omega (arith, m, e))
 
-free-both : (named kept : Held) (f : ℕ) → f < 128 → held named f ≡ 0 → held kept f ≡ 0 → held (both_held named kept) f ≡ 0
+pub free-both : (named kept : Held) (f : ℕ) → f < 128 → held named f ≡ 0 → held kept f ≡ 0 → held (both_held named kept) f ≡ 0
 free-both named kept f l a b = held_both named kept f l ∙ rw (a, b)
 
 -- one of the pool that neither marks
